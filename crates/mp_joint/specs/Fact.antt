@@ -1,0 +1,52 @@
+-- Named facts (MA-STRIPS, Brafman and Domshlak 2008) and the privacy rule of factored MA-PDDL.
+use Rattle.std.specs.Prelude.{ℕ, ◌==◌, Bool, true, false, ◌&&◌, ◌||◌, Option, Some, None, List, [], ◌∷◌, if◌then◌else◌}
+use Rattle.std.specs.List.{list_any}
+use Rattle.mp_joint.specs.declared.fact.NamedFact.{NamedFact}
+
+-- a text, as its bytes
+abbrev pub Text : Type 0
+Text = List ℕ
+
+abbrev pub same_text : Text → Text → Bool
+same_text [] [] = true
+same_text [] (b ∷ bs) = false
+same_text (a ∷ as') [] = false
+same_text (a ∷ as') (b ∷ bs) = (a == b) && same_text as' bs
+
+abbrev pub same_texts : List Text → List Text → Bool
+same_texts [] [] = true
+same_texts [] (y ∷ ys) = false
+same_texts (x ∷ xs) [] = false
+same_texts (x ∷ xs) (y ∷ ys) = same_text x y && same_texts xs ys
+
+abbrev pub same_owner : Option ℕ → Option ℕ → Bool
+same_owner None None = true
+same_owner None (Some b) = false
+same_owner (Some a) None = false
+same_owner (Some a) (Some b) = a == b
+
+-- facts are the same where owner, predicate and arguments are
+abbrev pub same_fact : NamedFact → NamedFact → Bool
+same_fact f g = same_owner f.owner g.owner && (same_text f.predicate g.predicate && same_texts f.args g.args)
+
+abbrev pub is_among : NamedFact → List NamedFact → Bool
+is_among f facts = list_any (λ g. same_fact f g) facts
+
+-- the names that a factor keeps to itself
+pub record Privates : Type 0 where
+  pub predicates : List Text
+  pub objects : List Text
+
+abbrev pub is_listed : Text → List Text → Bool
+is_listed name names = list_any (λ n. same_text name n) names
+
+-- The privacy rule: a fact belongs to its agent where its predicate or one of its arguments is private
+-- in the agent's factor, and to nobody otherwise.
+abbrev pub owner : ℕ → Privates → Text → List Text → Option ℕ
+owner agent privates predicate args =
+    if is_listed predicate privates.predicates || list_any (λ a. is_listed a privates.objects) args then Some agent else None
+
+-- the named fact of a predicate and arguments of an agent's factor
+abbrev pub named : ℕ → Privates → Text → List Text → NamedFact
+named agent privates predicate args =
+    record { owner = owner agent privates predicate args; predicate = predicate; args = args }

@@ -1,0 +1,3 @@
+pub mod Fact
+pub mod Instance
+pub mod Plan

@@ -1,0 +1,11 @@
+//! The united problem in names: agents, facts, steps and plans, and what it means that a plan solves
+//! (`specs/`). Nothing here is numbered and nothing is grounded.
+#![tactic(auto)]
+
+mod agent;
+mod fact;
+mod plan;
+
+pub use agent::Agent;
+pub use fact::NamedFact;
+pub use plan::{JointPlan, Names, PlanStep};

@@ -1,0 +1,4 @@
+pub mod Bytes
+pub mod Name
+pub mod Node
+pub mod Spelling
