@@ -1,23 +1,13 @@
 -- Named facts (MA-STRIPS, Brafman and Domshlak 2008) and the privacy rule of factored MA-PDDL.
-use Rattle.std.specs.Prelude.{ℕ, ◌==◌, Bool, true, false, ◌&&◌, ◌||◌, Option, Some, None, List, [], ◌∷◌, if◌then◌else◌}
+use Rattle.std.specs.Prelude.{ℕ, ◌==◌, Bool, true, false, ◌&&◌, ◌||◌, Option, Some, None, List, if◌then◌else◌}
+use Rattle.std.specs.Cmp.Lexicographic.{pointwise}
 use Rattle.std.specs.List.{list_any}
+use Rattle.std.specs.Str.{bytes_eq}
 use Rattle.mp_joint.specs.declared.fact.NamedFact.{NamedFact}
 
 -- a text, as its bytes
 abbrev pub Text : Type 0
 Text = List ℕ
-
-abbrev pub same_text : Text → Text → Bool
-same_text [] [] = true
-same_text [] (b ∷ bs) = false
-same_text (a ∷ as') [] = false
-same_text (a ∷ as') (b ∷ bs) = (a == b) && same_text as' bs
-
-abbrev pub same_texts : List Text → List Text → Bool
-same_texts [] [] = true
-same_texts [] (y ∷ ys) = false
-same_texts (x ∷ xs) [] = false
-same_texts (x ∷ xs) (y ∷ ys) = same_text x y && same_texts xs ys
 
 abbrev pub same_owner : Option ℕ → Option ℕ → Bool
 same_owner None None = true
@@ -27,7 +17,7 @@ same_owner (Some a) (Some b) = a == b
 
 -- facts are the same where owner, predicate and arguments are
 abbrev pub same_fact : NamedFact → NamedFact → Bool
-same_fact f g = same_owner f.owner g.owner && (same_text f.predicate g.predicate && same_texts f.args g.args)
+same_fact f g = same_owner f.owner g.owner && (bytes_eq f.predicate g.predicate && pointwise bytes_eq f.args g.args)
 
 abbrev pub is_among : NamedFact → List NamedFact → Bool
 is_among f facts = list_any (λ g. same_fact f g) facts
@@ -38,7 +28,7 @@ pub record Privates : Type 0 where
   pub objects : List Text
 
 abbrev pub is_listed : Text → List Text → Bool
-is_listed name names = list_any (λ n. same_text name n) names
+is_listed name names = list_any (λ n. bytes_eq name n) names
 
 -- The privacy rule: a fact belongs to its agent where its predicate or one of its arguments is private
 -- in the agent's factor, and to nobody otherwise.

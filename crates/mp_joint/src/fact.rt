@@ -1,7 +1,7 @@
 //! Facts by their names.
 
-use crate::agent::Agent;
 use mp_list::{Copied, OutOfMemory};
+use mp_sets::Agent;
 use mp_sexp::{Name, NameList};
 
 /// A ground fact of the united problem (MA-STRIPS). Facts of different owners are different, however they

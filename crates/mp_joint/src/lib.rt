@@ -2,10 +2,12 @@
 //! (`specs/`). Nothing here is numbered and nothing is grounded.
 #![tactic(auto)]
 
-mod agent;
 mod fact;
 mod plan;
 
-pub use agent::Agent;
 pub use fact::NamedFact;
+pub use mp_sets::Agent;
 pub use plan::{JointPlan, Names, PlanStep};
+
+#[cfg(test)]
+mod tests;

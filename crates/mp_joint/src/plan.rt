@@ -1,7 +1,7 @@
 //! Steps and plans by their names.
 
-use crate::agent::Agent;
 use mp_list::{Copied, List, OutOfMemory};
+use mp_sets::Agent;
 use mp_sexp::{Name, NameList};
 
 /// One action of one agent, with the objects that stand for its parameters.

@@ -106,3 +106,6 @@ impl Copied for u64 {
         Ok(*self)
     }
 }
+
+#[cfg(test)]
+mod tests;

@@ -1,9 +1,12 @@
 -- The bytes of a factor file's text, by their kinds, and how letters are folded.
-use Rattle.std.specs.Prelude.{ℕ, ◌≡◌, ◌+◌, ◌≤◌, ◌⊎◌, List, map, nat_le, ◌&&◌, if◌then◌else◌}
+use Rattle.std.specs.Prelude.{ℕ, ◌≡◌, ◌+◌, ◌≤◌, ◌⊎◌, List, map, nat_le, ◌&&◌, ◌||◌, ◌==◌, Bool, if◌then◌else◌}
 
 -- tab, line feed, carriage return and blank
 abbrev pub IsSpace : ℕ → Type 0
 IsSpace b = (b ≡ 9) ⊎ (b ≡ 10) ⊎ (b ≡ 13) ⊎ (b ≡ 32)
+
+abbrev pub is_space : ℕ → Bool
+is_space b = b == 9 || b == 10 || b == 13 || b == 32
 
 abbrev pub open_bracket : ℕ
 open_bracket = 40

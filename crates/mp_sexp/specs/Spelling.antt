@@ -1,16 +1,20 @@
 -- Which tree a text spells (the brackets, words and comments of PDDL). A word's or list's place is a
 -- function of the text before it, and a text is split as a whole: there is no stack and no position here.
-use Rattle.std.specs.Prelude.{ℕ, ◌≡◌, ◌+◌, ◌⊎◌, ◌==◌, List, [], ◌∷◌, ◌++◌, length, if◌then◌else◌}
+use Rattle.std.specs.Prelude.{ℕ, ◌≡◌, ◌≤◌, ◌+◌, ◌⊎◌, ◌==◌, List, [], ◌∷◌, ◌++◌, length, if◌then◌else◌}
 use Rattle.std.specs.Prelude.{All}
 use Rattle.mp_sexp.specs.declared.tree.Place.{Place}
 use Rattle.mp_sexp.specs.Bytes.{IsSpace, IsWordByte, folded, open_bracket, close_bracket, semicolon, line_feed}
-use Rattle.mp_sexp.specs.Node.{Node, Nodes, word, list, none, more}
+use Rattle.mp_sexp.specs.Node.{Node, Nodes, word, list, none, more, depth}
+
+-- the place after this byte, which stands at a place
+abbrev pub next_place : Place → ℕ → Place
+next_place at b =
+    if b == line_feed then record { line = at.line + 1; column = 1 } else record { line = at.line; column = at.column + 1 }
 
 -- the place after this text, when the text begins at a place
 abbrev pub place_from : Place → List ℕ → Place
 place_from at [] = at
-place_from at (b ∷ bs) =
-    place_from (if b == line_feed then record { line = at.line + 1; column = 1 } else record { line = at.line; column = at.column + 1 }) bs
+place_from at (b ∷ bs) = place_from (next_place at b) bs
 
 -- the place of the byte that stands after this beginning of a text
 abbrev pub place_after : List ℕ → Place
@@ -27,10 +31,16 @@ abbrev mutual
   IsComment [] = ⊥
   IsComment (b ∷ bs) = ((b ≡ line_feed) × IsGap bs) ⊎ ((b ≡ line_feed → ⊥) × IsComment bs)
 
--- what may stand after the text's list: a gap, whose last comment may run to the end of the text
-abbrev pub IsTail : List ℕ → Type 0
-IsTail text =
-    IsGap text ⊎ ((gap comment : List ℕ) × (text ≡ gap ++ semicolon ∷ comment) × IsGap gap × All (λ b. b ≡ line_feed → ⊥) comment)
+-- what may stand after the text's list: spaces and comments, of which the last may run to the end of the text
+abbrev mutual
+  pub IsTail : List ℕ → Type 0
+  IsTail [] = Unit {0}
+  IsTail (b ∷ bs) = (IsSpace b × IsTail bs) ⊎ ((b ≡ semicolon) × IsCommentTail bs)
+
+  -- the rest of a comment, and what may follow it
+  pub IsCommentTail : List ℕ → Type 0
+  IsCommentTail [] = Unit {0}
+  IsCommentTail (b ∷ bs) = ((b ≡ line_feed) × IsTail bs) ⊎ ((b ≡ line_feed → ⊥) × IsCommentTail bs)
 
 -- a word is a longest run of its bytes: what follows it begins with another byte
 abbrev pub EndsWord : Node → List ℕ → Type 0
@@ -59,3 +69,11 @@ abbrev pub SpellsText : List ℕ → Node → Type 0
 SpellsText text (word name place) = ⊥
 SpellsText text (list nodes place) =
     (gap body tail : List ℕ) × (text ≡ gap ++ body ++ tail) × IsGap gap × Spells gap body (list nodes place) × IsTail tail
+
+-- the deepest that brackets may stand in one another
+abbrev pub deepest : ℕ
+deepest = 100
+
+-- the tree of a text
+abbrev pub HasTree : List ℕ → Node → Type 0
+HasTree text node = SpellsText text node × (depth node ≤ deepest)

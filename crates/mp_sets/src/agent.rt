@@ -35,6 +35,13 @@ impl Agent {
         Some(Agent { number })
     }
 
+    /// The first agent.
+    pub fn first() -> Agent
+        ensures { result ≡ 1 }
+    {
+        Agent { number: 1 }
+    }
+
     /// Its number.
     pub fn number(self) -> u16
         ensures number { result ≡ self }

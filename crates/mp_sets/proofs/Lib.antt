@@ -1,0 +1,3 @@
+pub mod ListedLemmas
+pub mod NumbersLemmas
+pub mod SetLemmas

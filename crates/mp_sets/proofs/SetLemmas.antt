@@ -1,0 +1,157 @@
+-- Which numbers are members of `numbers_below`, and what sets made by it are equal to.
+use Rattle.std.proofs.Common.{◌≡◌, ℕ, zero, suc, ◌+◌, ◌<◌, Bool, true, false, cond, not, ◌&&◌, ◌||◌, ltb, eqb, List, [], ◌∷◌, ◌++◌, length, get_or, refl, sym, ap, ◌∙◌, ⊎_elim, arith}
+use Rattle.std.proofs.Math.ListN.{set as set_at, replicate}
+use Rattle.std.proofs.lemmas.List.{get_or-set_same, get_or-set_other, get_or-replicate, ext_get_or}
+use Rattle.std.proofs.lemmas.Bool.{cases_eq, cases_lt, le-ltb, lt-ltb, false≢true, false_from_ne_true}
+use Rattle.std.proofs.lemmas.Bool.Decides.{nat_tests}
+use Rattle.std.proofs.lemmas.Slice.Eq.{slice_eq-Decides}
+use Rattle.std.proofs.Math.Bool.{beq}
+use Rattle.std.specs.Bool.{Decides}
+use Rattle.std.specs.Cmp.Lexicographic.{pointwise}
+use Rattle.std.specs.Ordering.{nat_cmp}
+use Rattle.std.specs.Cmp.{nat_cmp_total, unsigned_tied}
+use Rattle.std.specs.FinSet as set
+use Rattle.mp_sets.specs.Numbers.{Numbers, SizedSet, AllBelow, numbers_below}
+
+-- one step of the recursion where the number passes, and where it does not
+added : (q n : ℕ) (t : ℕ → Bool) → t n ≡ true → (eqb q n || (ltb q n && t q)) ≡ (ltb q (n + 1) && t q)
+added q n t e = grind (arith, nat_tests)
+
+next : (q n : ℕ) (t : ℕ → Bool) → (ltb q (n + 1) && t q) ≡ (ltb q (suc n) && t q)
+next q n t = let e : n + 1 ≡ suc n = omega arith in ap (λ m. ltb q m && t q) e
+
+skipped : (q n : ℕ) (t : ℕ → Bool) → t n ≡ false → (ltb q n && t q) ≡ (ltb q (n + 1) && t q)
+skipped q n t e = grind (arith, nat_tests)
+
+pub none_below : (q : ℕ) (t : ℕ → Bool) → false ≡ (ltb q 0 && t q)
+none_below q t = grind (arith, nat_tests)
+
+pub contains-insert_nat : (s : Numbers) (k q : ℕ) → set.contains (set.insert s k) q ≡ (eqb q k || set.contains s q)
+contains-insert_nat s k q = set.contains-insert nat_cmp_total s k q ∙ ap (λ b. b || set.contains s q) (unsigned_tied q k)
+
+pub contains-remove_nat : (s : Numbers) (k q : ℕ) → set.contains (set.remove s k) q ≡ (not (eqb q k) && set.contains s q)
+contains-remove_nat s k q = set.contains-remove nat_cmp_total s k q ∙ ap (λ b. not b && set.contains s q) (unsigned_tied q k)
+
+pub contains-numbers_below : (n : ℕ) (t : ℕ → Bool) (q : ℕ) → set.contains (numbers_below n t) q ≡ (ltb q n && t q)
+unfolding numbers_below
+contains-numbers_below zero t q = set.contains-empty nat_cmp q ∙ none_below q t
+contains-numbers_below (suc n) t q =
+    elim (t n) as (λ b. t n ≡ b → set.contains (cond b (set.insert (numbers_below n t) n) (numbers_below n t)) q ≡ (ltb q (suc n) && t q)) [
+      | true ↦ λ e. contains-insert_nat _ n q ∙ ap (λ b. eqb q n || b) (contains-numbers_below n t q) ∙ added q n t e ∙ next q n t
+      | false ↦ λ e. contains-numbers_below n t q ∙ skipped q n t e ∙ next q n t
+    ] refl
+
+-- two sets with the same members are one
+pub same_numbers : (s t : Numbers) → ((q : ℕ) → set.contains s q ≡ set.contains t q) → s ≡ t
+same_numbers s t same = set.same_set nat_cmp_total set.nat_cmp-IsAntisymmetric s t same
+
+and_false : (b : Bool) → (b && false) ≡ false
+and_false true = refl
+and_false false = refl
+
+-- two tests that agree below the size
+pub numbers_below-same : (n : ℕ) (t u : ℕ → Bool) → ((k : ℕ) → k < n → t k ≡ u k) → numbers_below n t ≡ numbers_below n u
+numbers_below-same n t u same =
+    same_numbers _ _ (λ q. contains-numbers_below n t q ∙ both_tests q n (t q) (u q) (same q) ∙ sym (contains-numbers_below n u q))
+  where
+    both_tests : (q n : ℕ) (a b : Bool) → (q < n → a ≡ b) → (ltb q n && a) ≡ (ltb q n && b)
+    both_tests q n a b e = grind (arith, nat_tests)
+
+pub below_size : (n : ℕ) (t : ℕ → Bool) → AllBelow n (numbers_below n t)
+below_size n t q h = first_test q n (t q) (sym (contains-numbers_below n t q) ∙ h)
+  where
+    first_test : (q n : ℕ) (b : Bool) → (ltb q n && b) ≡ true → q < n
+    first_test q n b e = grind (arith, nat_tests)
+
+pub contains_at : (n : ℕ) (t : ℕ → Bool) (q : ℕ) → q < n → set.contains (numbers_below n t) q ≡ t q
+contains_at n t q h = contains-numbers_below n t q ∙ ap (λ b. b && t q) (lt-ltb q n h)
+
+-- what is written into a list of flags is what the set of them gets
+pub numbers_below-insert : (flags : List Bool) (n x : ℕ) → length flags ≡ n → x < n → numbers_below n (λ k. get_or (set_at flags x true) k false) ≡ set.insert (numbers_below n (λ k. get_or flags k false)) x
+numbers_below-insert flags n x long h = same_numbers _ _ (λ q. contains-numbers_below n _ q ∙ written q ∙ sym (contains-insert_nat _ x q ∙ ap (λ b. eqb q x || b) (contains-numbers_below n _ q)))
+  where
+    written : (q : ℕ) → (ltb q n && get_or (set_at flags x true) q false) ≡ (eqb q x || (ltb q n && get_or flags q false))
+    written q = ⊎_elim (λ e. rw (e, get_or-set_same flags x true false (omega arith)) (grind (arith, nat_tests))) (λ ne. rw (get_or-set_other flags x q true false ne) (grind (arith, nat_tests))) (cases_eq q x)
+
+pub numbers_below-remove : (flags : List Bool) (n x : ℕ) → length flags ≡ n → x < n → numbers_below n (λ k. get_or (set_at flags x false) k false) ≡ set.remove (numbers_below n (λ k. get_or flags k false)) x
+numbers_below-remove flags n x long h = same_numbers _ _ (λ q. contains-numbers_below n _ q ∙ written q ∙ sym (contains-remove_nat _ x q ∙ ap (λ b. not (eqb q x) && b) (contains-numbers_below n _ q)))
+  where
+    written : (q : ℕ) → (ltb q n && get_or (set_at flags x false) q false) ≡ (not (eqb q x) && (ltb q n && get_or flags q false))
+    written q = ⊎_elim (λ e. rw (e, get_or-set_same flags x false false (omega arith)) (grind (arith, nat_tests))) (λ ne. rw (get_or-set_other flags x q false false ne) (grind (arith, nat_tests))) (cases_eq q x)
+
+pub numbers_below-none : (n : ℕ) → numbers_below n (λ k. get_or (replicate n false) k false) ≡ set.empty
+numbers_below-none n = same_numbers _ _ (λ q. contains-numbers_below n _ q ∙ none q ∙ sym (set.contains-empty nat_cmp q))
+  where
+    none : (q : ℕ) → (ltb q n && get_or (replicate n false) q false) ≡ false
+    none q = ⊎_elim (λ h. ap (λ b. ltb q n && b) (get_or-replicate n q false false h) ∙ and_false (ltb q n)) (λ h. ap (λ b. b && get_or (replicate n false) q false) (le-ltb q n h)) (cases_lt q n)
+
+-- a number more to take out, or to put in
+pub difference-push : (s : Numbers) (ks : List ℕ) (k : ℕ) → set.remove (set.difference s (set.from_list ks)) k ≡ set.difference s (set.from_list (ks ++ k ∷ []))
+difference-push s ks k = same_numbers _ _ (λ q.
+    contains-remove_nat _ k q ∙ ap (λ b. not (eqb q k) && b) (set.contains-difference nat_cmp_total s _ q)
+    ∙ both (set.contains s q) (eqb q k) (set.contains (set.from_list ks) q)
+    ∙ sym (set.contains-difference nat_cmp_total s _ q ∙ ap (λ b. set.contains s q && not b) (ap (λ t. set.contains t q) (set.from_list_push nat_cmp_total set.nat_cmp-IsAntisymmetric ks k) ∙ contains-insert_nat _ k q)))
+  where
+    both : (a b c : Bool) → (not b && (a && not c)) ≡ (a && not (b || c))
+    both true true c = refl
+    both true false c = refl
+    both false true c = refl
+    both false false c = refl
+
+pub union-push : (s : Numbers) (ks : List ℕ) (k : ℕ) → set.insert (set.union s (set.from_list ks)) k ≡ set.union s (set.from_list (ks ++ k ∷ []))
+union-push s ks k = same_numbers _ _ (λ q.
+    contains-insert_nat _ k q ∙ ap (λ b. eqb q k || b) (set.contains-union nat_cmp_total s _ q)
+    ∙ both (set.contains s q) (eqb q k) (set.contains (set.from_list ks) q)
+    ∙ sym (set.contains-union nat_cmp_total s _ q ∙ ap (λ b. set.contains s q || b) (ap (λ t. set.contains t q) (set.from_list_push nat_cmp_total set.nat_cmp-IsAntisymmetric ks k) ∙ contains-insert_nat _ k q)))
+  where
+    both : (a b c : Bool) → (b || (a || c)) ≡ (a || (b || c))
+    both true true c = refl
+    both true false c = refl
+    both false true c = refl
+    both false false c = refl
+
+pub difference-none : (s : Numbers) → s ≡ set.difference s (set.from_list [])
+difference-none s = same_numbers _ _ (λ q. sym (set.contains-difference nat_cmp_total s _ q ∙ ap (λ b. set.contains s q && not b) (set.contains-empty nat_cmp q) ∙ and_true (set.contains s q)))
+  where
+    and_true : (b : Bool) → (b && true) ≡ b
+    and_true true = refl
+    and_true false = refl
+
+pub union-none : (s : Numbers) → s ≡ set.union s (set.from_list [])
+union-none s = same_numbers _ _ (λ q. sym (set.contains-union nat_cmp_total s _ q ∙ ap (λ b. set.contains s q || b) (set.contains-empty nat_cmp q) ∙ or_false (set.contains s q)))
+  where
+    or_false : (b : Bool) → (b || false) ≡ b
+    or_false true = refl
+    or_false false = refl
+
+-- one number that is in the one set and not in the other
+pub is_subset_not : (s t : Numbers) (q : ℕ) → set.contains s q ≡ true → set.contains t q ≡ false → set.is_subset s t ≡ false
+is_subset_not s t q here there = false_from_ne_true _ (λ e. false≢true (sym there ∙ set.is_subset-contains nat_cmp_total s t e q here))
+
+-- the set that a list of flags stands for
+abbrev pub sized : ℕ → List Bool → SizedSet
+sized n flags = record { size = n; members = numbers_below n (λ k. get_or flags k false) }
+
+pub sized-same : (m n : ℕ) (fs gs : List Bool) → m ≡ n → fs ≡ gs → sized m fs ≡ sized n gs
+sized-same m n fs gs e f = λ i. sized (e i) (f i)
+
+-- lists of flags that stand for the same set
+pub same_flags : (m n : ℕ) (fs gs : List Bool) → length fs ≡ m → length gs ≡ n → sized m fs ≡ sized n gs → fs ≡ gs
+same_flags m n fs gs f_long g_long same =
+    let sizes : m ≡ n = ap (λ s. s.size) same in
+    ext_get_or false fs gs (f_long ∙ sizes ∙ sym g_long) (λ k h.
+    let left : k < m = omega arith in
+    let right : k < n = omega arith in
+    sym (contains_at m _ k left) ∙ ap (λ s. set.contains s.members k) same ∙ contains_at n _ k right)
+
+-- the test of two lists of flags, by what they stand for
+pub Decides-flags : (m n : ℕ) (fs gs : List Bool) (s t : SizedSet) (r : Bool) → length fs ≡ m → length gs ≡ n → m ≡ n → sized m fs ≡ s → sized n gs ≡ t → r ≡ pointwise beq fs gs → Decides r (s ≡ t)
+Decides-flags m n fs gs s t r f_long g_long sizes left right e =
+    let flags = slice_eq-Decides Decides-beq fs gs r e in
+    (λ yes. sym left ∙ sized-same m n fs gs sizes (flags.0 yes) ∙ right, λ same. flags.1 (same_flags m n fs gs f_long g_long (left ∙ same ∙ sym right)))
+  where
+    Decides-beq : (a b : Bool) → Decides (beq a b) (a ≡ b)
+    Decides-beq true true = (λ e. refl, λ e. refl)
+    Decides-beq true false = (λ e. absurd (false≢true e), λ e. sym e)
+    Decides-beq false true = (λ e. absurd (false≢true e), λ e. e)
+    Decides-beq false false = (λ e. refl, λ e. refl)

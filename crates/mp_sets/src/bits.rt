@@ -1,0 +1,167 @@
+//! Sets of numbers below a size.
+
+ghost use Rattle.std.specs.Prelude.{◌≡◌, ◌<◌, ◌↔◌, All, IsTrue, IfOk};
+ghost use Rattle.std.specs.FinSet as set;
+ghost use Rattle.mp_sets.specs.Numbers.{AllBelow, holds, after, listed};
+
+use crate::fact_list::FactList;
+use mp_list::{Copied, OutOfMemory};
+use std::alloc::Global;
+use std::marker::Model;
+
+/// A set of numbers below a size, which stays as it was made. Contracts see it as the size and the set.
+#[derive(Drop)]
+pub struct Bits {
+    size: u32,
+    /// Whether each number below the size is a member.
+    flags: Vec<bool>,
+}
+
+impl Model for Bits {
+    ghost use Rattle.std.specs.Prelude.{◌≡◌, false, length, slice_index_or};
+    ghost use Rattle.mp_sets.specs.Numbers.{SizedSet, sized_set_code, numbers_below};
+
+    ghost Value = { SizedSet };
+
+    ghost coded = { sized_set_code };
+
+    ghost view = { λ b. record {
+      size = b.size;
+      members = numbers_below b.size (λ x. slice_index_or b.flags.items x false);
+    } };
+
+    ghost invariant = { λ b. length b.flags.items ≡ b.size };
+}
+
+impl Bits {
+    /// The empty set of numbers below a size.
+    pub fn new(alloc: Global, size: u32) -> Result<Bits, OutOfMemory>
+        ensures { IfOk result (λ made. made ≡ record { size = size; members = set.empty }) }
+    {
+        Ok(Bits {
+            size,
+            flags: vec![in alloc; false; size as usize]?,
+        })
+    }
+
+    /// The size: all members are below it.
+    pub fn size(&self) -> u32
+        ensures size { result ≡ self.now.size }
+        ensures below { AllBelow self.now.size self.now.members }
+    {
+        self.size
+    }
+
+    /// Makes a number a member, if it is none yet.
+    pub fn insert(&mut self, x: u32)
+        requires { x < self.old.size }
+        ensures { self.new ≡ record self.old { members = set.insert self.old.members x } }
+    {
+        self.flags[x as usize] = true;
+    }
+
+    /// Takes a number out, if it is a member.
+    pub fn remove(&mut self, x: u32)
+        requires { x < self.old.size }
+        ensures { self.new ≡ record self.old { members = set.remove self.old.members x } }
+    {
+        self.flags[x as usize] = false;
+    }
+
+    /// Whether a number is a member.
+    pub fn contains(&self, x: u32) -> bool
+        requires { x < self.now.size }
+        ensures { result ≡ set.contains self.now.members x }
+    {
+        self.flags[x as usize]
+    }
+
+    /// Whether all numbers of a list are members.
+    pub fn holds(&self, list: &FactList) -> bool
+        requires { All (λ x. x < self.now.size) list.now }
+        ensures { result ≡ holds self.now.members list.now }
+    {
+        for x in list.as_slice() {
+            if !self.contains(*x) {
+                return false;
+            }
+        }
+        true
+    }
+
+    /// Takes the deletes out and then makes the adds members, so that a number in both is a member.
+    pub fn apply(&mut self, del: &FactList, add: &FactList)
+        requires deletes { All (λ x. x < self.old.size) del.now }
+        requires adds { All (λ x. x < self.old.size) add.now }
+        ensures { self.new ≡ record self.old { members = after self.old.members del.now add.now } }
+    {
+        self.remove_all(del);
+        self.insert_all(add);
+    }
+
+    fn remove_all(&mut self, list: &FactList)
+        requires { All (λ x. x < self.old.size) list.now }
+        ensures { self.new
+            ≡ record self.old { members = set.difference self.old.members (set.from_list list.now) } }
+    {
+        for x in list.as_slice() {
+            self.remove(*x);
+        }
+    }
+
+    fn insert_all(&mut self, list: &FactList)
+        requires { All (λ x. x < self.old.size) list.now }
+        ensures { self.new
+            ≡ record self.old { members = set.union self.old.members (set.from_list list.now) } }
+    {
+        for x in list.as_slice() {
+            self.insert(*x);
+        }
+    }
+
+    /// Whether all members are members of the other set, which has the same size.
+    pub fn is_subset(&self, other: &Bits) -> bool
+        requires { self.now.size ≡ other.now.size }
+        ensures { result ≡ set.is_subset self.now.members other.now.members }
+    {
+        for x in 0..self.size() {
+            if self.contains(x) && !other.contains(x) {
+                return false;
+            }
+        }
+        true
+    }
+
+    /// Whether the other set, which has the same size, has the same members.
+    pub fn equal(&self, other: &Bits) -> bool
+        requires { self.now.size ≡ other.now.size }
+        ensures { IsTrue result ↔ (self.now ≡ other.now) }
+    {
+        self.flags.as_slice() == other.flags.as_slice()
+    }
+
+    /// The members, least one first.
+    pub fn list(&self) -> Result<FactList, OutOfMemory>
+        ensures members { IfOk result (λ list. list ≡ listed self.now) }
+        ensures set { IfOk result (λ list. set.from_list list ≡ self.now.members) }
+        ensures below { IfOk result (λ list. All (λ x. x < self.now.size) list) }
+    {
+        let mut list = FactList::new(*self.flags.allocator());
+        for number in 0..self.size() {
+            if self.contains(number) {
+                list.push(number)?;
+            }
+        }
+        Ok(list)
+    }
+}
+
+impl Copied for Bits {
+    fn copy(&self) -> Result<Bits, OutOfMemory> {
+        let alloc = *self.flags.allocator();
+        Ok(Bits {
+            size: self.size,
+            flags: Vec::from_slice(alloc, self.flags.as_slice())?,
+        })
+    }
+}

@@ -1,0 +1,15 @@
+//! Agents, tags, lists of numbers that rise, and sets of numbers below a size.
+#![tactic(auto)]
+
+mod agent;
+mod bits;
+mod fact_list;
+mod tag;
+
+pub use agent::Agent;
+pub use bits::Bits;
+pub use fact_list::FactList;
+pub use tag::{Tag, Tags};
+
+#[cfg(test)]
+mod tests;

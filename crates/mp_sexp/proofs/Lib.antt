@@ -1,0 +1,11 @@
+pub mod Trees
+pub mod Runs
+pub mod KindLemmas
+pub mod Placed
+pub mod Complete
+pub mod Atoms
+pub mod Sound
+pub mod Depth
+pub mod FaultCounts
+pub mod Faults
+pub mod ReadLaws

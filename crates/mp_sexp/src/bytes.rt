@@ -1,0 +1,60 @@
+//! Bytes of a text by their kinds, and letters folded.
+
+ghost use Rattle.std.specs.Prelude.{◌≡◌, ◌↔◌, IsTrue};
+ghost use Rattle.mp_sexp.specs.Bytes.{folded_byte, is_space as space_of};
+ghost use Rattle.mp_sexp.specs.Kinds.{kind_of};
+ghost use Rattle.mp_sexp.specs.Name.{IsCapital};
+
+/// What a byte is in a text, outside a comment.
+#[derive(Clone, Copy)]
+pub enum Kind {
+    /// Tab, line feed, carriage return or blank.
+    Space,
+    /// The semicolon, with which a comment begins.
+    Comment,
+    Open,
+    Close,
+    /// A byte of a word.
+    Word,
+    /// Anything else.
+    Foreign,
+}
+
+/// Whether a byte stands between words.
+pub fn is_space(byte: u8) -> bool
+    ensures { result ≡ space_of byte }
+{
+    byte == 9 || byte == b'\n' || byte == b'\r' || byte == b' '
+}
+
+/// The kind of a byte.
+#[tactic(auto, unfolding(crate::specs::Kinds::kind_of))]
+pub fn kind_of_byte(byte: u8) -> Kind
+    ensures { result ≡ kind_of byte }
+{
+    if byte == b'(' {
+        Kind::Open
+    } else if byte == b')' {
+        Kind::Close
+    } else if byte == b';' {
+        Kind::Comment
+    } else if is_space(byte) {
+        Kind::Space
+    } else if 33 <= byte && byte <= 126 {
+        Kind::Word
+    } else {
+        Kind::Foreign
+    }
+}
+
+/// A to Z become a to z.
+pub fn fold(byte: u8) -> u8
+    ensures value { result ≡ folded_byte byte }
+    ensures small { ¬ IsCapital result }
+{
+    if 65 <= byte && byte <= 90 {
+        byte + 32
+    } else {
+        byte
+    }
+}
