@@ -1,0 +1,9 @@
+pub mod Agree
+pub mod AgentTask
+pub mod Heuristic
+pub mod Limits
+pub mod Plan
+pub mod Projected
+pub mod Public
+pub mod Strips
+pub mod TaskFields

@@ -1,0 +1,67 @@
+//! Actions of a task by the numbers of their facts.
+
+use mp_list::{Copied, List, OutOfMemory};
+use mp_sets::FactList;
+
+/// An own action: a ground action of STRIPS whose facts are public or private to the agent.
+#[derive(Drop)]
+pub struct Act {
+    /// The public preconditions; the action may be applied where these and the private ones are true.
+    pub pre_pub: FactList,
+    /// The private preconditions.
+    pub pre_priv: FactList,
+    /// The public facts that it makes true.
+    pub add_pub: FactList,
+    /// The private facts that it makes true.
+    pub add_priv: FactList,
+    /// The public facts that it makes false, if it doesn't make them true too.
+    pub del_pub: FactList,
+    /// The private facts that it makes false, if it doesn't make them true too.
+    pub del_priv: FactList,
+    /// What it costs.
+    pub cost: u64,
+}
+
+/// Own actions by their numbers.
+pub type ActList = List<Act>;
+
+/// What the team sees of another agent's public action: its public facts and its cost.
+#[derive(Drop)]
+pub struct Far {
+    /// The public preconditions.
+    pub pre: FactList,
+    /// The public facts that it makes true.
+    pub add: FactList,
+    /// The public facts that it makes false, without those that it makes true.
+    pub del: FactList,
+    /// What the action costs.
+    pub cost: u64,
+}
+
+/// Parts of other agents' actions.
+pub type FarList = List<Far>;
+
+impl Copied for Act {
+    fn copy(&self) -> Result<Act, OutOfMemory> {
+        Ok(Act {
+            pre_pub: self.pre_pub.copy()?,
+            pre_priv: self.pre_priv.copy()?,
+            add_pub: self.add_pub.copy()?,
+            add_priv: self.add_priv.copy()?,
+            del_pub: self.del_pub.copy()?,
+            del_priv: self.del_priv.copy()?,
+            cost: self.cost,
+        })
+    }
+}
+
+impl Copied for Far {
+    fn copy(&self) -> Result<Far, OutOfMemory> {
+        Ok(Far {
+            pre: self.pre.copy()?,
+            add: self.add.copy()?,
+            del: self.del.copy()?,
+            cost: self.cost,
+        })
+    }
+}
