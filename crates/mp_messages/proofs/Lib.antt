@@ -1,0 +1,7 @@
+pub mod Rising
+pub mod Loops
+pub mod Taking
+pub mod Fields
+pub mod States
+pub mod Messages
+pub mod Histories

@@ -1,0 +1,40 @@
+//! Laws of messages and of histories. Each holds for every message, every team and every log.
+
+ghost use Rattle.std.specs.Prelude.{◌≡◌, ℕ, ◌<◌, ◌^◌, ◌∷◌, ◌++◌, ◌↔◌, [], List, length, take};
+ghost use Rattle.mp_messages.specs.declared.history.Entry.{Entry};
+ghost use Rattle.mp_messages.specs.declared.message.Message.{Message};
+ghost use Rattle.mp_messages.specs.History.{IsHistory, MayFollow, received, sent};
+ghost use Rattle.mp_messages.specs.Spelling.{IsSpelling};
+
+/// A message has one spelling, and bytes spell at most one message of a team.
+pub fn spelling_is_one_to_one()
+    ensures bytes { (agents publics : ℕ) (m : Message) (a b : List ℕ)
+        → IsSpelling agents publics m a → IsSpelling agents publics m b → a ≡ b }
+    ensures message { (agents publics : ℕ) (m n : Message) (bytes : List ℕ) → publics < 2 ^ 32
+        → IsSpelling agents publics m bytes → IsSpelling agents publics n bytes → m ≡ n }
+{}
+
+/// No spelling in a team begins another one: where one follows it with more bytes, these are none.
+pub fn no_spelling_begins_another()
+    ensures { (agents publics : ℕ) (m n : Message) (bytes rest : List ℕ) → publics < 2 ^ 32
+        → IsSpelling agents publics m bytes → IsSpelling agents publics n (bytes ++ rest) → rest ≡ [] }
+{}
+
+/// The empty log is a legal history, and a log with one more entry is one exactly where the log is one and
+/// the entry may follow it.
+pub fn histories_grow_by_entries()
+    ensures empty { IsHistory [] }
+    ensures grows { (log : List Entry) (e : Entry) → IsHistory (log ++ e ∷ []) ↔ (IsHistory log × MayFollow log e) }
+{}
+
+/// What begins a legal history is one.
+pub fn fronts_of_histories_are_legal()
+    ensures { (log more : List Entry) → IsHistory (log ++ more) → IsHistory log }
+{}
+
+/// In a legal history what an agent took from another is the first part of what that one put for it, in the
+/// same order.
+pub fn messages_come_in_order()
+    ensures { (log : List Entry) (from to : ℕ) → IsHistory log
+        → received from to log ≡ take (length (received from to log)) (sent from to log) }
+{}

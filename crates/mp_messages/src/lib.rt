@@ -1,0 +1,20 @@
+//! What agents send each other, as values and as bytes, and the log of what each agent did.
+#![tactic(auto)]
+
+mod decoding;
+mod encoding;
+mod history;
+mod laws;
+mod message;
+
+pub use decoding::{DecodeRefusal, decode};
+pub use encoding::encode;
+pub use history::{Bytes, Entry, Event, EventList, Kind, Log, Views};
+pub use laws::{
+    fronts_of_histories_are_legal, histories_grow_by_entries, messages_come_in_order,
+    no_spelling_begins_another, spelling_is_one_to_one,
+};
+pub use message::{EndKind, Findings, Message, State};
+
+#[cfg(test)]
+mod tests;

@@ -1,0 +1,182 @@
+-- Places of sets in lists.
+use Rattle.std.proofs.Common.{◌≡◌, ℕ, zero, suc, ◌+◌, ◌<◌, ◌≤◌, Bool, true, false, cond, eqb, ltb, ◌&&◌, not, List, [], ◌∷◌, ◌++◌, length, get_or, All, refl, sym, ap, subst, ◌∙◌, arith, inl, inr}
+use Rattle.std.specs.List.{position_or_len}
+use Rattle.std.specs.Cmp.{nat_cmp_total}
+use Rattle.std.specs.FinSet as set
+use Rattle.std.proofs.lemmas.Bool.{eqb-true, cases_lt, lt-ltb, le-ltb, false≢true, false_from_ne_true}
+use Rattle.std.proofs.lemmas.Bool.Decides.{nat_tests}
+use Rattle.std.proofs.Math.ListN.{get_or-map}
+use Rattle.std.proofs.Math.Seq.{get_or-append_seam}
+use Rattle.std.proofs.lemmas.List.{length-map, length-append, map-append, get_or_append_left, get_or_read}
+use Rattle.std.proofs.lemmas.List.Sums.{position_or_len_is, fails_before_first, passes_at_first, prefix_len-le-length}
+use Rattle.mp_sets.specs.Numbers.{Numbers, SizedSet}
+use Rattle.mp_tokens.specs.Order.{same, place, with_set, AreDifferent}
+use Rattle.mp_tokens.specs.TokenFields.{members_of, sets_at}
+
+-- ---- the test of two sets
+
+both_true : (a b : Bool) → (a && b) ≡ true → (a ≡ true) × (b ≡ true)
+both_true true true e = (refl, refl)
+both_true true false e = absurd cc
+both_true false b e = absurd cc
+
+equal_tests : (a b : Bool) → (a ≡ true → b ≡ true) → (b ≡ true → a ≡ true) → a ≡ b
+equal_tests true true f g = refl
+equal_tests true false f g = sym (f refl)
+equal_tests false true f g = g refl
+equal_tests false false f g = refl
+
+pub same_is : (s t : Numbers) → same s t ≡ true → s ≡ t
+same_is s t e =
+    let both = both_true (set.is_subset s t) (set.is_subset t s) e in
+    set.same_set nat_cmp_total set.nat_cmp-IsAntisymmetric s t (λ q. equal_tests (set.contains s q) (set.contains t q) (set.is_subset-contains nat_cmp_total s t both.0 q) (set.is_subset-contains nat_cmp_total t s both.1 q))
+
+pub same_itself : (s : Numbers) → same s s ≡ true
+same_itself s =
+    let e : set.is_subset s s ≡ true = set.contains-is_subset nat_cmp_total s s (λ q h. h) in
+    rw e refl
+
+pub same_not : (s t : Numbers) → (s ≡ t → ⊥) → same s t ≡ false
+same_not s t ne = false_from_ne_true (same s t) (λ e. ne (same_is s t e))
+
+-- ---- the place of a set
+
+abbrev nowhere : SizedSet
+nowhere = record { size = 0; members = set.empty }
+
+pub place_is : (sets : List SizedSet) (s : Numbers) (i : ℕ) → i ≤ length sets → ((k : ℕ) (d : SizedSet) → k < i → same s (get_or sets k d).members ≡ false) → ((d : SizedSet) → i < length sets → same s (get_or sets i d).members ≡ true) → place (members_of sets) s ≡ i
+unfolding place
+place_is sets s i le before here =
+    let len : length (members_of sets) ≡ length sets = length-map sets (λ (x : SizedSet). x.members) in
+    let at : (k : ℕ) → get_or (members_of sets) k set.empty ≡ (get_or sets k nowhere).members = λ k. get_or-map (λ (x : SizedSet). x.members) sets k nowhere in
+    position_or_len_is (same s) (members_of sets) i set.empty (omega arith)
+    (λ k h. ap (same s) (at k) ∙ before k nowhere h)
+    (λ h. ap (same s) (at i) ∙ here nowhere (omega arith))
+
+pub place_within : (sets : List Numbers) (s : Numbers) → place sets s ≤ length sets
+unfolding place
+place_within sets s = prefix_len-le-length (λ t. not (same s t)) sets
+
+-- the first one that is the set
+pub place_of_first : (sets : List Numbers) (s : Numbers) (i : ℕ) → i < length sets → ((k : ℕ) → k < i → get_or sets k set.empty ≡ s → ⊥) → get_or sets i set.empty ≡ s → place sets s ≡ i
+unfolding place
+place_of_first sets s i lt before here =
+    position_or_len_is (same s) sets i set.empty (omega arith)
+    (λ k h. same_not s (get_or sets k set.empty) (λ e. before k h (sym e)))
+    (λ h. ap (same s) here ∙ same_itself s)
+
+-- none is the set
+pub place_of_none : (sets : List Numbers) (s : Numbers) → ((k : ℕ) → k < length sets → get_or sets k set.empty ≡ s → ⊥) → place sets s ≡ length sets
+unfolding place
+place_of_none sets s none =
+    position_or_len_is (same s) sets (length sets) set.empty (omega arith)
+    (λ k h. same_not s (get_or sets k set.empty) (λ e. none k h (sym e)))
+    (λ h. absurd (omega arith))
+
+pub at_place : (sets : List Numbers) (s : Numbers) → place sets s < length sets → get_or sets (place sets s) set.empty ≡ s
+unfolding place
+at_place sets s lt = sym (same_is s _ (passes_at_first (same s) sets set.empty lt))
+
+pub not_before : (sets : List Numbers) (s : Numbers) (k : ℕ) → k < place sets s → get_or sets k set.empty ≡ s → ⊥
+unfolding place
+not_before sets s k lt e =
+    let fails : same s (get_or sets k set.empty) ≡ false = fails_before_first (same s) sets k set.empty lt in
+    false≢true (sym fails ∙ ap (same s) e ∙ same_itself s)
+
+-- ---- a list with one set more
+
+pub with_old : (sets : List Numbers) (s : Numbers) → place sets s < length sets → with_set sets s ≡ sets
+with_old sets s lt =
+    let e : ltb (place sets s) (length sets) ≡ true = lt-ltb _ _ lt in
+    ap (λ (b : Bool). cond b sets (sets ++ s ∷ [])) e
+
+pub with_new : (sets : List Numbers) (s : Numbers) → place sets s ≡ length sets → with_set sets s ≡ sets ++ s ∷ []
+with_new sets s is =
+    let e : ltb (place sets s) (length sets) ≡ false = le-ltb _ _ (omega arith) in
+    ap (λ (b : Bool). cond b sets (sets ++ s ∷ [])) e
+
+pub place_of_new : (sets : List Numbers) (s : Numbers) → place sets s ≡ length sets → place (sets ++ s ∷ []) s ≡ length sets
+place_of_new sets s is =
+    place_of_first (sets ++ s ∷ []) s (length sets) (omega (arith, length-append sets (s ∷ [])))
+    (λ k h e. not_before sets s k (omega arith) (sym (get_or_append_left sets (s ∷ []) set.empty k h) ∙ e))
+    (get_or-append_seam sets s [] set.empty)
+
+pub different_with_new : (sets : List Numbers) (s : Numbers) → AreDifferent sets → place sets s ≡ length sets → AreDifferent (sets ++ s ∷ [])
+different_with_new sets s different is i j i_in j_in e =
+    let len : length (sets ++ s ∷ []) ≡ length sets + 1 = length-append sets (s ∷ []) in
+    let old : (k : ℕ) → k < length sets → get_or (sets ++ s ∷ []) k set.empty ≡ get_or sets k set.empty = λ k h. get_or_append_left sets (s ∷ []) set.empty k h in
+    let last : get_or (sets ++ s ∷ []) (length sets) set.empty ≡ s = get_or-append_seam sets s [] set.empty in
+    let at_last : (k : ℕ) → length sets ≤ k → k < length (sets ++ s ∷ []) → k ≡ length sets = λ k h g. omega arith in
+    elim (cases_lt i (length sets)) [
+      | inl i_old ↦
+          elim (cases_lt j (length sets)) [
+            | inl j_old ↦ different i j i_old j_old (sym (old i i_old) ∙ e ∙ old j j_old)
+            | inr j_new ↦ absurd (not_before sets s i (omega arith) (sym (old i i_old) ∙ e ∙ ap (λ (k : ℕ). get_or (sets ++ s ∷ []) k set.empty) (at_last j j_new j_in) ∙ last))
+          ]
+      | inr i_new ↦
+          elim (cases_lt j (length sets)) [
+            | inl j_old ↦ absurd (not_before sets s j (omega arith) (sym (old j j_old) ∙ sym e ∙ ap (λ (k : ℕ). get_or (sets ++ s ∷ []) k set.empty) (at_last i i_new i_in) ∙ last))
+            | inr j_new ↦ at_last i i_new i_in ∙ sym (at_last j j_new j_in)
+          ]
+    ]
+
+-- ---- sets by their places
+
+pub members_push : (sets : List SizedSet) (s : SizedSet) → members_of (sets ++ s ∷ []) ≡ members_of sets ++ s.members ∷ []
+members_push sets s = map-append (λ (x : SizedSet). x.members) sets (s ∷ [])
+
+pub sets_at_push : (sets : List Numbers) (order : List ℕ) (i : ℕ) → sets_at sets (order ++ i ∷ []) ≡ sets_at sets order ++ get_or sets i set.empty ∷ []
+sets_at_push sets order i = map-append (λ (k : ℕ). get_or sets k set.empty) order (i ∷ [])
+
+-- a set more at the end changes none at the places before it
+pub sets_at_more : (sets : List Numbers) (s : Numbers) (order : List ℕ) → All (λ i. i < length sets) order → sets_at (sets ++ s ∷ []) order ≡ sets_at sets order
+sets_at_more sets s [] within = refl
+sets_at_more sets s (i ∷ order) within =
+    let first : get_or (sets ++ s ∷ []) i set.empty ≡ get_or sets i set.empty = get_or_append_left sets (s ∷ []) set.empty i (within 0 i (omega arith)) in
+    let others = sets_at_more sets s order (λ k d h. within (suc k) d (omega arith)) in
+    λ j. first j ∷ others j
+
+-- the place of a set among those at some places is the place of its own place
+pub place_by_index : (sets : List Numbers) (order : List ℕ) (index : ℕ) → AreDifferent sets → index < length sets → All (λ i. i < length sets) order → place (sets_at sets order) (get_or sets index set.empty) ≡ position_or_len (λ n. eqb n index) order
+unfolding place
+place_by_index sets order index different inside within =
+    let s = get_or sets index set.empty in
+    let i = position_or_len (λ n. eqb n index) order in
+    let le : i ≤ length order = prefix_len-le-length (λ n. not (eqb n index)) order in
+    let len : length (sets_at sets order) ≡ length order = length-map order (λ (k : ℕ). get_or sets k set.empty) in
+    let at : (k : ℕ) → k < length order → get_or (sets_at sets order) k set.empty ≡ get_or sets (get_or order k index) set.empty = λ k h. map_at sets order k index h in
+    position_or_len_is (same s) (sets_at sets order) i set.empty (omega arith)
+    (λ k h.
+    let fails : eqb (get_or order k index) index ≡ false = fails_before_first (λ n. eqb n index) order k index h in
+    let other : get_or order k index < length sets = within k index (omega arith) in
+    ap (same s) (at k (omega arith)) ∙ same_not s _ (λ e. false≢true (sym fails ∙ eqb_of (get_or order k index) index (sym (different index (get_or order k index) inside other e)))))
+    (λ h.
+    let there : i < length order = omega arith in
+    let found : get_or order i index ≡ index = eqb-true _ _ (passes_at_first (λ n. eqb n index) order index there) in
+    ap (same s) (at i there ∙ ap (λ (k : ℕ). get_or sets k set.empty) found) ∙ same_itself s)
+  where
+    map_at : (sets : List Numbers) (order : List ℕ) (k d : ℕ) → k < length order → get_or (sets_at sets order) k set.empty ≡ get_or sets (get_or order k d) set.empty
+    map_at sets [] k d h = absurd (omega arith)
+    map_at sets (o ∷ order) zero d h = refl
+    map_at sets (o ∷ order) (suc k) d h = map_at sets order k d (omega arith)
+
+    eqb_of : (a b : ℕ) → a ≡ b → eqb a b ≡ true
+    eqb_of a b e = grind (arith, nat_tests)
+
+-- ---- one step of a search
+
+pub found_here : (sets : List SizedSet) (s x : SizedSet) (i : ℕ) → i < length sets → x ≡ get_or sets i x → x ≡ s → ((k : ℕ) (d : SizedSet) → k < i → same s.members (get_or sets k d).members ≡ false) → i ≡ place (members_of sets) s.members
+found_here sets s x i lt is e before =
+    sym (place_is sets s.members i (omega arith) before (λ d h. ap (λ (y : SizedSet). same s.members y.members) (sym (get_or_read sets i x lt is d) ∙ e) ∙ same_itself s.members))
+
+pub missed_here : (sets : List SizedSet) (s x : SizedSet) (i : ℕ) → i < length sets → x ≡ get_or sets i x → All (λ t. t.size ≡ s.size) sets → (x ≡ s → ⊥) → ((k : ℕ) (d : SizedSet) → k < i → same s.members (get_or sets k d).members ≡ false) → (k : ℕ) (d : SizedSet) → k < i + 1 → same s.members (get_or sets k d).members ≡ false
+missed_here sets s x i lt is sizes ne before k d h =
+    elim (cases_lt k i) [
+      | inl old ↦ before k d old
+      | inr new ↦
+          let last : i ≡ k = omega arith in
+          let size : x.size ≡ s.size = ap (λ (y : SizedSet). y.size) (get_or_read sets i x lt is x) ∙ sizes i x lt in
+          let members : s.members ≡ x.members → x ≡ s = λ e j. record { size = size j; members = sym e j } in
+          let here : same s.members x.members ≡ false = same_not s.members x.members (λ e. ne (members e)) in
+          subst (λ (j : ℕ). same s.members (get_or sets j d).members ≡ false) last (ap (λ (y : SizedSet). same s.members y.members) (sym (get_or_read sets i x lt is d)) ∙ here)
+    ]

@@ -1,0 +1,11 @@
+//! The numbers that stand for private sets in messages.
+#![tactic(auto)]
+
+mod laws;
+mod tokens;
+
+pub use laws::{orders_grow_by_uses, tokens_are_one_to_one, tokens_count_first_uses, tokens_stay};
+pub use tokens::Tokens;
+
+#[cfg(test)]
+mod tests;

@@ -1,0 +1,134 @@
+//! A table of private sets and of the tokens that stand for them.
+
+ghost use Rattle.std.specs.Prelude.{◌≡◌, ◌<◌, ◌≤◌, ◌∷◌, [], ◌↔◌, All, IfOk, OnErr, IsNone, IfSome, length};
+ghost use Rattle.std.specs.List.{position_or_len};
+ghost use Rattle.std.specs.Prelude.{◌==◌};
+ghost use Rattle.mp_tokens.specs.Order.{set_at, place, with_set, AreDifferent};
+ghost use Rattle.mp_tokens.specs.TokenFields.{members_of};
+
+use mp_list::OutOfMemory;
+use mp_sets::Bits;
+use std::alloc::Global;
+use std::marker::Model;
+
+/// The private sets that an agent met, and the tokens of those that it used in messages. Contracts see it
+/// as the different sets in the order in which they were met, and the used ones in the order of their first
+/// use. A set's index is its place among the former, its token its place among the latter. The initial set
+/// has index 0 and token 0.
+#[derive(Drop)]
+pub struct Tokens {
+    size: u32,
+    sets: Vec<Bits>,
+    /// By token, the index of the set.
+    order: Vec<u64>,
+}
+
+impl Model for Tokens {
+    ghost use Rattle.mp_tokens.specs.Table.{TokenTable, token_table_code};
+
+    ghost Value = { TokenTable };
+
+    ghost coded = { token_table_code };
+
+    ghost use Rattle.mp_tokens.specs.TokenFields.{token_table, IsTable};
+
+    ghost view = { token_table };
+
+    ghost invariant = { IsTable };
+}
+
+/// The place of a set in a slice of sets of its size, or the slice's length where it is not there.
+fn place_of(sets: &[Bits], set: &Bits) -> usize
+    requires { All (λ s. s.size ≡ set.now.size) sets.now }
+    ensures { result ≡ place (members_of sets.now) set.now.members }
+{
+    for (index, known) in sets.iter().enumerate() {
+        if known.equal(set) {
+            return index;
+        }
+    }
+    sets.len()
+}
+
+/// The place of a number in a slice, or the slice's length where it is not there.
+fn place_of_number(numbers: &[u64], number: u64) -> usize
+    ensures { result ≡ position_or_len (λ n. n == number) numbers.now }
+{
+    for (at, n) in numbers.iter().enumerate() {
+        if *n == number {
+            return at;
+        }
+    }
+    numbers.len()
+}
+
+impl Tokens {
+    /// The table of an initial set alone.
+    pub fn new(alloc: Global, start: Bits) -> Result<Tokens, OutOfMemory>
+        ensures { IfOk result (λ made. made ≡ record {
+          size = start.size;
+          sets = start.members ∷ [];
+          used = start.members ∷ [];
+        }) }
+    {
+        let size = start.size();
+        let mut sets = Vec::new(alloc);
+        sets.push(start)?;
+        let mut order = Vec::new(alloc);
+        order.push(0)?;
+        Ok(Tokens { size, sets, order })
+    }
+
+    /// The index of a set, which is added as the last one if it is new. The set has the size of the initial
+    /// one. For want of memory the table stays as it was.
+    pub fn intern(&mut self, set: Bits) -> Result<u64, OutOfMemory>
+        requires { set.size ≡ self.old.size }
+        ensures sets { IfOk result (λ _. self.new ≡ record self.old { sets = with_set self.old.sets set.members }) }
+        ensures index { IfOk result (λ index. index ≡ place self.new.sets set.members) }
+        ensures there { IfOk result (λ index. index < length self.new.sets
+            × (set_at self.new.sets index ≡ set.members)) }
+        ensures err { OnErr result (self.new ≡ self.old) }
+    {
+        let index = place_of(&self.sets, &set);
+        if index == self.sets.len() {
+            self.sets.push(set)?;
+        }
+        Ok(index as u64)
+    }
+
+    /// The token of the set with an index, which gets the next one if it has none. For want of memory the
+    /// table stays as it was.
+    pub fn token_of(&mut self, index: u64) -> Result<u64, OutOfMemory>
+        requires { index < length self.old.sets }
+        ensures used { IfOk result (λ _. self.new
+            ≡ record self.old { used = with_set self.old.used (set_at self.old.sets index) }) }
+        ensures token { IfOk result (λ token. token ≡ place self.new.used (set_at self.old.sets index)) }
+        ensures there { IfOk result (λ token. token < length self.new.used
+            × (set_at self.new.used token ≡ set_at self.old.sets index)) }
+        ensures err { OnErr result (self.new ≡ self.old) }
+    {
+        let token = place_of_number(&self.order, index);
+        if token == self.order.len() {
+            self.order.push(index)?;
+        }
+        Ok(token as u64)
+    }
+
+    /// The index of the set with a token: none exactly where no set has it.
+    pub fn set_of(&self, token: u64) -> Option<u64>
+        ensures none { IsNone result ↔ (length self.now.used ≤ token) }
+        ensures some { IfSome result (λ index. index < length self.now.sets
+            × (set_at self.now.sets index ≡ set_at self.now.used token)) }
+        ensures different { AreDifferent self.now.sets }
+    {
+        self.order.get(token as usize).copied()
+    }
+
+    /// The set with an index.
+    pub fn set(&self, index: u64) -> &Bits
+        requires { index < length self.now.sets }
+        ensures { result.now ≡ record { size = self.now.size; members = set_at self.now.sets index } }
+    {
+        &self.sets[index as usize]
+    }
+}
