@@ -1,0 +1,10 @@
+pub mod Back
+pub mod Bools
+pub mod Formed
+pub mod Least
+pub mod Names
+pub mod Numbers
+pub mod Plans
+pub mod Runs
+pub mod Small
+pub mod States
