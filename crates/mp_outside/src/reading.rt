@@ -1,0 +1,146 @@
+//! Reading a whole file, up to a limit.
+
+ghost use Rattle.std.specs.Prelude.{◌≡◌, ◌≢◌, ◌+◌, ◌^◌, ◌<◌, ◌≤◌, ◌↔◌, true, take, vec_len, vec_items, IfSome, IfOk, IfErr, Some};
+ghost use Rattle.mp_outside.specs.Source.{Lacks, FaultAt, IsFrontOf};
+
+use crate::source::Source;
+use std::alloc::{AllocError, Global};
+use thiserror::Error;
+
+/// The most bytes that one read asks for.
+const PIECE: usize = 4096;
+
+/// Why a file was not read.
+#[derive(Clone, Copy, Debug, PartialEq, Eq, Error)]
+pub enum FetchRefusal {
+    /// The source tells that it does not hold the name.
+    #[error("no such file")]
+    Absent,
+    /// The source failed.
+    #[error("failed")]
+    Failed,
+    /// No memory was left.
+    #[error("out of memory")]
+    OutOfMemory,
+}
+
+/// The first bytes of the file of this name, at most `limit + 1` of them, so that the caller sees whether the
+/// file is longer than the limit. `Absent` exactly where the source tells that it does not hold the name;
+/// `Failed` only where its count of faults rose, at this name; `OutOfMemory` for want of memory.
+pub fn fetch<S: Source>(
+    alloc: Global,
+    source: &mut S,
+    name: &str,
+    limit: usize,
+) -> Result<Vec<u8>, FetchRefusal>
+    requires { limit < 2 ^ 32 }
+    ensures text { IfOk result (λ bytes. IsFrontOf (S.held source.old) name.now (limit + 1) bytes.items) }
+    ensures short { IfOk result (λ bytes. vec_len bytes ≤ limit + 1) }
+    ensures absent { (result ≡ Err FetchRefusal.Absent) ↔ Lacks (S.held source.old) name.now }
+    ensures no_fault { result ≡ Err FetchRefusal.Absent → S.faults source.new ≡ S.faults source.old }
+    ensures failed { result ≡ Err FetchRefusal.Failed → S.faults source.old < S.faults source.new }
+    ensures at { result ≡ Err FetchRefusal.Failed → FaultAt (S.held source.old) (S.fault_at source.new) (Some name.now) }
+    ensures later { S.faults source.old ≤ S.faults source.new }
+    ensures held { S.held source.new ≡ S.held source.old }
+{
+    match source.begin(name) {
+        Ok(true) => read_front(alloc, source, limit + 1),
+        Ok(false) => Err(FetchRefusal::Absent),
+        Err(_) => Err(FetchRefusal::Failed),
+    }
+}
+
+// The next bytes of the file that was begun, at most so many of them.
+fn read_front<S: Source>(
+    alloc: Global,
+    source: &mut S,
+    most: usize,
+) -> Result<Vec<u8>, FetchRefusal>
+    requires begun { S.is_begun source.old ≡ true }
+    requires small { most ≤ 2 ^ 32 }
+    ensures text { IfOk result (λ bytes. IfSome (S.left source.old) (λ whole. bytes.items ≡ take most whole)) }
+    ensures short { IfOk result (λ bytes. vec_len bytes ≤ most) }
+    ensures present { IfErr result (λ e. e ≢ FetchRefusal.Absent) }
+    ensures failed { IfErr result (λ e. e ≡ FetchRefusal.Failed → S.faults source.old < S.faults source.new) }
+    ensures at { IfErr result (λ e. e ≡ FetchRefusal.Failed → FaultAt (S.held source.old) (S.fault_at source.new) (S.begun source.old)) }
+    ensures later { S.faults source.old ≤ S.faults source.new }
+    ensures held { S.held source.new ≡ S.held source.old }
+{
+    let mut piece = [0; PIECE];
+    let mut bytes = Vec::new(alloc);
+    let mut room = most;
+    while room > 0 {
+        let asked = room.min(PIECE);
+        let Ok(taken) = source.read(&mut piece[..asked]) else {
+            return Err(FetchRefusal::Failed);
+        };
+        if taken == 0 {
+            return Ok(bytes);
+        }
+        if bytes.extend_from_slice(&piece[..taken]).is_err() {
+            return Err(FetchRefusal::OutOfMemory);
+        }
+        room -= taken;
+    }
+    Ok(bytes)
+}
+
+#[cfg(test)]
+mod tests {
+    use super::*;
+    use crate::{MemSource, NamedText};
+    use mp_list::List;
+    use std::test::Fail;
+
+    // A source of one file `d` of five bytes, with one failing call (none for 0).
+    fn five_bytes(alloc: Global, greatest: usize, failing: u64) -> Result<MemSource, Fail>
+        requires { 0 < greatest }
+    {
+        let mut files = List::new(alloc);
+        let name = String::from_str(alloc, "d")?;
+        let text = b"abcde".to_vec(alloc)?;
+        files.push(NamedText { name, text })?;
+        Ok(MemSource::new(files, greatest, [failing].to_vec(alloc)?))
+    }
+
+    #[test]
+    fn reads_all_or_fails(rt: HostRuntime) -> Result<(), Fail> {
+        // The greatest piece, and how many calls read the whole file.
+        for (greatest, calls) in [(1, 7), (2, 5), (7, 3), (1000, 3)] {
+            assert!(rt; greatest > 0);
+            for failing in 0..10 {
+                let mut source = five_bytes(rt.alloc(), greatest, failing)?;
+                let read = fetch(rt.alloc(), &mut source, "d", 10);
+                if failing == 0 || failing > calls {
+                    assert_eq!(rt; read?.as_slice(), b"abcde".as_slice());
+                    assert_eq!(rt; source.faults(), 0);
+                } else {
+                    assert_eq!(rt; read.err(), Some(FetchRefusal::Failed));
+                    assert_eq!(rt; source.faults(), 1);
+                }
+            }
+        }
+        Ok(())
+    }
+
+    #[test]
+    fn stops_at_one_byte_past_the_limit(rt: HostRuntime) -> Result<(), Fail> {
+        let rows = [(0, "a"), (1, "ab"), (3, "abcd"), (4, "abcde"), (5, "abcde")];
+        for (limit, front) in rows {
+            let mut source = five_bytes(rt.alloc(), 2, 0)?;
+            assert!(rt; limit < 100);
+            let read = fetch(rt.alloc(), &mut source, "d", limit)?;
+            assert_eq!(rt; read.as_slice(), front.as_bytes());
+        }
+        Ok(())
+    }
+
+    #[test]
+    fn lacks_a_file_at_a_failing_call_too(rt: HostRuntime) -> Result<(), Fail> {
+        let mut source = five_bytes(rt.alloc(), 2, 1)?;
+        let read = fetch(rt.alloc(), &mut source, "e", 10);
+        assert_eq!(rt; read.err(), Some(FetchRefusal::Absent));
+        assert_eq!(rt; source.faults(), 0);
+        Ok(())
+    }
+}

@@ -1,0 +1,57 @@
+//! Sources: where files are read.
+
+ghost use Rattle.std.specs.Prelude.{◌≡◌, ◌<◌, ◌≤◌, ◌↔◌, ℕ, List, Option, Bool, true, false, length, take, IfOk, OnErr, Ok, Some};
+ghost use Rattle.std.specs.Io.KnownBytes.{Consumes, IsAtEnd};
+ghost use Rattle.mp_outside.specs.Source.{Files, Lacks, Begins, FaultAt};
+
+use crate::failed::Failed;
+
+/// Files that are read by their names, one after another, each from its beginning.
+///
+/// A source may tell what it holds (`held`), and then no call changes that. It always has a count of faults
+/// (`faults`), which never falls.
+pub trait Source {
+    // The bytes held under each name, where the source tells.
+    ghost held: { Self → Option Files };
+
+    // Whether a file was begun.
+    ghost is_begun: { Self → Bool };
+
+    // The bytes left of the file that was begun, where the source tells.
+    ghost left: { Self → Option (List ℕ) };
+
+    // The name of the file that was begun, where the source tells.
+    ghost begun: { Self → Option (List ℕ) };
+
+    // The name at which the last fault came, where the source tells.
+    ghost fault_at: { Self → Option (List ℕ) };
+
+    // How many faults there were.
+    ghost faults: { Self → ℕ };
+
+    /// Begins the file of this name at its first byte. False exactly where the source tells what it holds and
+    /// does not hold this name; that is no fault. `Failed` only where the count of faults rose.
+    fn begin(&mut self, name: &str) -> Result<bool, Failed>
+        ensures held { held self.new ≡ held self.old }
+        ensures later { faults self.old ≤ faults self.new }
+        ensures failed { OnErr result (faults self.old < faults self.new) }
+        ensures absent { (result ≡ Ok false) ↔ Lacks (held self.old) name.now }
+        ensures no_fault { result ≡ Ok false → faults self.new ≡ faults self.old }
+        ensures begun { result ≡ Ok true → is_begun self.new ≡ true }
+        ensures whole { result ≡ Ok true → Begins (held self.old) name.now (left self.new) (begun self.new) }
+        ensures at { OnErr result (FaultAt (held self.old) (fault_at self.new) (Some name.now)) };
+
+    /// Takes the next bytes of the file that was begun, and puts them at the front of the buffer: their count,
+    /// which is 0 only at the end of the file. `Failed` only where the count of faults rose.
+    fn read(&mut self, buf: &mut [u8]) -> Result<usize, Failed>
+        requires room { 0 < length buf.old }
+        requires begun { is_begun self.old ≡ true }
+        ensures held { held self.new ≡ held self.old }
+        ensures later { faults self.old ≤ faults self.new }
+        ensures failed { OnErr result (faults self.old < faults self.new) }
+        ensures count { IfOk result (λ n. n ≤ length buf.old) }
+        ensures bytes { IfOk result (λ n. Consumes (left self.old) (left self.new) (take n buf.new)) }
+        ensures end { IfOk result (λ n. n ≡ 0 → IsAtEnd (left self.old)) }
+        ensures still { IfOk result (λ _. (is_begun self.new ≡ true) × (begun self.new ≡ begun self.old)) }
+        ensures at { OnErr result (FaultAt (held self.old) (fault_at self.new) (begun self.old)) };
+}
