@@ -1,0 +1,138 @@
+-- From what was fetched and read to what the files hold.
+use Rattle.std.proofs.Common.{◌≡◌, ℕ, ◌+◌, ◌<◌, ◌≤◌, ◌⊎◌, inl, inr, min, length, take, Option, Some, None, Result, Ok, Err, IfOk, IfErr, IfSome, IsSomeAnd, sym, subst, ap, ◌∙◌, arith}
+use Rattle.std.proofs.lemmas.List.{length-take, take_all}
+use Rattle.mp_joint.specs.Fact.{Text}
+use Rattle.mp_outside.specs.Source.{Files, IsFrontOf, FaultAt}
+use Rattle.mp_sexp.specs.Fault.{ReadFault}
+use Rattle.mp_sexp.specs.Node.{Node}
+use Rattle.mp_sexp.specs.Spelling.{HasTree}
+use Rattle.mp_sexp.specs.declared.plain_form.File.{File}
+use Rattle.mp_sexp.specs.declared.plain_form.File.TheVariants as file
+use Rattle.mp_sexp.specs.declared.plain_form.PlainFactor.{PlainFactor}
+use Rattle.mp_top.specs.Cause.{Rests, RestsOnFile, RestsOnForm, RestsOnTexts, IsTextOf, HaveFactor, CannotRead}
+use Rattle.mp_top.specs.Files.{HoldsFactor, AreFitting, longest_file}
+use Rattle.mp_top.specs.First.{IsFirst, IsFittingBefore, read_fault}
+use Rattle.mp_top.specs.Refusal.{name_in}
+use Rattle.mp_top.specs.Words.{Request}
+use Rattle.mp_top.specs.declared.refusal.Refusal.{Refusal}
+use Rattle.mp_top.specs.declared.refusal.Refusal.TheVariants as why
+
+-- a front that is not longer than a file may be is the whole of it
+front_is_whole : (whole bytes : Text) → bytes ≡ take (longest_file + 1) whole → length bytes ≤ longest_file → bytes ≡ whole
+front_is_whole whole bytes e h =
+    let m : length bytes ≡ min (longest_file + 1) (length whole) = ap length e ∙ length-take (longest_file + 1) whole in
+    let within : length whole ≤ longest_file + 1 = omega (arith, m) in
+    e ∙ take_all (longest_file + 1) whole within
+
+whole_in : (o : Option Text) (bytes : Text) → IsSomeAnd o (λ whole. bytes ≡ take (longest_file + 1) whole) → length bytes ≤ longest_file → o ≡ Some bytes
+whole_in None bytes e h = absurd e
+whole_in (Some whole) bytes e h = ap Some (sym (front_is_whole whole bytes e h))
+
+long_in : (o : Option Text) (bytes : Text) → IsSomeAnd o (λ whole. bytes ≡ take (longest_file + 1) whole) → longest_file < length bytes → IsSomeAnd o (λ t. longest_file < length t)
+long_in None bytes e h = absurd e
+long_in (Some whole) bytes e h =
+    let m : length bytes ≡ min (longest_file + 1) (length whole) = ap length e ∙ length-take (longest_file + 1) whole in
+    omega (arith, m)
+
+-- a front that is short is the file's text
+pub text_held : (held : Option Files) (name bytes : Text) → IsFrontOf held name (longest_file + 1) bytes → length bytes ≤ longest_file → IsTextOf held name bytes
+text_held None name bytes f h = tt
+text_held (Some files) name bytes f h = whole_in (files name) bytes f h
+
+-- and one that is long shows that the file is
+pub long_held : (held : Option Files) (name bytes : Text) → IsFrontOf held name (longest_file + 1) bytes → longest_file < length bytes → IfSome held (λ files. IsSomeAnd (files name) (λ t. longest_file < length t))
+long_held None name bytes f h = tt
+long_held (Some files) name bytes f h = long_in (files name) bytes f h
+
+-- what holds of a text holds of the file that has it
+in_file : (P : Text → Type 0) (o : Option Text) (text : Text) → o ≡ Some text → P text → IsSomeAnd o P
+in_file P None text e p = absurd (cc)
+in_file P (Some t) text e p = let same : t ≡ text = cc in subst P (sym same) p
+
+-- the two files are there and fit
+fitting : (files : Files) (request : Request) (domain problem : Text) → files request.domain ≡ Some domain → files request.problem ≡ Some problem → length domain ≤ longest_file → length problem ≤ longest_file → AreFitting files request
+fitting files request domain problem d p m n =
+    (in_file (λ t. length t ≤ longest_file) (files request.domain) domain d m, in_file (λ t. length t ≤ longest_file) (files request.problem) problem p n)
+
+pub factor_held : (held : Option Files) (request : Request) (domain problem : Text) (factor : PlainFactor) → IsTextOf held request.domain domain → IsTextOf held request.problem problem → length domain ≤ longest_file → length problem ≤ longest_file → HaveFactor domain problem factor → IfSome held (λ files. HoldsFactor files request factor)
+factor_held None request domain problem factor d p m n h = tt
+factor_held (Some files) request domain problem factor d p m n h = (
+  fitting files request domain problem d p m n,
+  (h.0, h.1, in_file (λ t. HasTree t h.0) (files request.domain) domain d h.2, in_file (λ t. HasTree t h.1) (files request.problem) problem p h.3, h.4),
+)
+
+-- a refusal of two texts is the first one
+pub texts_first : (held : Option Files) (before now : ℕ) (fault_at : Option Text) (request : Request) (domain problem : Text) (r : Refusal) → IsTextOf held request.domain domain → IsTextOf held request.problem problem → length domain ≤ longest_file → length problem ≤ longest_file → RestsOnTexts domain problem r → Rests held before now fault_at request r
+texts_first held before now fault_at request domain problem (why.Read at) d p m n h = absurd h
+texts_first held before now fault_at request domain problem (why.TooLarge at) d p m n h = absurd h
+texts_first None before now fault_at request domain problem (why.Text at kind place) d p m n h = tt
+texts_first (Some files) before now fault_at request domain problem (why.Text file.Domain kind place) d p m n h =
+    (fitting files request domain problem d p m n, tt, in_file (λ t. ReadFault t (read_fault kind place)) (files request.domain) domain d h.1)
+texts_first (Some files) before now fault_at request domain problem (why.Text file.Problem kind place) d p m n h =
+    (fitting files request domain problem d p m n, (h.0.0, in_file (λ t. HasTree t h.0.0) (files request.domain) domain d h.0.1), in_file (λ t. ReadFault t (read_fault kind place)) (files request.problem) problem p h.1.1)
+texts_first None before now fault_at request domain problem (why.NotBuilt at) d p m n h = tt
+texts_first (Some files) before now fault_at request domain problem (why.NotBuilt at) d p m n h =
+    (fitting files request domain problem d p m n, (h.0, h.1, in_file (λ t. HasTree t h.0) (files request.domain) domain d h.2, in_file (λ t. HasTree t h.1) (files request.problem) problem p h.3, h.4))
+texts_first held before now fault_at request domain problem why.Write d p m n h = absurd h
+texts_first held before now fault_at request domain problem why.Memory d p m n h = tt
+
+some_and : {A : Type 0} (o : Option A) (P Q : A → Type 0) → ((x : A) → P x → Q x) → IsSomeAnd o P → IsSomeAnd o Q
+some_and None P Q f h = absurd h
+some_and (Some x) P Q f h = f x h
+
+if_some_and : {A : Type 0} (o : Option A) (P Q : A → Type 0) → ((x : A) → P x → Q x) → IfSome o P → IfSome o Q
+if_some_and None P Q f h = tt
+if_some_and (Some x) P Q f h = f x h
+
+always : {A : Type 0} (o : Option A) (P : A → Type 0) → ((x : A) → P x) → IfSome o P
+always None P f = tt
+always (Some x) P f = f x
+
+-- why a file cannot be read, where those before it fit
+cannot_read : (held : Option Files) (first before now : ℕ) (fault_at : Option Text) (request : Request) (at : File) → first ≤ before → IfSome held (λ files. IsFittingBefore files request at) → IsSomeAnd held (λ files. files (name_in request at) ≡ None) ⊎ ((before < now) × FaultAt held fault_at (Some (name_in request at))) → CannotRead held first now fault_at request at
+cannot_read None first before now fault_at request at le fits (inl absent) = absurd absent
+cannot_read (Some files) first before now fault_at request at le fits (inl absent) = inl (fits, absent)
+cannot_read held first before now fault_at request at le fits (inr fault) =
+    let risen : before < now = fault.0 in
+    inr (record { count = omega arith; place = fault.1; others = fits })
+
+too_large : (held : Option Files) (request : Request) (at : File) → IfSome held (λ files. IsFittingBefore files request at) → IfSome held (λ files. IsSomeAnd (files (name_in request at)) (λ t. longest_file < length t)) → IfSome held (λ files. IsFirst files request (why.TooLarge at))
+too_large None request at fits long = tt
+too_large (Some files) request at fits long = (fits, long)
+
+-- a refusal of a file is the first one, where the files before it fit
+pub file_first : (held : Option Files) (first before now : ℕ) (fault_at : Option Text) (request : Request) (at : File) (r : Refusal) → first ≤ before → IfSome held (λ files. IsFittingBefore files request at) → RestsOnFile held before now fault_at request at r → Rests held first now fault_at request r
+file_first held first before now fault_at request at (why.Read other) le fits h =
+    subst (λ a. CannotRead held first now fault_at request a) (sym h.0) (cannot_read held first before now fault_at request at le fits h.1)
+file_first held first before now fault_at request at (why.TooLarge other) le fits h =
+    subst (λ a. IfSome held (λ files. IsFirst files request (why.TooLarge a))) (sym h.0) (too_large held request at fits h.1)
+file_first held first before now fault_at request at (why.Text other kind place) le fits h = absurd h
+file_first held first before now fault_at request at (why.NotBuilt other) le fits h = absurd h
+file_first held first before now fault_at request at why.Write le fits h = absurd h
+file_first held first before now fault_at request at why.Memory le fits h = tt
+
+-- nothing stands before the domain's file
+pub none_before : (held : Option Files) (request : Request) → IfSome held (λ files. IsFittingBefore files request file.Domain)
+none_before held request = always held _ (λ files. tt)
+
+-- the domain's file stands before the problem's
+pub domain_before : (held : Option Files) (request : Request) (domain : Text) → IsTextOf held request.domain domain → length domain ≤ longest_file → IfSome held (λ files. IsFittingBefore files request file.Problem)
+domain_before held request domain d m = if_some_and held (λ files. files request.domain ≡ Some domain) (λ files. IsFittingBefore files request file.Problem) (λ files e. in_file (λ t. length t ≤ longest_file) (files request.domain) domain e m) d
+
+-- what two trees' forms rest on
+pub forms_rest : (domain problem : Text) (d p : Node) (r : Refusal) → HasTree domain d → HasTree problem p → RestsOnForm d p r → RestsOnTexts domain problem r
+forms_rest domain problem d p (why.Read at) m n h = absurd h
+forms_rest domain problem d p (why.TooLarge at) m n h = absurd h
+forms_rest domain problem d p (why.Text at kind place) m n h = absurd h
+forms_rest domain problem d p (why.NotBuilt at) m n h = (d, p, m, n, h)
+forms_rest domain problem d p why.Write m n h = absurd h
+forms_rest domain problem d p why.Memory m n h = tt
+
+-- through a result
+pub weaker : {X Y : Type 0} (r : Result X Y) (P Q : X → Type 0) → ((x : X) → P x → Q x) → IfOk r P → IfOk r Q
+weaker (Ok x) P Q h p = h x p
+weaker (Err e) P Q h p = tt
+
+pub weaker_err : {X Y : Type 0} (r : Result X Y) (P Q : Y → Type 0) → ((y : Y) → P y → Q y) → IfErr r P → IfErr r Q
+weaker_err (Ok x) P Q h p = tt
+weaker_err (Err e) P Q h p = h e p

@@ -1,0 +1,5 @@
+pub mod Held
+pub mod One
+pub mod Said
+pub mod Tells
+pub mod WordLemmas

@@ -1,0 +1,14 @@
+use Rattle.mp_top.specs.Refusal.{asked}
+use Rattle.mp_top.proofs.Tells.{none_to_tell, first_told}
+use Rattle.mp_top.proofs.on_one_thread.answer_request.Goals as goal
+
+pub returns-in-Ok-clause-first : goal.returns-in-Ok-clause-first
+returns-in-Ok-clause-first g c =
+    none_to_tell g.E.Sink.written g.E.Sink.faults c.one_first.ensures.none (g.S.Source.held c.args.source.now) (asked c.args.request.now)
+    c.in-Ok.decision c.args.err.now c.publish.new.err c.publish.result c.in-Ok.ensures.outcome
+
+pub returns-in-Err-clause-first : goal.returns-in-Err-clause-first
+returns-in-Err-clause-first g c =
+    first_told g.E.Sink.written g.E.Sink.faults c.one_first.ensures.one (asked c.args.request.now) c.args.err.now c.tell.new.err c.status.result
+    (g.S.Source.held c.args.source.now) (g.S.Source.faults c.args.source.now) (g.S.Source.faults c.decide.new.source) (g.S.Source.fault_at c.decide.new.source)
+    c.in-Err.refusal c.in-Err.ensures.cause c.status.ensures c.tell.ensures

@@ -1,0 +1,19 @@
+use Rattle.mp_top.proofs.refusal.Refusal.tell.Goals as goal
+
+pub returns-in-Read : goal.returns-in-Read
+returns-in-Read g c = rw (c.in-Read.is, ← c.name.ensures, ← c.as_bytes.ensures.value) c.say.ensures
+
+pub returns-in-TooLarge : goal.returns-in-TooLarge
+returns-in-TooLarge g c = rw (c.in-TooLarge.is, ← c.name-in-TooLarge.ensures, ← c.as_bytes-in-TooLarge.ensures.value) c.say-in-TooLarge.ensures
+
+pub returns-in-Text : goal.returns-in-Text
+returns-in-Text g c = rw (c.in-Text.is, ← c.name-in-Text.ensures, ← c.as_bytes-in-Text.ensures.value) c.tell_fault.ensures
+
+pub returns-in-NotBuilt : goal.returns-in-NotBuilt
+returns-in-NotBuilt g c = rw (c.in-NotBuilt.is, ← c.name-in-NotBuilt.ensures, ← c.as_bytes-in-NotBuilt.ensures.value) c.say-in-NotBuilt.ensures
+
+pub returns-in-Write : goal.returns-in-Write
+returns-in-Write g c = rw c.in-Write.is c.say-in-Write.ensures
+
+pub returns-in-Memory : goal.returns-in-Memory
+returns-in-Memory g c = rw c.in-Memory.is c.say-in-Memory.ensures

@@ -1,0 +1,10 @@
+pub mod Cause
+pub mod Decision
+pub mod Files
+pub mod First
+pub mod Outcome
+pub mod Refusal
+pub mod Report
+pub mod Run
+pub mod Status
+pub mod Words

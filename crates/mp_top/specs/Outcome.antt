@@ -1,0 +1,41 @@
+-- The text of an outcome: whole lines, each with a line feed, numbers in decimal without leading zeros.
+use Rattle.std.specs.Prelude.{ℕ, zero, suc, ◌+◌, ◌==◌, List, [], ◌∷◌, ◌++◌, length, codes, decimal, if◌then◌else◌}
+use Rattle.std.specs.List.{flat_map}
+use Rattle.mp_joint.specs.declared.plan.PlanStep.{PlanStep}
+use Rattle.mp_search.specs.declared.Answer.{Answer}
+use Rattle.mp_search.specs.declared.Answer.TheVariants.{Nothing, Solved, Unsolvable, Undecided}
+use Rattle.mp_top.specs.declared.log.Entry.{Entry}
+
+-- these lines, one after another
+abbrev pub text_of_lines : List (List ℕ) → List ℕ
+text_of_lines lines = flat_map (λ line. line ++ 10 ∷ []) lines
+
+-- `T: (NAME ARG ..)`: the time, and the name and each argument after a blank
+abbrev pub step_line : ℕ → PlanStep → List ℕ
+step_line time step = decimal time ++ (codes ": (" ++ (step.action ++ (flat_map (λ arg. 32 ∷ arg) step.args ++ codes ")")))
+
+-- the lines of an agent's steps, where the first step of the plan has this time
+abbrev pub share_lines : ℕ → ℕ → List PlanStep → List (List ℕ)
+share_lines agent time [] = []
+share_lines agent time (step ∷ steps) =
+    (if step.agent == agent then step_line time step ∷ [] else []) ++ share_lines agent (time + 1) steps
+
+-- the lines of the agents up to this one: `agent I` and its steps by their times in the plan
+abbrev pub agent_lines : ℕ → List PlanStep → List (List ℕ)
+agent_lines zero plan = []
+agent_lines (suc n) plan = agent_lines n plan ++ (codes "agent " ++ decimal (n + 1)) ∷ share_lines (n + 1) 1 plan
+
+-- `events N messages M bytes B`; one agent alone sends nothing
+abbrev pub count_line : List Entry → List ℕ
+count_line log = codes "events " ++ (decimal (length log) ++ codes " messages 0 bytes 0")
+
+-- the lines of the outcome of a team of this many agents
+abbrev pub outcome_lines : ℕ → Answer → List PlanStep → List Entry → List (List ℕ)
+outcome_lines agents Nothing plan log = []
+outcome_lines agents (Solved cost steps) plan log =
+    (codes "cost " ++ decimal cost) ∷ (codes "length " ++ decimal steps) ∷ agent_lines agents plan ++ count_line log ∷ []
+outcome_lines agents Unsolvable plan log = codes "unsolvable" ∷ count_line log ∷ []
+outcome_lines agents Undecided plan log = codes "undecided" ∷ count_line log ∷ []
+
+abbrev pub outcome_text : ℕ → Answer → List PlanStep → List Entry → List ℕ
+outcome_text agents answer plan log = text_of_lines (outcome_lines agents answer plan log)

@@ -1,0 +1,26 @@
+//! The top call: words in, files read, a plan searched, a text printed.
+#![tactic(auto)]
+
+mod answer;
+mod first;
+mod log;
+mod on_one_thread;
+mod on_threads;
+mod outcome;
+mod reads;
+mod refusal;
+mod report;
+mod status;
+mod words;
+
+pub use first::one_first;
+pub use log::{Entry, Kind, Log};
+pub use on_one_thread::run_alone;
+pub use on_threads::run;
+pub use refusal::{Fault, Refusal};
+pub use report::{Bytes, Report, Views};
+pub use status::Status;
+pub use words::alone;
+
+#[cfg(test)]
+mod tests;

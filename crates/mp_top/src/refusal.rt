@@ -1,0 +1,158 @@
+//! Why a call ends without an outcome, and the line that says so.
+
+ghost use Rattle.std.specs.Prelude.{◌≡◌, ◌++◌, ◌∷◌, [], codes};
+ghost use Rattle.std.specs.List.{flat_map};
+ghost use Rattle.mp_top.specs.Refusal.{status_of, line_of, name_in, text_of_fault, words_line, fault_line, Says, asked};
+
+use crate::status::Status;
+use crate::words::Request;
+use itoa::Buffer;
+use mp_outside::{Sink, put_all};
+use mp_sexp::{File, Place};
+
+/// What is wrong with a file's text.
+#[derive(Clone, Copy, Debug, PartialEq, Eq)]
+pub enum Fault {
+    /// A byte outside a comment is none of a text's bytes.
+    Char,
+    /// The text ends before its list is closed, or something else stands before the list.
+    Unbalanced,
+    /// A word or bracket follows the closed list.
+    Trailing,
+    /// A bracket is the 101st open one.
+    Deep,
+}
+
+impl Fault {
+    /// Its code and name.
+    fn text(self) -> &'static [u8]
+        ensures { result.now ≡ text_of_fault self }
+    {
+        match self {
+            Fault::Char => b"F1 char",
+            Fault::Unbalanced => b"F2 unbalanced",
+            Fault::Trailing => b"F3 trailing",
+            Fault::Deep => b"F11 deep",
+        }
+    }
+}
+
+/// Why a call of accepted words ends without an outcome.
+#[derive(Clone, Copy, Debug, PartialEq, Eq)]
+pub enum Refusal {
+    /// The file is not held, or reading it failed.
+    Read(File),
+    /// The file has more than 4,194,304 bytes.
+    TooLarge(File),
+    /// The file's text has a fault, the first one at this place.
+    Text(File, Fault, Place),
+    /// The file is not of the form that is built so far.
+    NotBuilt(File),
+    /// A write to the output failed.
+    Write,
+    /// No memory was left.
+    Memory,
+}
+
+impl Refusal {
+    /// The status of a call that ends so.
+    pub(crate) fn status(self) -> Status
+        ensures { result ≡ status_of self }
+    {
+        match self {
+            Refusal::Read(_) => Status::Read,
+            Refusal::TooLarge(_) => Status::TooLarge,
+            Refusal::Text(_, _, _) => Status::Refused,
+            Refusal::NotBuilt(_) => Status::Refused,
+            Refusal::Write => Status::Write,
+            Refusal::Memory => Status::Memory,
+        }
+    }
+
+    /// Writes the line that says so, without taking memory. A fault of the sink changes nothing else.
+    pub(crate) fn tell<E: Sink>(self, request: &Request<'_>, err: &mut E)
+        ensures { Says E.written E.faults err.old err.new (line_of (asked request.now) self) }
+    {
+        match self {
+            Refusal::Read(file) => {
+                say(
+                    err,
+                    &[
+                        b"maplan: cannot read ",
+                        request.name(file).as_bytes(),
+                        b"\n",
+                    ],
+                )
+            }
+            Refusal::TooLarge(file) => {
+                say(
+                    err,
+                    &[b"maplan: ", request.name(file).as_bytes(), b": too large\n"],
+                )
+            }
+            Refusal::Text(file, fault, place) => {
+                tell_fault(err, request.name(file).as_bytes(), fault, place)
+            }
+            Refusal::NotBuilt(file) => {
+                say(
+                    err,
+                    &[b"maplan: ", request.name(file).as_bytes(), b": not built\n"],
+                )
+            }
+            Refusal::Write => say(err, &[b"maplan: cannot write\n"]),
+            Refusal::Memory => say(err, &[b"maplan: out of memory\n"]),
+        }
+    }
+}
+
+/// Writes the line for words that are not accepted.
+pub(crate) fn tell_words<E: Sink>(err: &mut E)
+    ensures { Says E.written E.faults err.old err.new words_line }
+{
+    say(err, &[b"maplan: words\n"])
+}
+
+/// Writes the line of a fault at a place of a file.
+fn tell_fault<E: Sink>(err: &mut E, name: &[u8], fault: Fault, place: Place)
+    ensures { Says E.written E.faults err.old err.new (fault_line name.now fault place) }
+{
+    let mut line = Buffer::new();
+    let mut column = Buffer::new();
+    let line = line.format(place.line).as_bytes();
+    let column = column.format(place.column).as_bytes();
+    say_fault(err, name, line, column, fault.text());
+}
+
+/// Writes a name, a line and a column, and what is wrong there.
+fn say_fault<'a, E: Sink>(
+    err: &mut E,
+    name: &'a [u8],
+    line: &'a [u8],
+    column: &'a [u8],
+    text: &'a [u8],
+)
+    ensures { Says E.written E.faults err.old err.new
+        (codes "maplan: " ++ (name.now ++ (codes ":" ++ (line.now ++ (codes ":" ++ (column.now ++ (codes ": " ++ (text.now ++ 10 ∷ [])))))))) }
+{
+    say(
+        err,
+        &[
+            b"maplan: ",
+            name,
+            b":",
+            line,
+            b":",
+            column,
+            b": ",
+            text,
+            b"\n",
+        ],
+    )
+}
+
+/// Writes these texts as far as the sink takes them.
+fn say<E: Sink>(sink: &mut E, texts: &[&[u8]])
+    ensures { Says E.written E.faults sink.old sink.new (flat_map (λ t. t.now) texts.now) }
+{
+    let _ = put_all(sink, texts);
+}
