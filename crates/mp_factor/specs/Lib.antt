@@ -1,0 +1,14 @@
+pub mod Faults
+pub mod Kinds
+pub mod Numbers
+pub mod Parts
+pub mod Typed
+pub mod Objects
+pub mod Signatures
+pub mod Conditions
+pub mod Effects
+pub mod Actions
+pub mod Init
+pub mod Sections
+pub mod Files
+pub mod First

@@ -1,0 +1,66 @@
+//! What is wrong in a tree, and which of two faults comes first.
+
+ghost use Rattle.std.specs.Prelude.{◌≡◌, ◌∷◌, []};
+ghost use Rattle.mp_factor.specs.Faults.{rank_of, is_earlier, leftmost, fault_at};
+
+use mp_sexp::Place;
+
+/// What is wrong with a word or list.
+#[derive(Clone, Copy, Debug, PartialEq, Eq)]
+pub enum FaultKind {
+    /// It has no place in the shape of the file, or lacks something.
+    Shape,
+    /// It begins something that is not supported.
+    Unsupported,
+    /// It is a parameter behind the twelfth of its action.
+    Parameters,
+    /// It is no cost that is allowed, or an increase behind the sixteenth of its action.
+    Cost,
+}
+
+/// Something that is wrong, and the place of the word or list.
+#[derive(Clone, Copy, Debug, PartialEq, Eq)]
+pub struct Fault {
+    pub place: Place,
+    pub kind: FaultKind,
+}
+
+/// Which fault at one place is answered: the lowest.
+fn rank(kind: FaultKind) -> u8
+    ensures { result ≡ rank_of kind }
+{
+    match kind {
+        FaultKind::Shape => 0,
+        FaultKind::Unsupported => 1,
+        FaultKind::Parameters => 1,
+        FaultKind::Cost => 2,
+    }
+}
+
+/// Whether a fault comes before another.
+#[tactic(auto, using(crate::proofs::Steps::leftmost_append), unfolding(crate::specs::Faults::is_earlier))]
+fn is_before(a: Fault, b: Fault) -> bool
+    ensures { result ≡ is_earlier a b }
+{
+    a.place.line < b.place.line
+        || a.place.line == b.place.line
+            && (a.place.column < b.place.column
+                || a.place.column == b.place.column && rank(a.kind) < rank(b.kind))
+}
+
+/// The first fault, when this one is found too.
+pub fn with(least: Option<Fault>, place: Place, kind: FaultKind) -> Option<Fault>
+    ensures { result ≡ leftmost least (fault_at place kind ∷ []) }
+{
+    let fault = Fault { place, kind };
+    match least {
+        Some(other) => {
+            if is_before(fault, other) {
+                Some(fault)
+            } else {
+                Some(other)
+            }
+        }
+        None => Some(fault),
+    }
+}

@@ -1,0 +1,98 @@
+//! Numbers and costs.
+
+ghost use Rattle.std.specs.Prelude.{◌≡◌, ◌==◌, ◌<◌, length, position, IfSome};
+ghost use Rattle.std.specs.List.{list_all};
+ghost use Rattle.mp_sexp.specs.Words.{is_digit as digit_of};
+ghost use Rattle.mp_factor.specs.Numbers.{whole_part as whole_part_of, decimals as decimals_of, is_digits as digits_test, is_number as number_test, least_of_whole, cost_of};
+
+use crate::words::is_digit;
+
+/// The greatest cost.
+pub const GREATEST_COST: u64 = 1_000_000;
+
+/// Whether these are digits.
+fn are_digits(bytes: &[u8]) -> bool
+    ensures { result ≡ list_all digit_of bytes.now }
+{
+    bytes.iter().all(|byte| is_digit(*byte))
+}
+
+/// Where the first point stands.
+fn point(word: &[u8]) -> Option<usize>
+    ensures point { result ≡ position (λ b. b == 46) word.now }
+    ensures within { IfSome result (λ at. at < length word.now) }
+{
+    word.iter().position(|byte| *byte == b'.')
+}
+
+/// Whether these are one or more digits.
+fn is_digits(bytes: &[u8]) -> bool
+    ensures { result ≡ digits_test bytes.now }
+{
+    !bytes.is_empty() && are_digits(bytes)
+}
+
+/// What stands before the first point.
+#[tactic(auto, using(crate::proofs::Steps::leftmost_append), unfolding(crate::specs::Numbers::whole_part))]
+fn whole_part(word: &[u8]) -> &[u8]
+    ensures { result.now ≡ whole_part_of word.now }
+{
+    match point(word) {
+        Some(at) => &word[..at],
+        None => word,
+    }
+}
+
+/// What stands behind the first point.
+#[tactic(auto, using(crate::proofs::Steps::leftmost_append), unfolding(crate::specs::Numbers::decimals))]
+fn decimals(word: &[u8]) -> &[u8]
+    ensures { result.now ≡ decimals_of word.now }
+{
+    match point(word) {
+        Some(at) => &word[at + 1..],
+        None => b"0",
+    }
+}
+
+/// Whether a word is a number: digits, or digits, a point and digits.
+#[tactic(auto, using(crate::proofs::Steps::leftmost_append), unfolding(crate::specs::Numbers::is_number))]
+pub fn is_number(word: &[u8]) -> bool
+    ensures { result ≡ number_test word.now }
+{
+    is_digits(whole_part(word)) && is_digits(decimals(word))
+}
+
+/// The value of these digits, or 1,000,001 where it is above the greatest cost.
+#[tactic(auto, using(crate::proofs::Steps::leftmost_append), unfolding(crate::specs::Numbers::least_of_whole))]
+fn least_value(digits: &[u8]) -> u64
+    ensures { result ≡ least_of_whole digits.now }
+{
+    let mut value: u64 = 0;
+    for digit in digits {
+        value = (value * 10 + digit.saturating_sub(b'0') as u64).min(GREATEST_COST + 1);
+    }
+    value
+}
+
+/// Whether these are zeros.
+fn are_zeros(bytes: &[u8]) -> bool
+    ensures { result ≡ list_all (λ b. b == 48) bytes.now }
+{
+    bytes.iter().all(|byte| *byte == b'0')
+}
+
+/// The cost that a number is: none where it has decimals other than zeros, or is above 1,000,000.
+#[tactic(auto, using(crate::proofs::Steps::leftmost_append), unfolding(crate::specs::Numbers::cost_of))]
+pub fn cost(word: &[u8]) -> Option<u64>
+    ensures { result ≡ cost_of word.now }
+{
+    if !is_number(word) || !are_zeros(decimals(word)) {
+        return None;
+    }
+    let value = least_value(whole_part(word));
+    if value <= GREATEST_COST {
+        Some(value)
+    } else {
+        None
+    }
+}

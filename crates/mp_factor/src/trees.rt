@@ -1,0 +1,105 @@
+//! Words and lists of a tree.
+
+ghost use Rattle.std.specs.Prelude.{◌≡◌};
+ghost use Rattle.std.specs.Str.{bytes_eq};
+ghost use Rattle.mp_sexp.specs.Node.{node_of, nodes_in};
+ghost use Rattle.mp_sexp.specs.Plain.{is_word as word_test};
+ghost use Rattle.mp_factor.specs.Parts.{place_of, word_of, parts, is_list as list_test, is_headed as headed_test, is_name_word, is_variable_word, is_term as term_test, is_fixed_word, is_same_word as same_word_test};
+
+use crate::words;
+use mp_sexp::{Place, Tree};
+
+/// Where a tree stands.
+pub fn place(tree: &Tree) -> Place
+    ensures { result ≡ place_of (node_of tree.now) }
+{
+    match tree {
+        Tree::Word(_, place) => *place,
+        Tree::List(_, place) => *place,
+    }
+}
+
+/// The bytes of a word; those of a list are none.
+pub fn word(tree: &Tree) -> &[u8]
+    ensures { result.now ≡ word_of (node_of tree.now) }
+{
+    match tree {
+        Tree::Word(name, _) => name.as_slice(),
+        Tree::List(_, _) => b"",
+    }
+}
+
+/// The members of a list; those of a word are none.
+pub fn members(tree: &Tree) -> &[Tree]
+    ensures { nodes_in result.now ≡ parts (node_of tree.now) }
+{
+    match tree {
+        Tree::Word(_, _) => &[],
+        Tree::List(list, _) => list.items.as_slice(),
+    }
+}
+
+/// Whether a tree is a list.
+pub fn is_list(tree: &Tree) -> bool
+    ensures { result ≡ list_test (node_of tree.now) }
+{
+    match tree {
+        Tree::Word(_, _) => false,
+        Tree::List(_, _) => true,
+    }
+}
+
+/// Whether a tree is this word.
+pub fn is_word(tree: &Tree, keyword: &[u8]) -> bool
+    ensures { result ≡ word_test keyword.now (node_of tree.now) }
+{
+    match tree {
+        Tree::Word(name, _) => words::is_same(name.as_slice(), keyword),
+        Tree::List(_, _) => false,
+    }
+}
+
+/// Whether two trees are the same word.
+pub fn is_same_word(a: &Tree, b: &Tree) -> bool
+    ensures { result ≡ same_word_test (node_of a.now) (node_of b.now) }
+{
+    !is_list(a) && is_word(b, word(a))
+}
+
+/// Whether a tree is a list that begins with this word.
+pub fn is_headed(tree: &Tree, keyword: &[u8]) -> bool
+    ensures { result ≡ headed_test keyword.now (node_of tree.now) }
+{
+    match members(tree) {
+        [] => false,
+        [head, ..] => is_word(head, keyword),
+    }
+}
+
+/// Whether a tree is a name.
+pub fn is_name(tree: &Tree) -> bool
+    ensures { result ≡ is_name_word (node_of tree.now) }
+{
+    words::is_name(word(tree))
+}
+
+/// Whether a tree is a variable.
+pub fn is_variable(tree: &Tree) -> bool
+    ensures { result ≡ is_variable_word (node_of tree.now) }
+{
+    words::is_variable(word(tree))
+}
+
+/// Whether a tree is a name or a variable.
+pub fn is_term(tree: &Tree) -> bool
+    ensures { result ≡ term_test (node_of tree.now) }
+{
+    is_name(tree) || is_variable(tree)
+}
+
+/// Whether a tree is a word with a meaning of its own.
+pub fn is_fixed(tree: &Tree) -> bool
+    ensures { result ≡ is_fixed_word (node_of tree.now) }
+{
+    words::is_fixed(word(tree))
+}
