@@ -82,21 +82,22 @@ unfoldable pub has_section : List ℕ → List Node → Bool
 has_section keyword [] = false
 has_section keyword (n ∷ ns) = if is_headed keyword n then true else has_section keyword ns
 
--- a section like this stands among these; only actions may stand more than once
-unfoldable pub is_second : List Node → Node → Bool
-is_second before head = not (is_word (codes ":action") head) && has_section (word_of head) before
+-- a known section that stands among these too; only actions may stand more than once
+unfoldable pub is_second : FileKind → List Node → Node → Bool
+is_second file before head =
+    is_known (section_kind file head) && (not (is_word (codes ":action") head) && has_section (word_of head) before)
 
 -- a section with this first member and these behind it
 unfoldable pub headed_section_faults : FileKind → Bool → Place → Node → List Node → List Fault
 headed_section_faults file is_again whole head nodes =
     if is_list head then misshapen (place_of head)
     else (if not (is_known (section_kind file head)) && is_known (section_kind (other_file file) head) then misshapen whole
-    else (if is_known (section_kind file head) && is_again then misshapen whole
+    else (if is_again then misshapen whole
     else content_faults (section_kind file head) whole head nodes))
 
 abbrev pub section_parts : FileKind → List Node → Place → List Node → List Fault
 section_parts file before whole [] = misshapen whole
-section_parts file before whole (head ∷ nodes) = headed_section_faults file (is_second before head) whole head nodes
+section_parts file before whole (head ∷ nodes) = headed_section_faults file (is_second file before head) whole head nodes
 
 -- a section behind these
 unfoldable pub section_faults : FileKind → List Node → Node → List Fault

@@ -144,12 +144,14 @@ fn has_section(trees: &[Tree], keyword: &[u8]) -> bool
     false
 }
 
-/// Whether a section like this stands among these, and may stand once only.
+/// Whether a known section like this stands among these, and may stand once only.
 #[tactic(auto, using(crate::proofs::Steps::leftmost_append), unfolding(crate::specs::Files::is_second))]
-fn is_second(before: &[Tree], head: &Tree) -> bool
-    ensures { result ≡ second_test (nodes_in before.now) (node_of head.now) }
+fn is_second(file: FileKind, before: &[Tree], head: &Tree) -> bool
+    ensures { result ≡ second_test file (nodes_in before.now) (node_of head.now) }
 {
-    !is_word(head, b":action") && has_section(before, word(head))
+    section_kind(file, head) != SectionKind::Unknown
+        && !is_word(head, b":action")
+        && has_section(before, word(head))
 }
 
 /// The first fault, with those of a section that begins with this.
@@ -171,7 +173,7 @@ fn headed_section_fault(
         && section_kind(other(file), head) != SectionKind::Unknown
     {
         with(least, whole, FaultKind::Shape)
-    } else if kind != SectionKind::Unknown && is_again {
+    } else if is_again {
         with(least, whole, FaultKind::Shape)
     } else {
         content_fault(least, kind, whole, head, trees)
@@ -193,7 +195,7 @@ fn section_fault(
         [head, rest @ ..] => headed_section_fault(
             least,
             file,
-            is_second(before, head),
+            is_second(file, before, head),
             place(tree),
             head,
             rest,
