@@ -5,7 +5,7 @@ use Rattle.std.specs.Global.{Vec}
 use Rattle.mp_sexp.specs.declared.tree.Place.{Place}
 use Rattle.mp_sexp.specs.declared.tree.Tree.{Tree, List as tree_list}
 use Rattle.mp_sexp.specs.Node.{Node, node_of, nodes_from, nodes_in, node_list}
-use Rattle.mp_sexp.specs.Plain.{is_word}
+use Rattle.mp_factor.specs.Parts.{is_word}
 use Rattle.mp_sexp.proofs.Trees.{node_of-list, node_list-from}
 use Rattle.mp_factor.specs.declared.fault.Fault.{Fault}
 use Rattle.mp_factor.specs.Conditions.{condition_faults, condition_parts, conditions_among, conditions_faults, headed_faults}

@@ -5,3 +5,15 @@ pub mod EffectLemmas
 pub mod NumberLemmas
 pub mod WordLists
 pub mod FirstLemmas
+pub mod OneFirst
+pub mod BuildSteps
+pub mod AtomLemmas
+pub mod GatherLemmas
+pub mod WordPlaces
+pub mod NoFaults
+pub mod IncreaseLimits
+pub mod ParameterLimits
+pub mod CostLimits
+pub mod ValueLimits
+pub mod SchemaLimits
+pub mod LimitLemmas

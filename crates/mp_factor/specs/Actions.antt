@@ -7,8 +7,7 @@ use Rattle.mp_factor.specs.declared.typed.Last.TheVariants as last
 use Rattle.mp_factor.specs.declared.actions.Part.{Part}
 use Rattle.mp_factor.specs.declared.actions.Part.TheVariants.{Key, Parameters, Precondition, Effect, AgentVariable, AgentDash, AgentType}
 use Rattle.mp_sexp.specs.Node.{Node}
-use Rattle.mp_sexp.specs.Plain.{is_word}
-use Rattle.mp_factor.specs.Parts.{place_of, parts, is_list, is_variable_word, is_same_word}
+use Rattle.mp_factor.specs.Parts.{is_word, place_of, parts, is_list, is_variable_word, is_same_word}
 use Rattle.mp_factor.specs.Faults.{misshapen, unsupported, surplus}
 use Rattle.mp_factor.specs.Typed.{is_dash, name_faults, type_faults, typed_faults}
 use Rattle.mp_factor.specs.Conditions.{condition_faults}

@@ -4,8 +4,7 @@ use Rattle.std.specs.Prelude.{List, [], ◌∷◌, ◌++◌, if◌then◌else◌
 use Rattle.mp_sexp.specs.declared.tree.Place.{Place}
 use Rattle.mp_factor.specs.declared.fault.Fault.{Fault}
 use Rattle.mp_sexp.specs.Node.{Node, Nodes, word, list, none, more, node_list}
-use Rattle.mp_sexp.specs.Plain.{is_word}
-use Rattle.mp_factor.specs.Parts.{place_of, parts, is_term, is_name_word, is_fixed_word}
+use Rattle.mp_factor.specs.Parts.{is_word, place_of, parts, is_term, is_name_word, is_fixed_word}
 use Rattle.mp_factor.specs.Faults.{misshapen, unsupported}
 
 unfoldable pub term_faults : Node → List Fault

@@ -3,8 +3,7 @@ use Rattle.std.specs.Prelude.{ℕ, ◌+◌, ◌==◌, nat_le, List, [], ◌∷�
 use Rattle.mp_sexp.specs.declared.tree.Place.{Place}
 use Rattle.mp_factor.specs.declared.fault.Fault.{Fault}
 use Rattle.mp_sexp.specs.Node.{Node, Nodes, word, list, none, more, node_list}
-use Rattle.mp_sexp.specs.Plain.{is_word}
-use Rattle.mp_factor.specs.Parts.{place_of, word_of, parts, is_list, is_name_word}
+use Rattle.mp_factor.specs.Parts.{is_word, place_of, word_of, parts, is_list, is_name_word}
 use Rattle.mp_factor.specs.Numbers.{is_number, cost_of}
 use Rattle.mp_factor.specs.Faults.{misshapen, unsupported, costly}
 use Rattle.mp_factor.specs.Typed.{extra_faults}

@@ -9,8 +9,8 @@ use Rattle.mp_factor.specs.declared.fault.FaultKind.TheVariants.{Shape, Unsuppor
 abbrev pub rank_of : FaultKind → ℕ
 rank_of Shape = 0
 rank_of Unsupported = 1
-rank_of Parameters = 1
-rank_of Cost = 2
+rank_of Parameters = 2
+rank_of Cost = 3
 
 abbrev pub fault_at : Place → FaultKind → Fault
 fault_at place kind = record { place = place; kind = kind }

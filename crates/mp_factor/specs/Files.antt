@@ -2,16 +2,15 @@
 use Rattle.std.specs.Prelude.{ℕ, ◌&&◌, not, Bool, true, false, List, [], ◌∷◌, ◌++◌, if◌then◌else◌, codes}
 use Rattle.mp_sexp.specs.declared.tree.Place.{Place}
 use Rattle.mp_factor.specs.declared.fault.Fault.{Fault}
-use Rattle.mp_factor.specs.declared.files.FileKind.{FileKind}
-use Rattle.mp_factor.specs.declared.files.FileKind.TheVariants.{Domain, Problem}
+use Rattle.mp_factor.specs.declared.files.File.{File}
+use Rattle.mp_factor.specs.declared.files.File.TheVariants.{Domain, Problem}
 use Rattle.mp_factor.specs.declared.files.SectionKind.{SectionKind}
 use Rattle.mp_factor.specs.declared.files.SectionKind.TheVariants as kinds
 use Rattle.mp_factor.specs.declared.typed.ItemKind.TheVariants.{Names}
 use Rattle.mp_factor.specs.declared.typed.Last.TheVariants as last
 use Rattle.mp_factor.specs.declared.signatures.Declared.TheVariants.{Predicates, Functions}
 use Rattle.mp_sexp.specs.Node.{Node}
-use Rattle.mp_sexp.specs.Plain.{is_word}
-use Rattle.mp_factor.specs.Parts.{place_of, word_of, parts, is_list, is_headed}
+use Rattle.mp_factor.specs.Parts.{is_word, place_of, word_of, parts, is_list, is_headed}
 use Rattle.mp_factor.specs.Faults.{misshapen, unsupported}
 use Rattle.mp_factor.specs.Typed.{typed_faults}
 use Rattle.mp_factor.specs.Objects.{objects_faults}
@@ -40,11 +39,11 @@ problem_section_of head =
     else (if is_word (codes ":goal") head then kinds.Goal
     else (if is_word (codes ":metric") head then kinds.Metric else kinds.Unknown)))))
 
-abbrev pub section_kind : FileKind → Node → SectionKind
+abbrev pub section_kind : File → Node → SectionKind
 section_kind Domain head = domain_section_of head
 section_kind Problem head = problem_section_of head
 
-abbrev pub other_file : FileKind → FileKind
+abbrev pub other_file : File → File
 other_file Domain = Problem
 other_file Problem = Domain
 
@@ -83,27 +82,27 @@ has_section keyword [] = false
 has_section keyword (n ∷ ns) = if is_headed keyword n then true else has_section keyword ns
 
 -- a known section that stands among these too; only actions may stand more than once
-unfoldable pub is_second : FileKind → List Node → Node → Bool
+unfoldable pub is_second : File → List Node → Node → Bool
 is_second file before head =
     is_known (section_kind file head) && (not (is_word (codes ":action") head) && has_section (word_of head) before)
 
 -- a section with this first member and these behind it
-unfoldable pub headed_section_faults : FileKind → Bool → Place → Node → List Node → List Fault
+unfoldable pub headed_section_faults : File → Bool → Place → Node → List Node → List Fault
 headed_section_faults file is_again whole head nodes =
     if is_list head then misshapen (place_of head)
     else (if not (is_known (section_kind file head)) && is_known (section_kind (other_file file) head) then misshapen whole
     else (if is_again then misshapen whole
     else content_faults (section_kind file head) whole head nodes))
 
-abbrev pub section_parts : FileKind → List Node → Place → List Node → List Fault
+abbrev pub section_parts : File → List Node → Place → List Node → List Fault
 section_parts file before whole [] = misshapen whole
 section_parts file before whole (head ∷ nodes) = headed_section_faults file (is_second file before head) whole head nodes
 
 -- a section behind these
-unfoldable pub section_faults : FileKind → List Node → Node → List Fault
+unfoldable pub section_faults : File → List Node → Node → List Fault
 section_faults file before node = section_parts file before (place_of node) (parts node)
 
-unfoldable pub sections_faults : FileKind → List Node → List Node → List Fault
+unfoldable pub sections_faults : File → List Node → List Node → List Fault
 sections_faults file before [] = []
 sections_faults file before (n ∷ ns) = section_faults file before n ++ sections_faults file (before ++ n ∷ []) ns
 
@@ -118,21 +117,21 @@ title_parts keyword whole (head ∷ rest) = keyword_faults keyword head ++ owner
 unfoldable pub title_faults : List ℕ → Node → List Fault
 title_faults keyword node = title_parts keyword (place_of node) (parts node)
 
-abbrev pub is_problem : FileKind → Bool
+abbrev pub is_problem : File → Bool
 is_problem Domain = false
 is_problem Problem = true
 
 -- a problem says its domain
-unfoldable pub missing_domain : FileKind → Place → List Node → List Fault
+unfoldable pub missing_domain : File → Place → List Node → List Fault
 missing_domain file whole sections =
     if is_problem file && not (has_section (codes ":domain") sections) then misshapen whole else []
 
-abbrev pub kind_word_of : FileKind → List ℕ
+abbrev pub kind_word_of : File → List ℕ
 kind_word_of Domain = codes "domain"
 kind_word_of Problem = codes "problem"
 
 -- `(define (KIND NAME) SECTION ..)`, with these members
-unfoldable pub parts_faults : FileKind → Place → List Node → List Fault
+unfoldable pub parts_faults : File → Place → List Node → List Fault
 parts_faults file whole [] = misshapen whole
 parts_faults file whole (n ∷ []) = misshapen whole
 parts_faults file whole (head ∷ title ∷ sections) =
@@ -140,5 +139,5 @@ parts_faults file whole (head ∷ title ∷ sections) =
     ++ sections_faults file [] sections
 
 -- every fault of a file
-unfoldable pub file_faults : FileKind → Node → List Fault
+unfoldable pub file_faults : File → Node → List Fault
 file_faults file node = if is_list node then parts_faults file (place_of node) (parts node) else misshapen (place_of node)

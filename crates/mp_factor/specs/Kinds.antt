@@ -1,7 +1,7 @@
 -- The kinds of words of PDDL.
 use Rattle.std.specs.Prelude.{ℕ, ◌==◌, ◌&&◌, Bool, false, List, [], ◌∷◌}
 use Rattle.std.specs.List.{list_all}
-use Rattle.mp_sexp.specs.Words.{begins_with_letter, is_name_byte}
+use Rattle.mp_factor.specs.Words.{begins_with_letter, is_name_byte}
 
 -- a letter and then letters, digits, `-` and `_`
 unfoldable pub is_name : List ℕ → Bool

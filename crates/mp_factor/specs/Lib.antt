@@ -1,4 +1,5 @@
 pub mod Faults
+pub mod Words
 pub mod Kinds
 pub mod Numbers
 pub mod Parts
@@ -12,3 +13,15 @@ pub mod Init
 pub mod Sections
 pub mod Files
 pub mod First
+pub mod WordValues
+pub mod TypedValues
+pub mod SignatureValues
+pub mod AtomValues
+pub mod EffectValues
+pub mod SchemaValues
+pub mod InitValues
+pub mod FactorParts
+pub mod FactorFields
+pub mod FileValues
+pub mod Limits
+pub mod Shapes

@@ -1,7 +1,7 @@
 -- Numbers and costs.
 use Rattle.std.specs.Prelude.{ℕ, ◌==◌, ◌&&◌, ◌||◌, ◌+◌, ◌-◌, ◌*◌, nat_le, not, min, Bool, List, [], ◌∷◌, Option, Some, None, length, take, drop, position, if◌then◌else◌, codes}
 use Rattle.std.specs.List.{list_all}
-use Rattle.mp_sexp.specs.Words.{is_digit}
+use Rattle.mp_factor.specs.Words.{is_digit}
 
 abbrev pub greatest_cost : ℕ
 greatest_cost = 1000000

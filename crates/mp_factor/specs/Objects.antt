@@ -6,8 +6,7 @@ use Rattle.mp_factor.specs.declared.typed.ItemKind.TheVariants.{Names}
 use Rattle.mp_factor.specs.declared.typed.Last.{Last}
 use Rattle.mp_factor.specs.declared.typed.Last.TheVariants as last
 use Rattle.mp_sexp.specs.Node.{Node}
-use Rattle.mp_sexp.specs.Plain.{is_word}
-use Rattle.mp_factor.specs.Parts.{place_of, parts, is_list}
+use Rattle.mp_factor.specs.Parts.{is_word, place_of, parts, is_list}
 use Rattle.mp_factor.specs.Faults.{misshapen}
 use Rattle.mp_factor.specs.Typed.{state_behind, member_faults, missing_type, typed_faults}
 

@@ -1,9 +1,9 @@
 -- Words and lists of a tree.
 use Rattle.std.specs.Prelude.{ℕ, ◌&&◌, ◌||◌, not, Bool, true, false, List, [], ◌∷◌}
+use Rattle.std.specs.Str.{bytes_eq}
 use Rattle.mp_sexp.specs.declared.tree.Place.{Place}
 use Rattle.mp_sexp.specs.Node.{Node, word, list, node_list}
-use Rattle.mp_sexp.specs.Plain.{is_word}
-use Rattle.mp_sexp.specs.Words.{is_fixed}
+use Rattle.mp_factor.specs.Words.{is_fixed}
 use Rattle.mp_factor.specs.Kinds.{is_name, is_variable}
 
 abbrev pub place_of : Node → Place
@@ -20,9 +20,19 @@ abbrev pub parts : Node → List Node
 parts (word name place) = []
 parts (list nodes place) = node_list nodes
 
+-- the members behind the first one
+abbrev pub rest_of : List Node → List Node
+rest_of [] = []
+rest_of (n ∷ ns) = ns
+
 abbrev pub is_list : Node → Bool
 is_list (word name place) = false
 is_list (list nodes place) = true
+
+-- the node is this word
+abbrev pub is_word : List ℕ → Node → Bool
+is_word keyword (word name place) = bytes_eq name keyword
+is_word keyword (list nodes place) = false
 
 abbrev pub begins_with : List ℕ → List Node → Bool
 begins_with keyword [] = false

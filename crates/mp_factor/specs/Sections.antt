@@ -3,8 +3,7 @@ use Rattle.std.specs.Prelude.{◌&&◌, Bool, false, List, [], ◌∷◌, ◌++�
 use Rattle.mp_sexp.specs.declared.tree.Place.{Place}
 use Rattle.mp_factor.specs.declared.fault.Fault.{Fault}
 use Rattle.mp_sexp.specs.Node.{Node}
-use Rattle.mp_sexp.specs.Plain.{is_word}
-use Rattle.mp_factor.specs.Parts.{place_of, parts, is_list}
+use Rattle.mp_factor.specs.Parts.{is_word, place_of, parts, is_list}
 use Rattle.mp_factor.specs.Faults.{misshapen, unsupported}
 use Rattle.mp_factor.specs.Typed.{name_faults, extra_faults}
 use Rattle.mp_factor.specs.Conditions.{condition_faults}

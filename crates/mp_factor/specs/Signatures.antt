@@ -9,8 +9,7 @@ use Rattle.mp_factor.specs.declared.typed.Last.TheVariants as last
 use Rattle.mp_factor.specs.declared.signatures.Declared.{Declared}
 use Rattle.mp_factor.specs.declared.signatures.Declared.TheVariants.{Predicates, Functions}
 use Rattle.mp_sexp.specs.Node.{Node}
-use Rattle.mp_sexp.specs.Plain.{is_word}
-use Rattle.mp_factor.specs.Parts.{place_of, parts, is_list, is_headed, is_name_word, is_fixed_word}
+use Rattle.mp_factor.specs.Parts.{is_word, place_of, parts, is_list, is_headed, is_name_word, is_fixed_word}
 use Rattle.mp_factor.specs.Faults.{misshapen}
 use Rattle.mp_factor.specs.Typed.{is_dash, missing_type, typed_faults}
 

@@ -8,8 +8,7 @@ use Rattle.mp_factor.specs.declared.typed.ItemKind.TheVariants.{Names, Variables
 use Rattle.mp_factor.specs.declared.typed.Last.{Last}
 use Rattle.mp_factor.specs.declared.typed.Last.TheVariants as last
 use Rattle.mp_sexp.specs.Node.{Node}
-use Rattle.mp_sexp.specs.Plain.{is_word}
-use Rattle.mp_factor.specs.Parts.{place_of, parts, is_list, is_name_word, is_variable_word}
+use Rattle.mp_factor.specs.Parts.{is_word, place_of, parts, is_list, is_name_word, is_variable_word}
 use Rattle.mp_factor.specs.Faults.{misshapen}
 
 abbrev pub is_item : ItemKind → Node → Bool

@@ -47,7 +47,7 @@ fn behind_key(tree: &Tree) -> Part
 
 /// The part that follows this one.
 #[tactic(auto, using(crate::proofs::Steps::leftmost_append), unfolding(crate::specs::Actions::part_behind))]
-fn behind(part: Part, tree: &Tree) -> Part
+pub fn behind(part: Part, tree: &Tree) -> Part
     ensures { result ≡ part_behind part (node_of tree.now) }
 {
     match part {

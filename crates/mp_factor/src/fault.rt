@@ -32,8 +32,8 @@ fn rank(kind: FaultKind) -> u8
     match kind {
         FaultKind::Shape => 0,
         FaultKind::Unsupported => 1,
-        FaultKind::Parameters => 1,
-        FaultKind::Cost => 2,
+        FaultKind::Parameters => 2,
+        FaultKind::Cost => 3,
     }
 }
 

@@ -18,7 +18,7 @@ use mp_sexp::{Place, Tree};
 
 /// Which of an agent's two files.
 #[derive(Clone, Copy, Debug, PartialEq, Eq)]
-enum FileKind {
+pub enum File {
     Domain,
     Problem,
 }
@@ -85,22 +85,22 @@ fn problem_section(head: &Tree) -> SectionKind
 }
 
 /// What a section of this file says, by its first word.
-fn section_kind(file: FileKind, head: &Tree) -> SectionKind
+fn section_kind(file: File, head: &Tree) -> SectionKind
     ensures { result ≡ section_kind_of file (node_of head.now) }
 {
     match file {
-        FileKind::Domain => domain_section(head),
-        FileKind::Problem => problem_section(head),
+        File::Domain => domain_section(head),
+        File::Problem => problem_section(head),
     }
 }
 
 /// The other file.
-fn other(file: FileKind) -> FileKind
+fn other(file: File) -> File
     ensures { result ≡ other_file file }
 {
     match file {
-        FileKind::Domain => FileKind::Problem,
-        FileKind::Problem => FileKind::Domain,
+        File::Domain => File::Problem,
+        File::Problem => File::Domain,
     }
 }
 
@@ -133,7 +133,7 @@ fn content_fault(
 
 /// Whether a list that begins with this word stands among these.
 #[tactic(auto, using(crate::proofs::Steps::leftmost_append), unfolding(crate::specs::Files::has_section))]
-fn has_section(trees: &[Tree], keyword: &[u8]) -> bool
+pub fn has_section(trees: &[Tree], keyword: &[u8]) -> bool
     ensures { result ≡ has_section_of keyword.now (nodes_in trees.now) }
 {
     for tree in trees {
@@ -146,7 +146,7 @@ fn has_section(trees: &[Tree], keyword: &[u8]) -> bool
 
 /// Whether a known section like this stands among these, and may stand once only.
 #[tactic(auto, using(crate::proofs::Steps::leftmost_append), unfolding(crate::specs::Files::is_second))]
-fn is_second(file: FileKind, before: &[Tree], head: &Tree) -> bool
+fn is_second(file: File, before: &[Tree], head: &Tree) -> bool
     ensures { result ≡ second_test file (nodes_in before.now) (node_of head.now) }
 {
     section_kind(file, head) != SectionKind::Unknown
@@ -158,7 +158,7 @@ fn is_second(file: FileKind, before: &[Tree], head: &Tree) -> bool
 #[tactic(auto, using(crate::proofs::Steps::leftmost_append), unfolding(crate::specs::Files::headed_section_faults))]
 fn headed_section_fault(
     least: Option<Fault>,
-    file: FileKind,
+    file: File,
     is_again: bool,
     whole: Place,
     head: &Tree,
@@ -182,12 +182,7 @@ fn headed_section_fault(
 
 /// The first fault, with those of a section behind these.
 #[tactic(auto, using(crate::proofs::Steps::leftmost_append), unfolding(crate::specs::Files::section_faults))]
-fn section_fault(
-    least: Option<Fault>,
-    file: FileKind,
-    before: &[Tree],
-    tree: &Tree,
-) -> Option<Fault>
+fn section_fault(least: Option<Fault>, file: File, before: &[Tree], tree: &Tree) -> Option<Fault>
     ensures { result ≡ leftmost least (section_faults file (nodes_in before.now) (node_of tree.now)) }
 {
     match members(tree) {
@@ -205,7 +200,7 @@ fn section_fault(
 
 /// The first fault, with those of the sections.
 #[tactic(auto, using(crate::proofs::Steps::leftmost_append), unfolding(crate::specs::Files::sections_faults))]
-fn sections_fault(least: Option<Fault>, file: FileKind, trees: &[Tree]) -> Option<Fault>
+fn sections_fault(least: Option<Fault>, file: File, trees: &[Tree]) -> Option<Fault>
     ensures { result ≡ leftmost least (sections_faults file [] (nodes_in trees.now)) }
 {
     let mut first = least;
@@ -247,15 +242,10 @@ fn title_fault(least: Option<Fault>, keyword: &[u8], tree: &Tree) -> Option<Faul
 
 /// The first fault, with that of a problem that does not say its domain.
 #[tactic(auto, using(crate::proofs::Steps::leftmost_append), unfolding(crate::specs::Files::missing_domain))]
-fn missing_domain(
-    least: Option<Fault>,
-    file: FileKind,
-    whole: Place,
-    trees: &[Tree],
-) -> Option<Fault>
+fn missing_domain(least: Option<Fault>, file: File, whole: Place, trees: &[Tree]) -> Option<Fault>
     ensures { result ≡ leftmost least (missing_domain_of file whole (nodes_in trees.now)) }
 {
-    if file == FileKind::Problem && !has_section(trees, b":domain") {
+    if file == File::Problem && !has_section(trees, b":domain") {
         with(least, whole, FaultKind::Shape)
     } else {
         least
@@ -263,18 +253,18 @@ fn missing_domain(
 }
 
 /// The word that tells the file's kind.
-fn kind_word(file: FileKind) -> &'static [u8]
+fn kind_word(file: File) -> &'static [u8]
     ensures { result.now ≡ kind_word_of file }
 {
     match file {
-        FileKind::Domain => b"domain",
-        FileKind::Problem => b"problem",
+        File::Domain => b"domain",
+        File::Problem => b"problem",
     }
 }
 
 /// The first fault, with those of the members of the file's list.
 #[tactic(auto, using(crate::proofs::Steps::leftmost_append), unfolding(crate::specs::Files::parts_faults))]
-fn parts_fault(file: FileKind, whole: Place, trees: &[Tree]) -> Option<Fault>
+fn parts_fault(file: File, whole: Place, trees: &[Tree]) -> Option<Fault>
     ensures { result ≡ leftmost None (parts_faults file whole (nodes_in trees.now)) }
 {
     match trees {
@@ -291,7 +281,7 @@ fn parts_fault(file: FileKind, whole: Place, trees: &[Tree]) -> Option<Fault>
 
 /// The first fault of a file: none exactly where the file has the shape of a factor's file.
 #[tactic(auto, using(crate::proofs::Steps::leftmost_append), unfolding(crate::specs::Files::file_faults))]
-fn first_fault(file: FileKind, tree: &Tree) -> Option<Fault>
+fn first_fault(file: File, tree: &Tree) -> Option<Fault>
     ensures { result ≡ leftmost None (file_faults file (node_of tree.now)) }
 {
     if is_list(tree) {
@@ -304,15 +294,15 @@ fn first_fault(file: FileKind, tree: &Tree) -> Option<Fault>
 /// The first fault of a domain's tree, by its place and at one place by its kind: none exactly where the tree
 /// has the shape of a factor's domain.
 pub fn domain_fault(tree: &Tree) -> Option<Fault>
-    ensures { MatchOption result (file_faults FileKind.Domain (node_of tree.now) ≡ []) (λ fault. IsFirst (file_faults FileKind.Domain (node_of tree.now)) fault) }
+    ensures { MatchOption result (file_faults File.Domain (node_of tree.now) ≡ []) (λ fault. IsFirst (file_faults File.Domain (node_of tree.now)) fault) }
 {
-    first_fault(FileKind::Domain, tree)
+    first_fault(File::Domain, tree)
 }
 
 /// The first fault of a problem's tree, by its place and at one place by its kind: none exactly where the tree
 /// has the shape of a factor's problem.
 pub fn problem_fault(tree: &Tree) -> Option<Fault>
-    ensures { MatchOption result (file_faults FileKind.Problem (node_of tree.now) ≡ []) (λ fault. IsFirst (file_faults FileKind.Problem (node_of tree.now)) fault) }
+    ensures { MatchOption result (file_faults File.Problem (node_of tree.now) ≡ []) (λ fault. IsFirst (file_faults File.Problem (node_of tree.now)) fault) }
 {
-    first_fault(FileKind::Problem, tree)
+    first_fault(File::Problem, tree)
 }

@@ -1,22 +1,46 @@
-//! The shape of a factor's two files: whether a tree has it, and otherwise its first fault with the place.
+//! The two files of a factor: what their trees say, or the first fault of their shape with its place.
 #![tactic(auto)]
 
 mod actions;
+mod atom_values;
 mod conditions;
+mod effect_values;
 mod effects;
+mod factor;
 mod fault;
 mod files;
 mod init;
+mod init_values;
+mod laws;
 mod numbers;
 mod objects;
+mod refusal;
+mod schema_values;
 mod sections;
+mod shape;
+mod signature_values;
 mod signatures;
 mod trees;
 mod typed;
+mod typed_values;
+mod word;
 mod words;
 
+pub use atom_values::{Atom, AtomList, Term, TermList};
+pub use effect_values::{Increase, IncreaseList};
+pub use factor::{Domain, Factor, Problem};
 pub use fault::{Fault, FaultKind};
-pub use files::{domain_fault, problem_fault};
+pub use files::{File, domain_fault, problem_fault};
+pub use init_values::{Value, ValueList};
+pub use laws::first_fault_is_one;
+pub use refusal::ShapeRefusal;
+pub use schema_values::{Schema, SchemaList};
+pub use shape::{domain, problem};
+pub use signature_values::{Signature, SignatureList};
+pub use typed_values::{Typed, TypedList};
+pub use word::{Word, WordList};
 
 #[cfg(test)]
 mod tests;
+#[cfg(test)]
+mod tests_of_values;

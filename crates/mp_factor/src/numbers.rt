@@ -2,7 +2,7 @@
 
 ghost use Rattle.std.specs.Prelude.{◌≡◌, ◌==◌, ◌<◌, length, position, IfSome};
 ghost use Rattle.std.specs.List.{list_all};
-ghost use Rattle.mp_sexp.specs.Words.{is_digit as digit_of};
+ghost use Rattle.mp_factor.specs.Words.{is_digit as digit_of};
 ghost use Rattle.mp_factor.specs.Numbers.{whole_part as whole_part_of, decimals as decimals_of, is_digits as digits_test, is_number as number_test, least_of_whole, cost_of};
 
 use crate::words::is_digit;

@@ -3,8 +3,7 @@
 ghost use Rattle.std.specs.Prelude.{◌≡◌};
 ghost use Rattle.std.specs.Str.{bytes_eq};
 ghost use Rattle.mp_sexp.specs.Node.{node_of, nodes_in};
-ghost use Rattle.mp_sexp.specs.Plain.{is_word as word_test};
-ghost use Rattle.mp_factor.specs.Parts.{place_of, word_of, parts, is_list as list_test, is_headed as headed_test, is_name_word, is_variable_word, is_term as term_test, is_fixed_word, is_same_word as same_word_test};
+ghost use Rattle.mp_factor.specs.Parts.{is_word as word_test, place_of, word_of, parts, is_list as list_test, is_headed as headed_test, is_name_word, is_variable_word, is_term as term_test, is_fixed_word, is_same_word as same_word_test, rest_of};
 
 use crate::words;
 use mp_sexp::{Place, Tree};
@@ -36,6 +35,16 @@ pub fn members(tree: &Tree) -> &[Tree]
     match tree {
         Tree::Word(_, _) => &[],
         Tree::List(list, _) => list.items.as_slice(),
+    }
+}
+
+/// The members behind the first one.
+pub fn behind_first(trees: &[Tree]) -> &[Tree]
+    ensures { nodes_in result.now ≡ rest_of (nodes_in trees.now) }
+{
+    match trees {
+        [] => &[],
+        [_, rest @ ..] => rest,
     }
 }
 

@@ -11,8 +11,8 @@ use Rattle.mp_joint.specs.Plan as joint
 use Rattle.mp_joint.specs.declared.plan.PlanStep.{PlanStep}
 use Rattle.mp_search.specs.Facts.{Facts}
 use Rattle.mp_search.specs.Task as task
-use Rattle.mp_sexp.specs.declared.plain_form.PlainAction.{PlainAction}
-use Rattle.mp_sexp.specs.declared.plain_form.PlainFactor.{PlainFactor}
+use Rattle.mp_plain.specs.declared.form.PlainAction.{PlainAction}
+use Rattle.mp_plain.specs.declared.form.PlainFactor.{PlainFactor}
 use Rattle.std.specs.Str.{bytes_eq}
 use Rattle.mp_plain.specs.Numbered.{numbered, numbered_action}
 use Rattle.mp_plain.specs.PlainPart.{fact, instance, instance_at, is_declared, plain_part, IsWellFormed, action_named}

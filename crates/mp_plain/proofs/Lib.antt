@@ -1,10 +1,16 @@
+pub mod Alike
 pub mod Back
 pub mod Bools
+pub mod CheckedAtoms
+pub mod CheckedParts
+pub mod DistinctNames
 pub mod Formed
 pub mod Least
 pub mod Names
+pub mod NoTerms
 pub mod Numbers
 pub mod Plans
 pub mod Runs
+pub mod SameParts
 pub mod Small
 pub mod States

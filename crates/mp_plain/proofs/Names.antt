@@ -6,7 +6,7 @@ use Rattle.std.specs.List.{list_any, find}
 use Rattle.std.specs.Prelude.{slice_get, not}
 use Rattle.std.specs.Str.{bytes_eq}
 use Rattle.mp_joint.specs.Fact.{is_among, is_listed, same_fact}
-use Rattle.mp_sexp.specs.declared.plain_form.PlainAction.{PlainAction}
+use Rattle.mp_plain.specs.declared.form.PlainAction.{PlainAction}
 use Rattle.mp_plain.specs.Numbered.{number_in}
 use Rattle.mp_plain.specs.PlainPart.{fact, are_listed, are_distinct}
 use Rattle.mp_plain.proofs.Bools.{and_left, and_right, and_true, same_tests, false_where_not_true}

@@ -6,7 +6,7 @@ use Rattle.std.specs.Option.{option_map}
 use Rattle.std.specs.List.{cons_option}
 use Rattle.std.specs.Prelude.{slice_get}
 use Rattle.mp_joint.specs.declared.plan.PlanStep.{PlanStep}
-use Rattle.mp_sexp.specs.declared.plain_form.PlainAction.{PlainAction}
+use Rattle.mp_plain.specs.declared.form.PlainAction.{PlainAction}
 use Rattle.mp_plain.specs.Numbered.{named_plan, step_of}
 
 next : (actions : List PlainAction) (numbers : List ℕ) (i : ℕ) → i < length numbers → named_plan actions (take (i + 1) numbers) ≡ named_plan actions (take i numbers) ++ cons_option (option_map step_of (slice_get actions (get_or numbers i 0))) []

@@ -9,8 +9,8 @@ use Rattle.mp_joint.specs.Plan as joint
 use Rattle.mp_joint.specs.Plan.{Part}
 use Rattle.mp_search.specs.Facts.{Facts}
 use Rattle.mp_search.specs.Task as task
-use Rattle.mp_sexp.specs.declared.plain_form.PlainAction.{PlainAction}
-use Rattle.mp_sexp.specs.declared.plain_form.PlainFactor.{PlainFactor}
+use Rattle.mp_plain.specs.declared.form.PlainAction.{PlainAction}
+use Rattle.mp_plain.specs.declared.form.PlainFactor.{PlainFactor}
 use Rattle.mp_plain.specs.Numbered.{numbered, numbered_action, named_plan, step_of}
 use Rattle.mp_plain.specs.PlainPart.{fact, instance, is_declared, plain_part, IsWellFormed}
 use Rattle.mp_plain.proofs.Bools.{and_left, and_right}

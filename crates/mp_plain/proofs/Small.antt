@@ -8,8 +8,8 @@ use Rattle.mp_plain.proofs.Bools.{and_left, and_right}
 use Rattle.mp_joint.specs.Fact.{is_listed}
 use Rattle.mp_search.specs.Task.{IsSmall, IsSmallAction}
 use Rattle.mp_search.specs.declared.task.PlainTask.{PlainTask}
-use Rattle.mp_sexp.specs.declared.plain_form.PlainAction.{PlainAction}
-use Rattle.mp_sexp.specs.declared.plain_form.PlainFactor.{PlainFactor}
+use Rattle.mp_plain.specs.declared.form.PlainAction.{PlainAction}
+use Rattle.mp_plain.specs.declared.form.PlainFactor.{PlainFactor}
 use Rattle.mp_plain.specs.PlainPart.{IsWellFormed, are_listed, is_declared}
 use Rattle.mp_plain.specs.Numbered.{number_in, numbered, numbered_action}
 

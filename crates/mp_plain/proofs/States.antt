@@ -10,7 +10,7 @@ use Rattle.mp_joint.specs.Fact.{is_listed, is_among}
 use Rattle.mp_joint.specs.Instance as named
 use Rattle.mp_search.specs.Facts.{Facts, all_true}
 use Rattle.mp_search.specs.Task as task
-use Rattle.mp_sexp.specs.declared.plain_form.PlainAction.{PlainAction}
+use Rattle.mp_plain.specs.declared.form.PlainAction.{PlainAction}
 use Rattle.mp_plain.specs.Numbered.{number_in, numbered_action}
 use Rattle.mp_plain.specs.PlainPart.{fact, instance, are_listed, is_declared}
 use Rattle.mp_plain.proofs.Bools.{and_left, and_right}

@@ -6,8 +6,8 @@ use Rattle.std.specs.Option.{option_map}
 use Rattle.std.specs.Str.{bytes_eq}
 use Rattle.mp_joint.specs.Fact.{Text}
 use Rattle.mp_joint.specs.declared.plan.PlanStep.{PlanStep}
-use Rattle.mp_sexp.specs.declared.plain_form.PlainAction.{PlainAction}
-use Rattle.mp_sexp.specs.declared.plain_form.PlainFactor.{PlainFactor}
+use Rattle.mp_plain.specs.declared.form.PlainAction.{PlainAction}
+use Rattle.mp_plain.specs.declared.form.PlainFactor.{PlainFactor}
 use Rattle.mp_search.specs.declared.task.Action.{Action}
 use Rattle.mp_search.specs.declared.task.PlainTask.{PlainTask}
 

@@ -1,6 +1,6 @@
 -- What a plain factor brings into the united problem. It has no private names, no parameters and no metric, so
 -- that its facts are public and each instance costs 1.
-use Rattle.std.specs.Prelude.{◌≤◌, ◌≡◌, ◌^◌, Bool, true, not, ◌&&◌, Option, Some, None, List, [], ◌∷◌, length, map, find, IsTrue}
+use Rattle.std.specs.Prelude.{◌≤◌, ◌^◌, Bool, true, not, ◌&&◌, Option, None, List, [], ◌∷◌, length, map, find, IsTrue}
 use Rattle.std.specs.Option.{option_map}
 use Rattle.std.specs.List.{list_all}
 use Rattle.std.specs.Str.{bytes_eq}
@@ -8,10 +8,10 @@ use Rattle.mp_joint.specs.declared.fact.NamedFact.{NamedFact}
 use Rattle.mp_joint.specs.Fact.{Text, Privates, named, is_listed}
 use Rattle.mp_joint.specs.Instance.{Instance}
 use Rattle.mp_joint.specs.Plan.{Part}
-use Rattle.mp_sexp.specs.Node.{Node}
-use Rattle.mp_sexp.specs.Plain.{factor_of}
-use Rattle.mp_sexp.specs.declared.plain_form.PlainAction.{PlainAction}
-use Rattle.mp_sexp.specs.declared.plain_form.PlainFactor.{PlainFactor}
+use Rattle.mp_factor.specs.declared.factor.Factor.{Factor}
+use Rattle.mp_plain.specs.PlainForm.{Makes}
+use Rattle.mp_plain.specs.declared.form.PlainAction.{PlainAction}
+use Rattle.mp_plain.specs.declared.form.PlainFactor.{PlainFactor}
 
 abbrev pub no_privates : Privates
 no_privates = record { predicates = []; objects = [] }
@@ -50,9 +50,9 @@ are_distinct (n ∷ ns) = not (is_listed n ns) && are_distinct ns
 abbrev pub is_declared : List Text → PlainAction → Bool
 is_declared declared a = are_listed a.pre declared && (are_listed a.add declared && are_listed a.del declared)
 
--- the factor that two trees of the plain form make
+-- the plain factor that some checked factor makes
 abbrev pub IsRead : PlainFactor → Type 0
-IsRead factor = (domain problem : Node) × (factor_of domain problem ≡ Some factor)
+IsRead plain = (factor : Factor) × Makes factor plain
 
 -- At most sixteen predicates, all different; all actions different, at most 2 ^ 31 of them; every atom declared.
 pub record IsWellFormed (factor : PlainFactor) : Type 0 where

@@ -2,10 +2,12 @@
 //! problem, and the task in numbers that stands for it.
 #![tactic(auto)]
 
+mod form;
 mod naming;
 mod numbering;
 mod solving;
 
+pub use form::{PlainAction, PlainFactor, PlainRefusal, plain};
 pub use solving::{Found, solve};
 
 #[cfg(test)]

@@ -5,9 +5,10 @@ ghost use Rattle.mp_plain.specs.PlainPart.{IsRead};
 ghost use Rattle.mp_plain.specs.Numbered.{number_in, numbered, numbered_action};
 ghost use Rattle.mp_search.specs.Task.{IsSmall};
 
+use crate::form::{PlainAction, PlainFactor};
 use mp_list::{List, OutOfMemory};
 use mp_search::{Action, ActionList, PlainTask};
-use mp_sexp::{Name, NameList, PlainAction, PlainFactor};
+use mp_sexp::{Name, NameList};
 use std::alloc::Global;
 
 /// The number of a predicate: its place among the declared ones, from 0, or how many there are where it is not

@@ -2,15 +2,17 @@
 
 ghost use Rattle.std.specs.Prelude.{◌≡◌, IfOk};
 ghost use Rattle.mp_plain.specs.PlainAnswer.{IsFound};
+ghost use Rattle.mp_factor.specs.declared.factor.Factor.{Factor};
+ghost use Rattle.mp_plain.specs.PlainForm.{Makes};
 ghost use Rattle.mp_plain.specs.PlainPart.{IsRead};
 ghost use Rattle.mp_search.specs.Outcome.{IsDecided};
 
+use crate::form::PlainFactor;
 use crate::naming::steps;
 use crate::numbering::numbered_task;
 use mp_joint::{Agent, JointPlan};
 use mp_list::OutOfMemory;
 use mp_search::{Answer, uniform};
-use mp_sexp::PlainFactor;
 use std::alloc::Global;
 
 /// What a search found.
@@ -24,11 +26,12 @@ pub struct Found {
     pub expanded: u64,
 }
 
-/// Searches for a cheapest plan of a plain factor. Refuses only for want of memory.
+/// Searches for a cheapest plan of a plain factor: what is found is right for each checked factor that makes it.
+/// Refuses only for want of memory.
 pub fn solve(alloc: Global, factor: &PlainFactor) -> Result<Found, OutOfMemory>
     requires { IsRead factor.now }
     ensures decided { IfOk result (λ found. IsDecided found.answer) }
-    ensures found { IfOk result (λ found. IsFound factor.now found.answer found.expanded found.plan) }
+    ensures found { IfOk result (λ found. (made : Factor) → Makes made factor.now → IsFound made found.answer found.expanded found.plan) }
 {
     let task = numbered_task(alloc, factor)?;
     let alone = uniform(alloc, &task)?;

@@ -1,10 +1,15 @@
-//! The lamp, from its texts to its plan.
+//! Plain factors from their texts to their tasks and plans in a printed form, by hand.
+
+ghost use Rattle.std.specs.Prelude.{◌<◌, ◌^◌, length};
 
 use super::*;
 use crate::numbering::numbered_task;
-use mp_joint::Agent;
-use mp_search::Answer;
-use mp_sexp::{plain, read};
+use mp_factor::{File, domain, problem};
+use mp_list::{List, OutOfMemory};
+use mp_search::{Action, Answer, PlainTask};
+use mp_sexp::read;
+use mp_typing::{CheckedFactor, check};
+use std::alloc::Global;
 use std::test::Fail;
 
 const LAMP: &[u8] =
@@ -12,29 +17,189 @@ const LAMP: &[u8] =
 
 const LAMP_PROBLEM: &[u8] = b"(define (problem one) (:domain lamp) (:init) (:goal (on)))";
 
+/// A door is opened with a key, which breaks, and then gone through.
+const DOOR: &[u8] =
+    b"(define (domain door) (:predicates (key) (open) (in)) (:action go :precondition (and (open)) :effect (in)) (:action turn :precondition (key) :effect (and (open) (and (not (key))))))";
+
+const DOOR_PROBLEM: &[u8] =
+    b"(define (problem two) (:domain door) (:init (key)) (:goal (and (in) (open))))";
+
+/// The factor of two texts, when nothing is wrong with it.
+fn factor(alloc: Global, first: &[u8], second: &[u8]) -> Result<CheckedFactor, Fail>
+    requires domain { length first.now < 2 ^ 31 }
+    requires problem { length second.now < 2 ^ 31 }
+{
+    let domain_tree = read(alloc, first)?;
+    let problem_tree = read(alloc, second)?;
+    let Ok(said) = domain(alloc, &domain_tree) else {
+        return Err(Fail::from("a domain"));
+    };
+    let Ok(also) = problem(alloc, &problem_tree) else {
+        return Err(Fail::from("a problem"));
+    };
+    match check(alloc, said, also) {
+        Ok(factor) => Ok(factor),
+        Err(_) => Err(Fail::from("nothing wrong")),
+    }
+}
+
+fn show(out: &mut Vec<u8>, bytes: &[u8]) -> Result<(), OutOfMemory> {
+    out.extend_from_slice(bytes)?;
+    Ok(())
+}
+
+/// Appends numbers below ten, one behind the other.
+fn show_numbers(out: &mut Vec<u8>, numbers: &List<u32>) -> Result<(), OutOfMemory> {
+    for number in numbers.as_slice() {
+        out.push(b'0' + (*number).min(9) as u8)?;
+    }
+    Ok(())
+}
+
+/// Appends ` PRECONDITIONS/ADDS/DELETES`.
+fn show_action(out: &mut Vec<u8>, action: &Action) -> Result<(), OutOfMemory> {
+    show(out, b" ")?;
+    show_numbers(out, &action.pre)?;
+    show(out, b"/")?;
+    show_numbers(out, &action.add)?;
+    show(out, b"/")?;
+    show_numbers(out, &action.del)
+}
+
+/// Appends `START GOAL` and the actions.
+fn show_task(out: &mut Vec<u8>, task: &PlainTask) -> Result<(), OutOfMemory> {
+    show_numbers(out, &task.start)?;
+    show(out, b" ")?;
+    show_numbers(out, &task.goal)?;
+    for action in task.actions.as_slice() {
+        show_action(out, action)?;
+    }
+    Ok(())
+}
+
+/// Appends the task of a plain factor.
+fn show_numbered(
+    alloc: Global,
+    out: &mut Vec<u8>,
+    checked: &CheckedFactor,
+) -> Result<(), PlainRefusal> {
+    let form = plain(alloc, checked)?;
+    let task = numbered_task(alloc, &form)?;
+    show_task(out, &task)?;
+    Ok(())
+}
+
+/// Appends an answer and the names of the steps of its plan.
+fn show_found(out: &mut Vec<u8>, found: &Found) -> Result<(), OutOfMemory> {
+    match found.answer {
+        Answer::Solved { cost, length } => {
+            show(out, b": solved ")?;
+            out.push(b'0' + cost.min(9) as u8)?;
+            out.push(b'0' + length.min(9) as u8)?;
+        }
+        _ => show(out, b": none")?,
+    }
+    for step in found.plan.as_slice() {
+        show(out, b" ")?;
+        show(out, step.action.as_slice())?;
+    }
+    Ok(())
+}
+
+/// Appends what a search for a plan finds.
+fn show_solved(
+    alloc: Global,
+    out: &mut Vec<u8>,
+    checked: &CheckedFactor,
+) -> Result<(), PlainRefusal> {
+    let form = plain(alloc, checked)?;
+    let found = solve(alloc, &form)?;
+    show_found(out, &found)?;
+    Ok(())
+}
+
+/// Task, answer and plan of two texts, or the file that is not of the plain form.
+fn shown(alloc: Global, first: &[u8], second: &[u8]) -> Result<Vec<u8>, Fail>
+    requires domain { length first.now < 2 ^ 31 }
+    requires problem { length second.now < 2 ^ 31 }
+{
+    let checked = factor(alloc, first, second)?;
+    let mut out = Vec::new(alloc);
+    match show_numbered(alloc, &mut out, &checked) {
+        Ok(()) => {}
+        Err(PlainRefusal::NotBuilt(File::Domain)) => show(&mut out, b"domain")?,
+        Err(PlainRefusal::NotBuilt(File::Problem)) => show(&mut out, b"problem")?,
+        Err(PlainRefusal::OutOfMemory) => show(&mut out, b"memory")?,
+    }
+    let _ = show_solved(alloc, &mut out, &checked);
+    Ok(out)
+}
+
+const EMPTY: &[u8] = b"(define (domain d))";
+
+const NO_MORE: &[u8] = b"(define (problem p) (:domain d))";
+
+const METRIC: &[u8] = b"(define (problem p) (:domain d) (:metric minimize (total-cost)))";
+
+/// Two texts, and what is shown of them.
+const CASES: [(&[u8], &[u8], &[u8]); 13] = [
+    (LAMP, LAMP_PROBLEM, b" 0 /0/: solved 11 press"),
+    (DOOR, DOOR_PROBLEM, b"0 21 1/2/ 0/1/0: solved 22 turn go"),
+    (
+        b"(define (domain lamp) (:predicates (on)))",
+        LAMP_PROBLEM,
+        b" 0: none",
+    ),
+    (EMPTY, NO_MORE, b" : solved 00"),
+    (
+        b"(define (domain d) (:predicates (p ?x)))",
+        NO_MORE,
+        b"domain",
+    ),
+    (
+        b"(define (domain d) (:predicates (:private (p))))",
+        NO_MORE,
+        b"domain",
+    ),
+    (
+        b"(define (domain d) (:functions (:private (f))))",
+        NO_MORE,
+        b"domain",
+    ),
+    (
+        b"(define (domain d) (:constants (:private c)))",
+        NO_MORE,
+        b"domain",
+    ),
+    (
+        b"(define (domain d) (:action a :parameters (?x)))",
+        NO_MORE,
+        b"domain",
+    ),
+    (
+        b"(define (domain d) (:predicates (a) (b) (c) (d) (e) (f) (g) (h) (i) (j) (k) (l) (m) (n) (o) (p) (q)))",
+        NO_MORE,
+        b"domain",
+    ),
+    (EMPTY, METRIC, b"problem"),
+    (
+        EMPTY,
+        b"(define (problem p) (:domain d) (:objects (:private o)))",
+        b"problem",
+    ),
+    (
+        b"(define (domain d) (:predicates (p ?x)))",
+        METRIC,
+        b"domain",
+    ),
+];
+
 #[test]
-fn lamp(rt: HostRuntime) -> Result<(), Fail> {
-    let domain = read(rt.alloc(), LAMP)?;
-    let problem = read(rt.alloc(), LAMP_PROBLEM)?;
-    let factor = plain(rt.alloc(), &domain, &problem)?;
-    let task = numbered_task(rt.alloc(), &factor)?;
-    assert_eq!(rt; task.facts, 1);
-    assert_eq!(rt; task.start.len(), 0);
-    assert_eq!(rt; task.goal.as_slice(), [0].as_slice());
-    assert_eq!(rt; task.actions.len(), 1);
-    let press = task.actions.get(0).ok_or("an action")?;
-    assert_eq!(rt; press.pre.len(), 0);
-    assert_eq!(rt; press.add.as_slice(), [0].as_slice());
-    assert_eq!(rt; press.del.len(), 0);
-    assert_eq!(rt; press.cost, 1);
-    let found = solve(rt.alloc(), &factor)?;
-    let solved = Answer::Solved { cost: 1, length: 1 };
-    assert_eq!(rt; found.answer, solved);
-    assert_eq!(rt; found.expanded, 1);
-    assert_eq!(rt; found.plan.len(), 1);
-    let step = found.plan.get(0).ok_or("a step")?;
-    assert_eq!(rt; step.agent, Agent::first());
-    assert!(rt; step.action.is(b"press"));
-    assert_eq!(rt; step.args.len(), 0);
+fn plain_factors(rt: HostRuntime) -> Result<(), Fail> {
+    for (first, second, wanted) in CASES {
+        assert!(rt; first.len() < 10_000 && second.len() < 10_000);
+        let found = shown(rt.alloc(), first, second)?;
+        assert_eq!(rt; found.as_slice(), wanted, "{first:?}");
+    }
     Ok(())
 }

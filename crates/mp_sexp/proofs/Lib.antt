@@ -3,7 +3,6 @@ pub mod Runs
 pub mod KindLemmas
 pub mod Placed
 pub mod Complete
-pub mod Atoms
 pub mod Sound
 pub mod Depth
 pub mod FaultCounts

@@ -3,7 +3,5 @@ pub mod Fault
 pub mod Kinds
 pub mod Name
 pub mod Node
-pub mod Plain
 pub mod Reading
 pub mod Spelling
-pub mod Words

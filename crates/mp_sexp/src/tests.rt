@@ -10,13 +10,6 @@ const LAMP: &[u8] =
 const CUT: &[u8] =
     b"(define (domain lamp)\n (:predicates (on))\n (:action press :parameters () :precondition () :effect (on";
 
-const LAMP_PROBLEM: &[u8] = b"(define (problem one) (:domain lamp) (:init) (:goal (on)))\n";
-
-const LIT_PROBLEM: &[u8] = b"(define (problem lit) (:domain lamp) (:init (on)) (:goal (on)))\n";
-
-const OR: &[u8] =
-    b"(define (domain x) (:predicates (p)) (:action a :parameters () :precondition (or (p)) :effect (p)))";
-
 fn nested(alloc: Global, depth: u8) -> Result<Vec<u8>, AllocError> {
     let mut text = Vec::new(alloc);
     for _ in 0..depth {
@@ -120,28 +113,5 @@ fn places(rt: HostRuntime) -> Result<(), Fail> {
             }
         }
     }
-    Ok(())
-}
-
-#[test]
-fn factors(rt: HostRuntime) -> Result<(), Fail> {
-    let domain = read(rt.alloc(), LAMP)?;
-    for (text, lit) in [(LAMP_PROBLEM, 0), (LIT_PROBLEM, 1)] {
-        assert!(rt; text.len() < 1000);
-        let factor = plain(rt.alloc(), &domain, &read(rt.alloc(), text)?)?;
-        assert_eq!(rt; factor.predicates.len(), 1);
-        assert_eq!(rt; factor.init.len(), lit);
-        assert_eq!(rt; factor.goals.len(), 1);
-        let press = factor.actions.get(0).ok_or("an action")?;
-        assert!(rt; press.name.is(b"press"));
-        assert_eq!(rt; press.pre.len(), 0);
-        assert_eq!(rt; press.del.len(), 0);
-        assert!(rt; press.add.get(0).ok_or("an effect")?.is(b"on"));
-    }
-    let or = read(rt.alloc(), OR)?;
-    let refused = plain(rt.alloc(), &or, &read(rt.alloc(), LAMP_PROBLEM)?).err();
-    assert_eq!(rt; refused, Some(PlainRefusal::NotBuilt(File::Domain)));
-    let refused = plain(rt.alloc(), &domain, &or).err();
-    assert_eq!(rt; refused, Some(PlainRefusal::NotBuilt(File::Problem)));
     Ok(())
 }

@@ -1,17 +1,18 @@
 -- From what was fetched and read to what the files hold.
-use Rattle.std.proofs.Common.{◌≡◌, ℕ, ◌+◌, ◌<◌, ◌≤◌, ◌⊎◌, inl, inr, min, length, take, Option, Some, None, Result, Ok, Err, IfOk, IfErr, IfSome, IsSomeAnd, sym, subst, ap, ◌∙◌, arith}
+use Rattle.std.proofs.Common.{◌≡◌, ℕ, ◌+◌, ◌<◌, ◌≤◌, ◌⊎◌, inl, inr, min, length, take, Option, Some, None, Result, Ok, Err, IfOk, IfErr, IfSome, IsSomeAnd, refl, sym, subst, ap, ◌∙◌, arith}
 use Rattle.std.proofs.lemmas.List.{length-take, take_all}
 use Rattle.mp_joint.specs.Fact.{Text}
 use Rattle.mp_outside.specs.Source.{Files, IsFrontOf, FaultAt}
-use Rattle.mp_sexp.specs.Fault.{ReadFault}
-use Rattle.mp_sexp.specs.Node.{Node}
-use Rattle.mp_sexp.specs.Spelling.{HasTree}
-use Rattle.mp_sexp.specs.declared.plain_form.File.{File}
-use Rattle.mp_sexp.specs.declared.plain_form.File.TheVariants as file
-use Rattle.mp_sexp.specs.declared.plain_form.PlainFactor.{PlainFactor}
-use Rattle.mp_top.specs.Cause.{Rests, RestsOnFile, RestsOnForm, RestsOnTexts, IsTextOf, HaveFactor, CannotRead}
-use Rattle.mp_top.specs.Files.{HoldsFactor, AreFitting, longest_file}
-use Rattle.mp_top.specs.First.{IsFirst, IsFittingBefore, read_fault}
+use Rattle.mp_factor.specs.declared.files.File.{File}
+use Rattle.mp_factor.specs.declared.files.File.TheVariants as file
+use Rattle.mp_factor.specs.FactorParts.{DomainParts, ProblemParts}
+use Rattle.mp_plain.specs.declared.form.PlainFactor.{PlainFactor}
+use Rattle.mp_sexp.specs.declared.refusal.ReadRefusal.{ReadRefusal}
+use Rattle.mp_sexp.specs.declared.refusal.ReadRefusal.TheVariants as text
+use Rattle.mp_top.specs.Cause.{Rests, RestsOnFile, IsTextOf, CannotRead, IsFittingBefore}
+use Rattle.mp_top.specs.Files.{IsFirst, IsLong, MakesFactor, Reads, ReadsTexts, SaysDomain, SaysProblem, longest_file, text_refusal}
+use Rattle.mp_top.specs.Leads.{Leads}
+use Rattle.mp_top.specs.Reading.{Refuses}
 use Rattle.mp_top.specs.Refusal.{name_in}
 use Rattle.mp_top.specs.Words.{Request}
 use Rattle.mp_top.specs.declared.refusal.Refusal.{Refusal}
@@ -49,30 +50,44 @@ in_file : (P : Text → Type 0) (o : Option Text) (text : Text) → o ≡ Some t
 in_file P None text e p = absurd (cc)
 in_file P (Some t) text e p = let same : t ≡ text = cc in subst P (sym same) p
 
--- the two files are there and fit
-fitting : (files : Files) (request : Request) (domain problem : Text) → files request.domain ≡ Some domain → files request.problem ≡ Some problem → length domain ≤ longest_file → length problem ≤ longest_file → AreFitting files request
-fitting files request domain problem d p m n =
-    (in_file (λ t. length t ≤ longest_file) (files request.domain) domain d m, in_file (λ t. length t ≤ longest_file) (files request.problem) problem p n)
+pub plain_held : (held : Option Files) (request : Request) (domain problem : Text) (plain : PlainFactor) → IsTextOf held request.domain domain → IsTextOf held request.problem problem → length domain ≤ longest_file → length problem ≤ longest_file → Leads (ReadsTexts domain problem) plain → IfSome held (λ files. Leads (Reads files request) plain)
+plain_held None request domain problem plain d p m n h = tt
+plain_held (Some files) request domain problem plain d p m n (factor, h, made) = (factor, (domain, (d, m), (problem, (p, n), h)), made)
 
-pub factor_held : (held : Option Files) (request : Request) (domain problem : Text) (factor : PlainFactor) → IsTextOf held request.domain domain → IsTextOf held request.problem problem → length domain ≤ longest_file → length problem ≤ longest_file → HaveFactor domain problem factor → IfSome held (λ files. HoldsFactor files request factor)
-factor_held None request domain problem factor d p m n h = tt
-factor_held (Some files) request domain problem factor d p m n h = (
-  fitting files request domain problem d p m n,
-  (h.0, h.1, in_file (λ t. HasTree t h.0) (files request.domain) domain d h.2, in_file (λ t. HasTree t h.1) (files request.problem) problem p h.3, h.4),
-)
+-- no text and no shape is refused as a file that cannot be read
+text_not_read : (e : ReadRefusal) (at other : File) → why.Read other ≡ text_refusal at e → ⊥
+text_not_read (text.Char place) at other e = absurd (cc)
+text_not_read (text.Unbalanced place) at other e = absurd (cc)
+text_not_read (text.Trailing place) at other e = absurd (cc)
+text_not_read (text.Deep place) at other e = absurd (cc)
+text_not_read text.OutOfMemory at other e = absurd (cc)
+
+domain_not_read : (other : File) (text : Text) → SaysDomain text (Err (why.Read other)) → ⊥
+domain_not_read other text (inl h) = text_not_read h.0 file.Domain other h.2
+domain_not_read other text (inr h) = absurd (cc)
+
+problem_not_read : (other : File) (text : Text) → SaysProblem text (Err (why.Read other)) → ⊥
+problem_not_read other text (inl h) = text_not_read h.0 file.Problem other h.2
+problem_not_read other text (inr h) = absurd (cc)
+
+factor_not_read : (domain : DomainParts) (problem : ProblemParts) (other : File) → MakesFactor domain problem (Err (why.Read other)) → ⊥
+factor_not_read domain problem other (inl h) = absurd (cc)
+factor_not_read domain problem other (inr h) = h.2
+
+no_read : (domain problem : Text) (other : File) → ReadsTexts domain problem (Err (why.Read other)) → ⊥
+no_read domain problem other (inl h) = domain_not_read other domain h
+no_read domain problem other (inr (d, shape, inl h)) = problem_not_read other problem h
+no_read domain problem other (inr (d, shape, inr (p, also, h))) = factor_not_read d p other h
 
 -- a refusal of two texts is the first one
-pub texts_first : (held : Option Files) (before now : ℕ) (fault_at : Option Text) (request : Request) (domain problem : Text) (r : Refusal) → IsTextOf held request.domain domain → IsTextOf held request.problem problem → length domain ≤ longest_file → length problem ≤ longest_file → RestsOnTexts domain problem r → Rests held before now fault_at request r
-texts_first held before now fault_at request domain problem (why.Read at) d p m n h = absurd h
-texts_first held before now fault_at request domain problem (why.TooLarge at) d p m n h = absurd h
-texts_first None before now fault_at request domain problem (why.Text at kind place) d p m n h = tt
-texts_first (Some files) before now fault_at request domain problem (why.Text file.Domain kind place) d p m n h =
-    (fitting files request domain problem d p m n, tt, in_file (λ t. ReadFault t (read_fault kind place)) (files request.domain) domain d h.1)
-texts_first (Some files) before now fault_at request domain problem (why.Text file.Problem kind place) d p m n h =
-    (fitting files request domain problem d p m n, (h.0.0, in_file (λ t. HasTree t h.0.0) (files request.domain) domain d h.0.1), in_file (λ t. ReadFault t (read_fault kind place)) (files request.problem) problem p h.1.1)
+pub texts_first : (held : Option Files) (before now : ℕ) (fault_at : Option Text) (request : Request) (domain problem : Text) (r : Refusal) → IsTextOf held request.domain domain → IsTextOf held request.problem problem → length domain ≤ longest_file → length problem ≤ longest_file → Refuses (ReadsTexts domain problem) r → Rests held before now fault_at request r
+texts_first held before now fault_at request domain problem (why.Read at) d p m n h = absurd (no_read domain problem at h)
+texts_first None before now fault_at request domain problem (why.TooLarge at) d p m n h = tt
+texts_first (Some files) before now fault_at request domain problem (why.TooLarge at) d p m n h = inr (domain, (d, m), inr (problem, (p, n), h))
+texts_first None before now fault_at request domain problem (why.Fault at kind place) d p m n h = tt
+texts_first (Some files) before now fault_at request domain problem (why.Fault at kind place) d p m n h = inr (domain, (d, m), inr (problem, (p, n), h))
 texts_first None before now fault_at request domain problem (why.NotBuilt at) d p m n h = tt
-texts_first (Some files) before now fault_at request domain problem (why.NotBuilt at) d p m n h =
-    (fitting files request domain problem d p m n, (h.0, h.1, in_file (λ t. HasTree t h.0) (files request.domain) domain d h.2, in_file (λ t. HasTree t h.1) (files request.problem) problem p h.3, h.4))
+texts_first (Some files) before now fault_at request domain problem (why.NotBuilt at) d p m n h = inr (domain, (d, m), inr (problem, (p, n), h))
 texts_first held before now fault_at request domain problem why.Write d p m n h = absurd h
 texts_first held before now fault_at request domain problem why.Memory d p m n h = tt
 
@@ -88,17 +103,34 @@ always : {A : Type 0} (o : Option A) (P : A → Type 0) → ((x : A) → P x) �
 always None P f = tt
 always (Some x) P f = f x
 
+-- the text of a file that fits
+fitting_text : (o : Option Text) → IsSomeAnd o (λ t. length t ≤ longest_file) → (t : Text) × (o ≡ Some t) × (length t ≤ longest_file)
+fitting_text None h = absurd h
+fitting_text (Some t) h = (t, refl, h)
+
+absent_first : (files : Files) (request : Request) (at : File) → IsFittingBefore files request at → files (name_in request at) ≡ None → IsFirst files request (why.Read at)
+absent_first files request file.Domain fits absent = inl (refl, absent)
+absent_first files request file.Problem fits absent =
+    let domain = fitting_text (files request.domain) fits in
+    inr (domain.0, (domain.1, domain.2), inl (refl, absent))
+
+long_first : (files : Files) (request : Request) (at : File) → IsFittingBefore files request at → IsLong (files (name_in request at)) → IsFirst files request (why.TooLarge at)
+long_first files request file.Domain fits long = inl (refl, long)
+long_first files request file.Problem fits long =
+    let domain = fitting_text (files request.domain) fits in
+    inr (domain.0, (domain.1, domain.2), inl (refl, long))
+
 -- why a file cannot be read, where those before it fit
 cannot_read : (held : Option Files) (first before now : ℕ) (fault_at : Option Text) (request : Request) (at : File) → first ≤ before → IfSome held (λ files. IsFittingBefore files request at) → IsSomeAnd held (λ files. files (name_in request at) ≡ None) ⊎ ((before < now) × FaultAt held fault_at (Some (name_in request at))) → CannotRead held first now fault_at request at
 cannot_read None first before now fault_at request at le fits (inl absent) = absurd absent
-cannot_read (Some files) first before now fault_at request at le fits (inl absent) = inl (fits, absent)
+cannot_read (Some files) first before now fault_at request at le fits (inl absent) = inl (absent_first files request at fits absent)
 cannot_read held first before now fault_at request at le fits (inr fault) =
     let risen : before < now = fault.0 in
     inr (record { count = omega arith; place = fault.1; others = fits })
 
-too_large : (held : Option Files) (request : Request) (at : File) → IfSome held (λ files. IsFittingBefore files request at) → IfSome held (λ files. IsSomeAnd (files (name_in request at)) (λ t. longest_file < length t)) → IfSome held (λ files. IsFirst files request (why.TooLarge at))
+too_large : (held : Option Files) (request : Request) (at : File) → IfSome held (λ files. IsFittingBefore files request at) → IfSome held (λ files. IsLong (files (name_in request at))) → IfSome held (λ files. IsFirst files request (why.TooLarge at))
 too_large None request at fits long = tt
-too_large (Some files) request at fits long = (fits, long)
+too_large (Some files) request at fits long = long_first files request at fits long
 
 -- a refusal of a file is the first one, where the files before it fit
 pub file_first : (held : Option Files) (first before now : ℕ) (fault_at : Option Text) (request : Request) (at : File) (r : Refusal) → first ≤ before → IfSome held (λ files. IsFittingBefore files request at) → RestsOnFile held before now fault_at request at r → Rests held first now fault_at request r
@@ -106,7 +138,7 @@ file_first held first before now fault_at request at (why.Read other) le fits h 
     subst (λ a. CannotRead held first now fault_at request a) (sym h.0) (cannot_read held first before now fault_at request at le fits h.1)
 file_first held first before now fault_at request at (why.TooLarge other) le fits h =
     subst (λ a. IfSome held (λ files. IsFirst files request (why.TooLarge a))) (sym h.0) (too_large held request at fits h.1)
-file_first held first before now fault_at request at (why.Text other kind place) le fits h = absurd h
+file_first held first before now fault_at request at (why.Fault other kind place) le fits h = absurd h
 file_first held first before now fault_at request at (why.NotBuilt other) le fits h = absurd h
 file_first held first before now fault_at request at why.Write le fits h = absurd h
 file_first held first before now fault_at request at why.Memory le fits h = tt
@@ -118,15 +150,6 @@ none_before held request = always held _ (λ files. tt)
 -- the domain's file stands before the problem's
 pub domain_before : (held : Option Files) (request : Request) (domain : Text) → IsTextOf held request.domain domain → length domain ≤ longest_file → IfSome held (λ files. IsFittingBefore files request file.Problem)
 domain_before held request domain d m = if_some_and held (λ files. files request.domain ≡ Some domain) (λ files. IsFittingBefore files request file.Problem) (λ files e. in_file (λ t. length t ≤ longest_file) (files request.domain) domain e m) d
-
--- what two trees' forms rest on
-pub forms_rest : (domain problem : Text) (d p : Node) (r : Refusal) → HasTree domain d → HasTree problem p → RestsOnForm d p r → RestsOnTexts domain problem r
-forms_rest domain problem d p (why.Read at) m n h = absurd h
-forms_rest domain problem d p (why.TooLarge at) m n h = absurd h
-forms_rest domain problem d p (why.Text at kind place) m n h = absurd h
-forms_rest domain problem d p (why.NotBuilt at) m n h = (d, p, m, n, h)
-forms_rest domain problem d p why.Write m n h = absurd h
-forms_rest domain problem d p why.Memory m n h = tt
 
 -- through a result
 pub weaker : {X Y : Type 0} (r : Result X Y) (P Q : X → Type 0) → ((x : X) → P x → Q x) → IfOk r P → IfOk r Q

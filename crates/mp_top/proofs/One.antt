@@ -1,192 +1,183 @@
--- What files hold has one first refusal.
-use Rattle.std.proofs.Common.{◌≡◌, ◌<◌, ◌≤◌, length, Option, Some, None, IsSomeAnd, refl, sym, ap, ◌∙◌, subst, arith}
-use Rattle.std.specs.Prelude.{option_and_then}
+-- What the files of a request lead to is one thing alone.
+use Rattle.std.proofs.Common.{◌≡◌, ◌<◌, ◌≤◌, ◌⊎◌, inl, inr, ℕ, zero, suc, List, [], length, Option, Some, None, Result, Ok, Err, refl, sym, ap, ◌∙◌, subst, arith}
+use Rattle.std.specs.Prelude.{Bool, true, false, Contains}
+use Rattle.mp_factor.specs.FactorParts.{DomainParts, ProblemParts}
+use Rattle.mp_factor.specs.FileValues.{domain_value, problem_value}
+use Rattle.mp_factor.specs.Files.{file_faults}
+use Rattle.mp_factor.specs.First.{IsFirst as IsFirstOf}
+use Rattle.mp_factor.specs.declared.fault.Fault.{Fault as ShapeFault}
+use Rattle.mp_factor.specs.declared.factor.Factor.{Factor}
 use Rattle.mp_joint.specs.Fact.{Text}
 use Rattle.mp_outside.specs.Source.{Files}
 use Rattle.mp_sexp.specs.Fault.{ReadFault}
 use Rattle.mp_sexp.specs.Node.{Node}
-use Rattle.mp_sexp.specs.Plain.{domain_of, problem_of, factor_from}
 use Rattle.mp_sexp.specs.Spelling.{HasTree}
-use Rattle.mp_sexp.specs.declared.plain_form.File.{File}
-use Rattle.mp_sexp.specs.declared.plain_form.File.TheVariants as file
-use Rattle.mp_sexp.specs.declared.plain_form.PlainFactor.{PlainFactor}
+use Rattle.mp_factor.specs.declared.files.File.{File}
+use Rattle.mp_factor.specs.declared.files.File.TheVariants as file
 use Rattle.mp_sexp.specs.declared.refusal.ReadRefusal.{ReadRefusal}
-use Rattle.mp_sexp.specs.declared.tree.Place.{Place}
-use Rattle.mp_top.specs.Files.{HoldsFactor, longest_file}
-use Rattle.mp_top.specs.First.{IsFirst, read_fault}
+use Rattle.mp_top.specs.Files.{Fetches, Spells, HasShape, SaysDomain, SaysProblem, Checks, HasPlainForm, MakesFactor, ReadsTexts, Reads, HoldsFactor, IsFirst, longest_file, text_refusal, shape_refusal, check_refusal}
+use Rattle.mp_plain.specs.PlainForm.{is_plain_domain, is_plain_problem}
+use Rattle.mp_typing.specs.CheckFaults.{check_faults}
+use Rattle.mp_typing.specs.FirstFault.{IsFirst as IsFirstCheck}
+use Rattle.mp_typing.specs.declared.fault.Fault.{Fault as CheckFault}
 use Rattle.mp_top.specs.Words.{Request}
-use Rattle.mp_top.specs.declared.refusal.Fault.{Fault}
-use Rattle.mp_top.specs.declared.refusal.Fault.TheVariants as fault
 use Rattle.mp_top.specs.declared.refusal.Refusal.{Refusal}
 use Rattle.mp_top.specs.declared.refusal.Refusal.TheVariants as why
+use Rattle.mp_top.proofs.ReadingLemmas.{IsOne, one_then, ok_err, as_err}
 
--- the laws of texts that are used: one tree, one fault, not both
+-- the laws that are used: one tree and one first fault of a text, not both, and one first fault of a tree and of a
+-- factor
 pub record Laws : Type 0 where
   pub one_tree : (text : Text) (m n : Node) → HasTree text m → HasTree text n → m ≡ n
   pub one_fault : (text : Text) (e f : ReadRefusal) → ReadFault text e → ReadFault text f → e ≡ f
   pub not_both : (text : Text) (n : Node) (e : ReadRefusal) → HasTree text n → ReadFault text e → ⊥
+  pub one_first : (faults : List ShapeFault) (a b : ShapeFault) → IsFirstOf faults a → IsFirstOf faults b → a ≡ b
+  pub one_check : (faults : List CheckFault) (a b : CheckFault) → IsFirstCheck faults a → IsFirstCheck faults b → a ≡ b
 
-absent_there : (o : Option Text) (P : Text → Type 0) → o ≡ None → IsSomeAnd o P → ⊥
-absent_there None P e h = h
-absent_there (Some t) P e h = absurd (cc)
+-- what is refused of a file, by what is found under its name
+fetched_none : (at : File) (v : Result Text Refusal) → Fetches None at v → v ≡ Err (why.Read at)
+fetched_none at (Ok t) h = absurd (cc)
+fetched_none at (Err (why.Read other)) h = ap (λ a. Err (why.Read a)) h.0
+fetched_none at (Err (why.TooLarge other)) h = absurd h.1
+fetched_none at (Err (why.Fault other kind place)) h = absurd h
+fetched_none at (Err (why.NotBuilt other)) h = absurd h
+fetched_none at (Err why.Write) h = absurd h
+fetched_none at (Err why.Memory) h = absurd h
 
-long_short : (o : Option Text) → IsSomeAnd o (λ t. longest_file < length t) → IsSomeAnd o (λ t. length t ≤ longest_file) → ⊥
-long_short None h k = h
-long_short (Some t) h k = omega (arith, h, k)
+fetched_short : (text : Text) (at : File) (v : Result Text Refusal) → length text ≤ longest_file → Fetches (Some text) at v → v ≡ Ok text
+fetched_short text at (Ok t) le h = cc
+fetched_short text at (Err (why.Read other)) le h = absurd (cc)
+fetched_short text at (Err (why.TooLarge other)) le h = absurd (omega (arith, le, h.1))
+fetched_short text at (Err (why.Fault other kind place)) le h = absurd h
+fetched_short text at (Err (why.NotBuilt other)) le h = absurd h
+fetched_short text at (Err why.Write) le h = absurd h
+fetched_short text at (Err why.Memory) le h = absurd h
 
-tree_fault : Laws → (o : Option Text) (n : Node) (e : ReadRefusal) → IsSomeAnd o (λ t. HasTree t n) → IsSomeAnd o (λ t. ReadFault t e) → ⊥
-tree_fault laws None n e h k = h
-tree_fault laws (Some t) n e h k = laws.not_both t n e h k
+fetched_long : (text : Text) (at : File) (v : Result Text Refusal) → longest_file < length text → Fetches (Some text) at v → v ≡ Err (why.TooLarge at)
+fetched_long text at (Ok t) lt h =
+    let same : text ≡ t = cc in
+    let short : length text ≤ longest_file = subst (λ x. length x ≤ longest_file) (sym same) h.1 in
+    absurd (omega (arith, lt, short))
+fetched_long text at (Err (why.Read other)) lt h = absurd (cc)
+fetched_long text at (Err (why.TooLarge other)) lt h = ap (λ a. Err (why.TooLarge a)) h.0
+fetched_long text at (Err (why.Fault other kind place)) lt h = absurd h
+fetched_long text at (Err (why.NotBuilt other)) lt h = absurd h
+fetched_long text at (Err why.Write) lt h = absurd h
+fetched_long text at (Err why.Memory) lt h = absurd h
 
-two_trees : Laws → (o : Option Text) (m n : Node) → IsSomeAnd o (λ t. HasTree t m) → IsSomeAnd o (λ t. HasTree t n) → m ≡ n
-two_trees laws None m n h k = absurd h
-two_trees laws (Some t) m n h k = laws.one_tree t m n h k
+short_or_long : (n m : ℕ) → (n ≤ m) ⊎ (m < n)
+short_or_long zero m = inl (omega arith)
+short_or_long (suc n) zero = inr (omega arith)
+short_or_long (suc n) (suc m) =
+    elim (short_or_long n m) [
+      | inl le ↦ inl (omega (arith, le))
+      | inr lt ↦ inr (omega (arith, lt))
+    ]
 
-two_faults : Laws → (o : Option Text) (e f : ReadRefusal) → IsSomeAnd o (λ t. ReadFault t e) → IsSomeAnd o (λ t. ReadFault t f) → e ≡ f
-two_faults laws None e f h k = absurd h
-two_faults laws (Some t) e f h k = laws.one_fault t e f h k
+one_fetched : (found : Option Text) (at : File) → IsOne (Fetches found at)
+one_fetched None at v w h k = fetched_none at v h ∙ sym (fetched_none at w k)
+one_fetched (Some text) at v w h k =
+    elim (short_or_long (length text) longest_file) [
+      | inl le ↦ fetched_short text at v le h ∙ sym (fetched_short text at w le k)
+      | inr lt ↦ fetched_long text at v lt h ∙ sym (fetched_long text at w lt k)
+    ]
 
-same_fault : (a b : Fault) (p q : Place) → read_fault a p ≡ read_fault b q → (a ≡ b) × (p ≡ q)
-same_fault fault.Char fault.Char p q e = (refl, cc)
-same_fault fault.Char fault.Unbalanced p q e = absurd (cc)
-same_fault fault.Char fault.Trailing p q e = absurd (cc)
-same_fault fault.Char fault.Deep p q e = absurd (cc)
-same_fault fault.Unbalanced fault.Char p q e = absurd (cc)
-same_fault fault.Unbalanced fault.Unbalanced p q e = (refl, cc)
-same_fault fault.Unbalanced fault.Trailing p q e = absurd (cc)
-same_fault fault.Unbalanced fault.Deep p q e = absurd (cc)
-same_fault fault.Trailing fault.Char p q e = absurd (cc)
-same_fault fault.Trailing fault.Unbalanced p q e = absurd (cc)
-same_fault fault.Trailing fault.Trailing p q e = (refl, cc)
-same_fault fault.Trailing fault.Deep p q e = absurd (cc)
-same_fault fault.Deep fault.Char p q e = absurd (cc)
-same_fault fault.Deep fault.Unbalanced p q e = absurd (cc)
-same_fault fault.Deep fault.Trailing p q e = absurd (cc)
-same_fault fault.Deep fault.Deep p q e = (refl, cc)
+one_spelled : Laws → (at : File) (text : Text) → IsOne (Spells at text)
+one_spelled laws at text (Ok m) (Ok n) h k = ap Ok (laws.one_tree text m n h k)
+one_spelled laws at text (Ok m) (Err r) h k = absurd (laws.not_both text m k.0 h k.1)
+one_spelled laws at text (Err r) (Ok n) h k = absurd (laws.not_both text n h.0 k h.1)
+one_spelled laws at text (Err r) (Err s) h k =
+    ap Err (h.2 ∙ ap (text_refusal at) (laws.one_fault text h.0 k.0 h.1 k.1) ∙ sym k.2)
 
-same_text : (at : File) (a b : Fault) (p q : Place) → (a ≡ b) × (p ≡ q) → why.Text at a p ≡ why.Text at b q
-same_text at a b p q e = ap (λ x. why.Text at x p) e.0 ∙ ap (λ y. why.Text at b y) e.1
+none_first : (faults : List ShapeFault) (first : ShapeFault) → faults ≡ [] → IsFirstOf faults first → ⊥
+none_first faults first none is =
+    let among : Contains [] first = subst (λ fs. Contains fs first) none is.among in
+    absurd (omega (arith, among.1))
 
-none_some : {A : Type 0} (o : Option A) (P : A → Type 0) → o ≡ None → IsSomeAnd o P → ⊥
-none_some None P e h = h
-none_some (Some t) P e h = absurd (cc)
+one_shape : {X : Type 0} → Laws → (at : File) (node : Node) (value : X) → IsOne (HasShape at node value)
+one_shape laws at node value (Ok m) (Ok n) h k = ap Ok (h.0 ∙ sym k.0)
+one_shape laws at node value (Ok m) (Err r) h k = absurd (none_first (file_faults at node) k.0 h.1 k.1)
+one_shape laws at node value (Err r) (Ok n) h k = absurd (none_first (file_faults at node) h.0 k.1 h.1)
+one_shape laws at node value (Err r) (Err s) h k =
+    ap Err (h.2 ∙ ap (shape_refusal at node) (laws.one_first (file_faults at node) h.0 k.0 h.1 k.1) ∙ sym k.2)
 
--- a domain of another form is no domain of a problem of another form
-other_forms : (d e : Node) (P : _ → Type 0) → d ≡ e → domain_of d ≡ None → IsSomeAnd (domain_of e) P → ⊥
-other_forms d e P same none some = none_some (domain_of e) P (ap domain_of (sym same) ∙ none) some
+one_domain : Laws → (text : Text) → IsOne (SaysDomain text)
+one_domain laws text =
+    one_then (Spells file.Domain text) _ (one_spelled laws file.Domain text) (λ node. one_shape laws file.Domain node (domain_value node))
+
+one_problem : Laws → (text : Text) → IsOne (SaysProblem text)
+one_problem laws text =
+    one_then (Spells file.Problem text) _ (one_spelled laws file.Problem text) (λ node. one_shape laws file.Problem node (problem_value node))
+
+none_checked : (faults : List CheckFault) (first : CheckFault) → faults ≡ [] → IsFirstCheck faults first → ⊥
+none_checked faults first none is =
+    let among : Contains [] first = subst (λ fs. Contains fs first) none is.among in
+    absurd (omega (arith, among.1))
+
+one_check : Laws → (domain : DomainParts) (problem : ProblemParts) → IsOne (Checks domain problem)
+one_check laws domain problem (Ok a) (Ok b) h k = ap Ok (h.0 ∙ sym k.0)
+one_check laws domain problem (Ok a) (Err r) h k = absurd (none_checked (check_faults domain problem) k.0 h.1 k.1)
+one_check laws domain problem (Err r) (Ok b) h k = absurd (none_checked (check_faults domain problem) h.0 k.1 h.1)
+one_check laws domain problem (Err r) (Err s) h k =
+    ap Err (h.2 ∙ ap check_refusal (laws.one_check (check_faults domain problem) h.0 k.0 h.1 k.1) ∙ sym k.2)
+
+-- what a factor's form leads to, by what the two tests answer
+plain_both : (f : Factor) (v : Result Factor Refusal) → is_plain_domain f.domain ≡ true → is_plain_problem f.problem ≡ true → HasPlainForm f v → v ≡ Ok f
+plain_both f (Ok g) d p h = ap Ok h.0
+plain_both f (Err (why.Read at)) d p h = absurd h
+plain_both f (Err (why.TooLarge at)) d p h = absurd h
+plain_both f (Err (why.Fault at kind place)) d p h = absurd h
+plain_both f (Err (why.NotBuilt file.Domain)) d p h = let impossible : ⊥ = cc in absurd impossible
+plain_both f (Err (why.NotBuilt file.Problem)) d p h = let no = h.1 in let impossible : ⊥ = cc in absurd impossible
+plain_both f (Err why.Write) d p h = absurd h
+plain_both f (Err why.Memory) d p h = absurd h
+
+other_domain : (f : Factor) (v : Result Factor Refusal) → is_plain_domain f.domain ≡ false → HasPlainForm f v → v ≡ Err (why.NotBuilt file.Domain)
+other_domain f (Ok g) d h = let yes = h.1 in let impossible : ⊥ = cc in absurd impossible
+other_domain f (Err (why.Read at)) d h = absurd h
+other_domain f (Err (why.TooLarge at)) d h = absurd h
+other_domain f (Err (why.Fault at kind place)) d h = absurd h
+other_domain f (Err (why.NotBuilt file.Domain)) d h = refl
+other_domain f (Err (why.NotBuilt file.Problem)) d h = let yes = h.0 in let impossible : ⊥ = cc in absurd impossible
+other_domain f (Err why.Write) d h = absurd h
+other_domain f (Err why.Memory) d h = absurd h
+
+other_problem : (f : Factor) (v : Result Factor Refusal) → is_plain_domain f.domain ≡ true → is_plain_problem f.problem ≡ false → HasPlainForm f v → v ≡ Err (why.NotBuilt file.Problem)
+other_problem f (Ok g) d p h = let yes = h.2 in let impossible : ⊥ = cc in absurd impossible
+other_problem f (Err (why.Read at)) d p h = absurd h
+other_problem f (Err (why.TooLarge at)) d p h = absurd h
+other_problem f (Err (why.Fault at kind place)) d p h = absurd h
+other_problem f (Err (why.NotBuilt file.Domain)) d p h = let impossible : ⊥ = cc in absurd impossible
+other_problem f (Err (why.NotBuilt file.Problem)) d p h = refl
+other_problem f (Err why.Write) d p h = absurd h
+other_problem f (Err why.Memory) d p h = absurd h
+
+form_by : (f : Factor) (a b : Bool) (v w : Result Factor Refusal) → is_plain_domain f.domain ≡ a → is_plain_problem f.problem ≡ b → HasPlainForm f v → HasPlainForm f w → v ≡ w
+form_by f false b v w d p h k = other_domain f v d h ∙ sym (other_domain f w d k)
+form_by f true true v w d p h k = plain_both f v d p h ∙ sym (plain_both f w d p k)
+form_by f true false v w d p h k = other_problem f v d p h ∙ sym (other_problem f w d p k)
+
+one_form : (f : Factor) → IsOne (HasPlainForm f)
+one_form f v w h k = form_by f (is_plain_domain f.domain) (is_plain_problem f.problem) v w refl refl h k
+
+one_factor : Laws → (domain : DomainParts) (problem : ProblemParts) → IsOne (MakesFactor domain problem)
+one_factor laws domain problem = one_then (Checks domain problem) HasPlainForm (one_check laws domain problem) one_form
+
+one_of_texts : Laws → (domain problem : Text) → IsOne (ReadsTexts domain problem)
+one_of_texts laws domain problem =
+    one_then (SaysDomain domain) _ (one_domain laws domain)
+    (λ d. one_then (SaysProblem problem) _ (one_problem laws problem) (λ p. one_factor laws d p))
+
+-- what the files of a request lead to is one thing alone
+pub one_read : Laws → (files : Files) (request : Request) → IsOne (Reads files request)
+one_read laws files request =
+    one_then (Fetches (files request.domain) file.Domain) _ (one_fetched (files request.domain) file.Domain)
+    (λ domain. one_then (Fetches (files request.problem) file.Problem) _ (one_fetched (files request.problem) file.Problem)
+    (λ problem. one_of_texts laws domain problem))
 
 pub one_first : Laws → (files : Files) (request : Request) (r s : Refusal) → IsFirst files request r → IsFirst files request s → r ≡ s
-one_first laws files request (why.Read file.Domain) (why.Read file.Domain) h k = refl
-one_first laws files request (why.Read file.Domain) (why.Read file.Problem) h k = absurd (absent_there (files request.domain) _ h.1 k.0)
-one_first laws files request (why.Read file.Domain) (why.TooLarge file.Domain) h k = absurd (absent_there (files request.domain) _ h.1 k.1)
-one_first laws files request (why.Read file.Domain) (why.TooLarge file.Problem) h k = absurd (absent_there (files request.domain) _ h.1 k.0)
-one_first laws files request (why.Read file.Domain) (why.Text file.Domain b q) h k = absurd (absent_there (files request.domain) _ h.1 k.0.0)
-one_first laws files request (why.Read file.Domain) (why.Text file.Problem b q) h k = absurd (absent_there (files request.domain) _ h.1 k.0.0)
-one_first laws files request (why.Read file.Domain) (why.NotBuilt file.Domain) h k = absurd (absent_there (files request.domain) _ h.1 k.0.0)
-one_first laws files request (why.Read file.Domain) (why.NotBuilt file.Problem) h k = absurd (absent_there (files request.domain) _ h.1 k.0.0)
-one_first laws files request (why.Read file.Problem) (why.Read file.Domain) h k = absurd (absent_there (files request.domain) _ k.1 h.0)
-one_first laws files request (why.Read file.Problem) (why.Read file.Problem) h k = refl
-one_first laws files request (why.Read file.Problem) (why.TooLarge file.Domain) h k = absurd (long_short (files request.domain) k.1 h.0)
-one_first laws files request (why.Read file.Problem) (why.TooLarge file.Problem) h k = absurd (absent_there (files request.problem) _ h.1 k.1)
-one_first laws files request (why.Read file.Problem) (why.Text file.Domain b q) h k = absurd (absent_there (files request.problem) _ h.1 k.0.1)
-one_first laws files request (why.Read file.Problem) (why.Text file.Problem b q) h k = absurd (absent_there (files request.problem) _ h.1 k.0.1)
-one_first laws files request (why.Read file.Problem) (why.NotBuilt file.Domain) h k = absurd (absent_there (files request.problem) _ h.1 k.0.1)
-one_first laws files request (why.Read file.Problem) (why.NotBuilt file.Problem) h k = absurd (absent_there (files request.problem) _ h.1 k.0.1)
-one_first laws files request (why.TooLarge file.Domain) (why.Read file.Domain) h k = absurd (absent_there (files request.domain) _ k.1 h.1)
-one_first laws files request (why.TooLarge file.Domain) (why.Read file.Problem) h k = absurd (long_short (files request.domain) h.1 k.0)
-one_first laws files request (why.TooLarge file.Domain) (why.TooLarge file.Domain) h k = refl
-one_first laws files request (why.TooLarge file.Domain) (why.TooLarge file.Problem) h k = absurd (long_short (files request.domain) h.1 k.0)
-one_first laws files request (why.TooLarge file.Domain) (why.Text file.Domain b q) h k = absurd (long_short (files request.domain) h.1 k.0.0)
-one_first laws files request (why.TooLarge file.Domain) (why.Text file.Problem b q) h k = absurd (long_short (files request.domain) h.1 k.0.0)
-one_first laws files request (why.TooLarge file.Domain) (why.NotBuilt file.Domain) h k = absurd (long_short (files request.domain) h.1 k.0.0)
-one_first laws files request (why.TooLarge file.Domain) (why.NotBuilt file.Problem) h k = absurd (long_short (files request.domain) h.1 k.0.0)
-one_first laws files request (why.TooLarge file.Problem) (why.Read file.Domain) h k = absurd (absent_there (files request.domain) _ k.1 h.0)
-one_first laws files request (why.TooLarge file.Problem) (why.Read file.Problem) h k = absurd (absent_there (files request.problem) _ k.1 h.1)
-one_first laws files request (why.TooLarge file.Problem) (why.TooLarge file.Domain) h k = absurd (long_short (files request.domain) k.1 h.0)
-one_first laws files request (why.TooLarge file.Problem) (why.TooLarge file.Problem) h k = refl
-one_first laws files request (why.TooLarge file.Problem) (why.Text file.Domain b q) h k = absurd (long_short (files request.problem) h.1 k.0.1)
-one_first laws files request (why.TooLarge file.Problem) (why.Text file.Problem b q) h k = absurd (long_short (files request.problem) h.1 k.0.1)
-one_first laws files request (why.TooLarge file.Problem) (why.NotBuilt file.Domain) h k = absurd (long_short (files request.problem) h.1 k.0.1)
-one_first laws files request (why.TooLarge file.Problem) (why.NotBuilt file.Problem) h k = absurd (long_short (files request.problem) h.1 k.0.1)
-one_first laws files request (why.Text file.Domain a p) (why.Read file.Domain) h k = absurd (absent_there (files request.domain) _ k.1 h.0.0)
-one_first laws files request (why.Text file.Domain a p) (why.Read file.Problem) h k = absurd (absent_there (files request.problem) _ k.1 h.0.1)
-one_first laws files request (why.Text file.Domain a p) (why.TooLarge file.Domain) h k = absurd (long_short (files request.domain) k.1 h.0.0)
-one_first laws files request (why.Text file.Domain a p) (why.TooLarge file.Problem) h k = absurd (long_short (files request.problem) k.1 h.0.1)
-one_first laws files request (why.Text file.Domain a p) (why.Text file.Domain b q) h k = same_text file.Domain a b p q (same_fault a b p q (two_faults laws (files request.domain) (read_fault a p) (read_fault b q) h.2 k.2))
-one_first laws files request (why.Text file.Domain a p) (why.Text file.Problem b q) h k = absurd (tree_fault laws (files request.domain) k.1.0 _ k.1.1 h.2)
-one_first laws files request (why.Text file.Domain a p) (why.NotBuilt file.Domain) h k = absurd (tree_fault laws (files request.domain) k.1.0 _ k.1.2 h.2)
-one_first laws files request (why.Text file.Domain a p) (why.NotBuilt file.Problem) h k = absurd (tree_fault laws (files request.domain) k.1.0 _ k.1.2 h.2)
-one_first laws files request (why.Text file.Problem a p) (why.Read file.Domain) h k = absurd (absent_there (files request.domain) _ k.1 h.0.0)
-one_first laws files request (why.Text file.Problem a p) (why.Read file.Problem) h k = absurd (absent_there (files request.problem) _ k.1 h.0.1)
-one_first laws files request (why.Text file.Problem a p) (why.TooLarge file.Domain) h k = absurd (long_short (files request.domain) k.1 h.0.0)
-one_first laws files request (why.Text file.Problem a p) (why.TooLarge file.Problem) h k = absurd (long_short (files request.problem) k.1 h.0.1)
-one_first laws files request (why.Text file.Problem a p) (why.Text file.Domain b q) h k = absurd (tree_fault laws (files request.domain) h.1.0 _ h.1.1 k.2)
-one_first laws files request (why.Text file.Problem a p) (why.Text file.Problem b q) h k = same_text file.Problem a b p q (same_fault a b p q (two_faults laws (files request.problem) (read_fault a p) (read_fault b q) h.2 k.2))
-one_first laws files request (why.Text file.Problem a p) (why.NotBuilt file.Domain) h k = absurd (tree_fault laws (files request.problem) k.1.1 _ k.1.3 h.2)
-one_first laws files request (why.Text file.Problem a p) (why.NotBuilt file.Problem) h k = absurd (tree_fault laws (files request.problem) k.1.1 _ k.1.3 h.2)
-one_first laws files request (why.NotBuilt file.Domain) (why.Read file.Domain) h k = absurd (absent_there (files request.domain) _ k.1 h.0.0)
-one_first laws files request (why.NotBuilt file.Domain) (why.Read file.Problem) h k = absurd (absent_there (files request.problem) _ k.1 h.0.1)
-one_first laws files request (why.NotBuilt file.Domain) (why.TooLarge file.Domain) h k = absurd (long_short (files request.domain) k.1 h.0.0)
-one_first laws files request (why.NotBuilt file.Domain) (why.TooLarge file.Problem) h k = absurd (long_short (files request.problem) k.1 h.0.1)
-one_first laws files request (why.NotBuilt file.Domain) (why.Text file.Domain b q) h k = absurd (tree_fault laws (files request.domain) h.1.0 _ h.1.2 k.2)
-one_first laws files request (why.NotBuilt file.Domain) (why.Text file.Problem b q) h k = absurd (tree_fault laws (files request.problem) h.1.1 _ h.1.3 k.2)
-one_first laws files request (why.NotBuilt file.Domain) (why.NotBuilt file.Domain) h k = refl
-one_first laws files request (why.NotBuilt file.Domain) (why.NotBuilt file.Problem) h k = absurd (other_forms h.1.0 k.1.0 _ (two_trees laws (files request.domain) h.1.0 k.1.0 h.1.2 k.1.2) h.1.4 k.1.4)
-one_first laws files request (why.NotBuilt file.Problem) (why.Read file.Domain) h k = absurd (absent_there (files request.domain) _ k.1 h.0.0)
-one_first laws files request (why.NotBuilt file.Problem) (why.Read file.Problem) h k = absurd (absent_there (files request.problem) _ k.1 h.0.1)
-one_first laws files request (why.NotBuilt file.Problem) (why.TooLarge file.Domain) h k = absurd (long_short (files request.domain) k.1 h.0.0)
-one_first laws files request (why.NotBuilt file.Problem) (why.TooLarge file.Problem) h k = absurd (long_short (files request.problem) k.1 h.0.1)
-one_first laws files request (why.NotBuilt file.Problem) (why.Text file.Domain b q) h k = absurd (tree_fault laws (files request.domain) h.1.0 _ h.1.2 k.2)
-one_first laws files request (why.NotBuilt file.Problem) (why.Text file.Problem b q) h k = absurd (tree_fault laws (files request.problem) h.1.1 _ h.1.3 k.2)
-one_first laws files request (why.NotBuilt file.Problem) (why.NotBuilt file.Domain) h k = absurd (other_forms k.1.0 h.1.0 _ (two_trees laws (files request.domain) k.1.0 h.1.0 k.1.2 h.1.2) k.1.4 h.1.4)
-one_first laws files request (why.NotBuilt file.Problem) (why.NotBuilt file.Problem) h k = refl
-one_first laws files request (why.Read file.Domain) why.Write h k = absurd k
-one_first laws files request (why.Read file.Domain) why.Memory h k = absurd k
-one_first laws files request (why.Read file.Problem) why.Write h k = absurd k
-one_first laws files request (why.Read file.Problem) why.Memory h k = absurd k
-one_first laws files request (why.TooLarge file.Domain) why.Write h k = absurd k
-one_first laws files request (why.TooLarge file.Domain) why.Memory h k = absurd k
-one_first laws files request (why.TooLarge file.Problem) why.Write h k = absurd k
-one_first laws files request (why.TooLarge file.Problem) why.Memory h k = absurd k
-one_first laws files request (why.Text file.Domain a p) why.Write h k = absurd k
-one_first laws files request (why.Text file.Domain a p) why.Memory h k = absurd k
-one_first laws files request (why.Text file.Problem a p) why.Write h k = absurd k
-one_first laws files request (why.Text file.Problem a p) why.Memory h k = absurd k
-one_first laws files request (why.NotBuilt file.Domain) why.Write h k = absurd k
-one_first laws files request (why.NotBuilt file.Domain) why.Memory h k = absurd k
-one_first laws files request (why.NotBuilt file.Problem) why.Write h k = absurd k
-one_first laws files request (why.NotBuilt file.Problem) why.Memory h k = absurd k
-one_first laws files request why.Write s h k = absurd h
-one_first laws files request why.Memory s h k = absurd h
-
-no_problem : {A B C : Type 0} (o : Option A) (problem : A → Option B) (join : A → B → C) (y : C) → option_and_then (λ d. option_and_then (λ p. Some (join d p)) (problem d)) o ≡ Some y → IsSomeAnd o (λ d. problem d ≡ None) → ⊥
-no_problem None problem join y e h = h
-no_problem (Some d) problem join y e h = none_is_some (problem d) (λ p. Some (join d p)) y h e
-  where
-    none_is_some : {B C : Type 0} (o : Option B) (f : B → Option C) (y : C) → o ≡ None → option_and_then f o ≡ Some y → ⊥
-    none_is_some None f y h e = cc
-    none_is_some (Some b) f y h e = cc
-
-no_domain : {A B : Type 0} (o : Option A) (f : A → Option B) (y : B) → option_and_then f o ≡ Some y → o ≡ None → ⊥
-no_domain None f y e h = cc
-no_domain (Some d) f y e h = cc
+one_first laws files request r s h k = as_err (Err r) (Err s) r s (one_read laws files request (Err r) (Err s) h k) refl refl
 
 -- where the files hold a factor, no refusal is the first
-pub found_none : Laws → (files : Files) (request : Request) (factor : PlainFactor) (r : Refusal) → HoldsFactor files request factor → IsFirst files request r → ⊥
-found_none laws files request factor (why.Read file.Domain) h k = absent_there (files request.domain) _ k.1 h.0.0
-found_none laws files request factor (why.Read file.Problem) h k = absent_there (files request.problem) _ k.1 h.0.1
-found_none laws files request factor (why.TooLarge file.Domain) h k = long_short (files request.domain) k.1 h.0.0
-found_none laws files request factor (why.TooLarge file.Problem) h k = long_short (files request.problem) k.1 h.0.1
-found_none laws files request factor (why.Text file.Domain a p) h k = tree_fault laws (files request.domain) h.1.0 _ h.1.2 k.2
-found_none laws files request factor (why.Text file.Problem a p) h k = tree_fault laws (files request.problem) h.1.1 _ h.1.3 k.2
-found_none laws files request factor (why.NotBuilt file.Domain) h k =
-    let same = two_trees laws (files request.domain) k.1.0 h.1.0 k.1.2 h.1.2 in
-    no_domain (domain_of h.1.0) (λ d. option_and_then (λ p. Some (factor_from d p)) (problem_of d h.1.1)) factor h.1.4 (ap domain_of (sym same) ∙ k.1.4)
-found_none laws files request factor (why.NotBuilt file.Problem) h k =
-    let same = two_trees laws (files request.domain) k.1.0 h.1.0 k.1.2 h.1.2 in
-    let alike = two_trees laws (files request.problem) k.1.1 h.1.1 k.1.3 h.1.3 in
-    no_problem (domain_of h.1.0) (λ d. problem_of d h.1.1) factor_from factor h.1.4
-    (subst (λ n. IsSomeAnd (domain_of n) (λ made. problem_of made h.1.1 ≡ None)) same
-    (subst (λ n. IsSomeAnd (domain_of k.1.0) (λ made. problem_of made n ≡ None)) alike k.1.4))
-found_none laws files request factor why.Write h k = k
-found_none laws files request factor why.Memory h k = k
+pub found_none : Laws → (files : Files) (request : Request) (factor : Factor) (r : Refusal) → HoldsFactor files request factor → IsFirst files request r → ⊥
+found_none laws files request factor r h k = ok_err factor r (one_read laws files request (Ok factor) (Err r) h k)

@@ -1,64 +1,161 @@
--- What a source holds under the names of a request, and how an outcome answers it.
-use Rattle.std.specs.Prelude.{◌≡◌, ◌≤◌, ℕ, List, [], ◌∷◌, ◌++◌, length, replicate, Option, Some, None, IfSome, IsSomeAnd}
+-- What the files of a request lead to, in the one order of refusals: each file in the order of the words is looked
+-- for and measured; then each text is read and its shape looked at; then names, numbers of terms and declarations are
+-- checked; and at last the form is looked at.
+use Rattle.std.specs.Prelude.{◌≡◌, ◌<◌, ◌≤◌, ℕ, [], length, true, false, Option, Some, None, Ok, Err, IsSomeAnd}
+use Rattle.mp_factor.specs.Files.{file_faults}
+use Rattle.mp_factor.specs.First.{IsFirst as IsFirstOf}
+use Rattle.mp_factor.specs.Shapes.{word_at, or_nothing}
+use Rattle.mp_factor.specs.declared.fault.Fault.{Fault as ShapeFault}
+use Rattle.mp_factor.specs.declared.fault.FaultKind.{FaultKind}
+use Rattle.mp_factor.specs.declared.fault.FaultKind.TheVariants as shape
+use Rattle.mp_factor.specs.FactorParts.{DomainParts, ProblemParts}
+use Rattle.mp_factor.specs.FileValues.{domain_value, problem_value}
+use Rattle.mp_factor.specs.declared.factor.Factor.{Factor}
+use Rattle.mp_factor.specs.declared.refusal.ShapeRefusal.{ShapeRefusal}
+use Rattle.mp_factor.specs.declared.refusal.ShapeRefusal.TheVariants as shapes
 use Rattle.mp_joint.specs.Fact.{Text}
-use Rattle.mp_joint.specs.declared.plan.PlanStep.{PlanStep}
 use Rattle.mp_outside.specs.Source.{Files}
-use Rattle.mp_plain.specs.PlainAnswer.{IsFound}
-use Rattle.mp_search.specs.Outcome.{IsDecided}
-use Rattle.mp_search.specs.declared.answer.Answer.{Answer}
+use Rattle.mp_plain.specs.PlainForm.{is_plain_domain, is_plain_problem}
+use Rattle.mp_sexp.specs.Fault.{ReadFault}
 use Rattle.mp_sexp.specs.Node.{Node}
-use Rattle.mp_sexp.specs.Plain.{domain_of, problem_of, factor_of}
 use Rattle.mp_sexp.specs.Spelling.{HasTree}
-use Rattle.mp_sexp.specs.declared.plain_form.File.{File}
-use Rattle.mp_sexp.specs.declared.plain_form.File.TheVariants as file
-use Rattle.mp_sexp.specs.declared.plain_form.PlainFactor.{PlainFactor}
-use Rattle.mp_top.specs.Outcome.{outcome_text}
+use Rattle.mp_factor.specs.declared.files.File.{File}
+use Rattle.mp_factor.specs.declared.files.File.TheVariants as file
+use Rattle.mp_sexp.specs.declared.refusal.ReadRefusal.{ReadRefusal}
+use Rattle.mp_sexp.specs.declared.refusal.ReadRefusal.TheVariants as text
+use Rattle.mp_sexp.specs.declared.tree.Place.{Place}
+use Rattle.mp_typing.specs.CheckFaults.{check_faults}
+use Rattle.mp_typing.specs.FirstFault.{IsFirst as IsFirstCheck}
+use Rattle.mp_typing.specs.declared.fault.Fault.{Fault as CheckFault}
+use Rattle.mp_typing.specs.declared.fault.FaultKind.{FaultKind as CheckKind}
+use Rattle.mp_typing.specs.declared.fault.FaultKind.TheVariants as checks
+use Rattle.mp_typing.specs.declared.refusal.CheckRefusal.{CheckRefusal}
+use Rattle.mp_typing.specs.declared.refusal.CheckRefusal.TheVariants as refused
+use Rattle.mp_top.specs.Reading.{Reading, Then}
 use Rattle.mp_top.specs.Words.{Request}
-use Rattle.mp_top.specs.declared.log.Entry.{Entry}
-use Rattle.mp_top.specs.declared.log.Entry.TheVariants.{Act}
-use Rattle.mp_top.specs.declared.log.Kind.TheVariants.{Expand, Start}
+use Rattle.mp_top.specs.declared.refusal.Fault.{Fault}
+use Rattle.mp_top.specs.declared.refusal.Fault.TheVariants as fault
+use Rattle.mp_top.specs.declared.refusal.Refusal.{Refusal}
+use Rattle.mp_top.specs.declared.refusal.Refusal.TheVariants as why
 
 -- the greatest number of bytes of a factor file
 abbrev pub longest_file : ℕ
 longest_file = 4194304
 
--- the file of this name has this tree
-abbrev pub HoldsTree : Files → Text → Node → Type 0
-HoldsTree files name node = IsSomeAnd (files name) (λ text. HasTree text node)
-
 -- there is a file of this name, and it is not longer than a factor file may be
 abbrev pub IsFitting : Files → Text → Type 0
 IsFitting files name = IsSomeAnd (files name) (λ t. length t ≤ longest_file)
 
-abbrev pub AreFitting : Files → Request → Type 0
-AreFitting files request = IsFitting files request.domain × IsFitting files request.problem
+-- what is longer than a factor file may be
+abbrev pub IsLong : Option Text → Type 0
+IsLong found = IsSomeAnd found (λ t. longest_file < length t)
 
--- the two files fit and are a plain domain and problem, which make this factor
-abbrev pub HoldsFactor : Files → Request → PlainFactor → Type 0
-HoldsFactor files request factor =
-    AreFitting files request × ((domain problem : Node) × HoldsTree files request.domain domain × HoldsTree files request.problem problem
-    × (factor_of domain problem ≡ Some factor))
+-- what is found under a file's name leads to its text
+abbrev pub Fetches : Option Text → File → Reading Text
+Fetches found at (Ok text) = (found ≡ Some text) × (length text ≤ longest_file)
+Fetches found at (Err (why.Read other)) = (other ≡ at) × (found ≡ None)
+Fetches found at (Err (why.TooLarge other)) = (other ≡ at) × IsLong found
+Fetches found at (Err (why.Fault other kind place)) = ⊥
+Fetches found at (Err (why.NotBuilt other)) = ⊥
+Fetches found at (Err why.Write) = ⊥
+Fetches found at (Err why.Memory) = ⊥
 
--- the domain, or the problem of a domain that is plain, is of another form
-abbrev pub IsOtherForm : File → Node → Node → Type 0
-IsOtherForm file.Domain domain problem = domain_of domain ≡ None
-IsOtherForm file.Problem domain problem = IsSomeAnd (domain_of domain) (λ made. problem_of made problem ≡ None)
+-- what the reader's refusal of a file's text is here
+abbrev pub text_refusal : File → ReadRefusal → Refusal
+text_refusal at (text.Char place) = why.Fault at fault.Char place
+text_refusal at (text.Unbalanced place) = why.Fault at fault.Unbalanced place
+text_refusal at (text.Trailing place) = why.Fault at fault.Trailing place
+text_refusal at (text.Deep place) = why.Fault at fault.Deep place
+text_refusal at text.OutOfMemory = why.Memory
 
--- the files hold a factor for which this answer and plan were found, in so many expansions
-abbrev pub IsFoundIn : Option Files → Request → Answer → ℕ → List PlanStep → Type 0
-IsFoundIn held request answer expansions plan =
-    IfSome held (λ files. (factor : PlainFactor) × HoldsFactor files request factor × IsFound factor answer expansions plan)
+-- a text leads to its tree
+abbrev pub Spells : File → Text → Reading Node
+Spells at text (Ok node) = HasTree text node
+Spells at text (Err r) = (first : ReadRefusal) × ReadFault text first × (r ≡ text_refusal at first)
 
--- the log of one agent alone: its expansions, and the start of the one snapshot that ends the run
-abbrev pub lone_log : ℕ → List Entry
-lone_log expansions = replicate expansions (Act 1 Expand) ++ Act 1 Start ∷ []
+-- what a fault of the shape of a file's tree is here, by its kind
+abbrev pub shape_fault : Node → Place → FaultKind → Fault
+shape_fault node place shape.Shape = fault.Shape
+shape_fault node place shape.Unsupported = fault.Unsupported (or_nothing (word_at place node))
+shape_fault node place shape.Parameters = fault.Parameters
+shape_fault node place shape.Cost = fault.Cost
 
--- The text is the whole text of the outcome with this answer and log, for some plan that was found, together with
--- the answer and by the search that the log tells, for what the source holds.
-pub record IsOutcome (held : Option Files) (request : Request) (answer : Answer) (log : List Entry) (text : Text) : Type 0 where
-  pub plan : List PlanStep
-  pub expansions : ℕ
-  pub found : IsFoundIn held request answer expansions plan
-  pub decided : IsDecided answer
-  pub run : log ≡ lone_log expansions
-  pub printed : text ≡ outcome_text 1 answer plan log
+abbrev pub shape_refusal : File → Node → ShapeFault → Refusal
+shape_refusal at node first = why.Fault at (shape_fault node first.place first.kind) first.place
+
+-- what the refusal of a file's tree for its shape is here
+abbrev pub told_shape : File → ShapeRefusal → Refusal
+told_shape at (shapes.Shape place) = why.Fault at fault.Shape place
+told_shape at (shapes.Unsupported word place) = why.Fault at (fault.Unsupported word) place
+told_shape at (shapes.Parameters place) = why.Fault at fault.Parameters place
+told_shape at (shapes.Cost place) = why.Fault at fault.Cost place
+told_shape at shapes.OutOfMemory = why.Memory
+
+-- a tree that has the shape of such a file leads to what it says
+abbrev pub HasShape : {X : Type 0} → File → Node → X → Reading X
+HasShape at node value (Ok said) = (said ≡ value) × (file_faults at node ≡ [])
+HasShape at node value (Err r) =
+    (first : ShapeFault) × IsFirstOf (file_faults at node) first × (r ≡ shape_refusal at node first)
+
+-- a text leads to the domain that it says
+abbrev pub SaysDomain : Text → Reading DomainParts
+SaysDomain text = Then (Spells file.Domain text) (λ node. HasShape file.Domain node (domain_value node))
+
+-- and to the problem
+abbrev pub SaysProblem : Text → Reading ProblemParts
+SaysProblem text = Then (Spells file.Problem text) (λ node. HasShape file.Problem node (problem_value node))
+
+-- what a fault that the checks find is here, by its kind
+abbrev pub check_fault : Text → CheckKind → Fault
+check_fault word checks.WrongDomain = fault.WrongDomain word
+check_fault word checks.Unknown = fault.Unknown word
+check_fault word checks.Arity = fault.Arity word
+check_fault word checks.Twice = fault.Twice word
+
+abbrev pub check_refusal : CheckFault → Refusal
+check_refusal first = why.Fault first.found.file (check_fault first.found.name first.kind) first.found.at
+
+-- what the refusal of the checks is here
+abbrev pub told_check : CheckRefusal → Refusal
+told_check (refused.WrongDomain found) = why.Fault found.file (fault.WrongDomain found.name) found.at
+told_check (refused.UnknownName found) = why.Fault found.file (fault.Unknown found.name) found.at
+told_check (refused.Arity found) = why.Fault found.file (fault.Arity found.name) found.at
+told_check (refused.Twice found) = why.Fault found.file (fault.Twice found.name) found.at
+told_check refused.OutOfMemory = why.Memory
+
+-- a domain and a problem in which nothing is wrong lead to their factor
+abbrev pub Checks : DomainParts → ProblemParts → Reading Factor
+Checks domain problem (Ok factor) = (factor ≡ record { domain = domain; problem = problem }) × (check_faults domain problem ≡ [])
+Checks domain problem (Err r) = (first : CheckFault) × IsFirstCheck (check_faults domain problem) first × (r ≡ check_refusal first)
+
+-- a factor of the form that is searched so far leads to itself
+abbrev pub HasPlainForm : Factor → Reading Factor
+HasPlainForm factor (Ok same) = (same ≡ factor) × (is_plain_domain factor.domain ≡ true) × (is_plain_problem factor.problem ≡ true)
+HasPlainForm factor (Err (why.Read at)) = ⊥
+HasPlainForm factor (Err (why.TooLarge at)) = ⊥
+HasPlainForm factor (Err (why.Fault at kind place)) = ⊥
+HasPlainForm factor (Err (why.NotBuilt file.Domain)) = is_plain_domain factor.domain ≡ false
+HasPlainForm factor (Err (why.NotBuilt file.Problem)) = (is_plain_domain factor.domain ≡ true) × (is_plain_problem factor.problem ≡ false)
+HasPlainForm factor (Err why.Write) = ⊥
+HasPlainForm factor (Err why.Memory) = ⊥
+
+-- a domain and a problem lead to their factor
+abbrev pub MakesFactor : DomainParts → ProblemParts → Reading Factor
+MakesFactor domain problem = Then (Checks domain problem) HasPlainForm
+
+-- the texts of a domain and a problem lead to a factor
+abbrev pub ReadsTexts : Text → Text → Reading Factor
+ReadsTexts domain problem = Then (SaysDomain domain) (λ d. Then (SaysProblem problem) (λ p. MakesFactor d p))
+
+-- the files of a request lead to a factor
+abbrev pub Reads : Files → Request → Reading Factor
+Reads files request =
+    Then (Fetches (files request.domain) file.Domain)
+    (λ domain. Then (Fetches (files request.problem) file.Problem) (λ problem. ReadsTexts domain problem))
+
+abbrev pub HoldsFactor : Files → Request → Factor → Type 0
+HoldsFactor files request factor = Reads files request (Ok factor)
+
+-- the first refusal of accepted words, by what the files hold
+abbrev pub IsFirst : Files → Request → Refusal → Type 0
+IsFirst files request r = Reads files request (Err r)

@@ -1,8 +1,10 @@
+pub mod Answered
 pub mod Cause
 pub mod Decision
 pub mod Files
-pub mod First
+pub mod Leads
 pub mod Outcome
+pub mod Reading
 pub mod Refusal
 pub mod Report
 pub mod Run

@@ -3,8 +3,8 @@ use Rattle.std.specs.Prelude.{◌≡◌, ℕ, [], ◌∷◌, ◌++◌, codes, de
 use Rattle.std.specs.Io.KnownBytes.{Appends}
 use Rattle.mp_joint.specs.Fact.{Text}
 use Rattle.mp_outside.specs.Sink.{AppendsBeginning}
-use Rattle.mp_sexp.specs.declared.plain_form.File.{File}
-use Rattle.mp_sexp.specs.declared.plain_form.File.TheVariants.{Domain, Problem}
+use Rattle.mp_factor.specs.declared.files.File.{File}
+use Rattle.mp_factor.specs.declared.files.File.TheVariants.{Domain, Problem}
 use Rattle.mp_sexp.specs.declared.tree.Place.{Place}
 use Rattle.mp_top.specs.Words.{Request}
 use Rattle.mp_top.specs.declared.refusal.Fault.{Fault}
@@ -27,17 +27,34 @@ name_in request Problem = request.problem
 abbrev pub status_of : Refusal → Status
 status_of (why.Read file) = status.Read
 status_of (why.TooLarge file) = status.TooLarge
-status_of (why.Text file kind place) = status.Refused
+status_of (why.Fault file kind place) = status.Refused
 status_of (why.NotBuilt file) = status.Refused
 status_of why.Write = status.Write
 status_of why.Memory = status.Memory
 
--- the code and name of a text's fault
+-- the code and name of a fault
 abbrev pub text_of_fault : Fault → Text
 text_of_fault fault.Char = codes "F1 char"
 text_of_fault fault.Unbalanced = codes "F2 unbalanced"
 text_of_fault fault.Trailing = codes "F3 trailing"
 text_of_fault fault.Deep = codes "F11 deep"
+text_of_fault fault.Shape = codes "F4 shape"
+text_of_fault (fault.Unsupported word) = codes "F5 unsupported "
+text_of_fault fault.Parameters = codes "F5 unsupported parameters"
+text_of_fault fault.Cost = codes "F9 cost"
+text_of_fault (fault.WrongDomain word) = codes "F10 domain "
+text_of_fault (fault.Unknown word) = codes "F6 unknown "
+text_of_fault (fault.Arity word) = codes "F7 arity "
+text_of_fault (fault.Twice word) = codes "F8 twice "
+
+-- the word of the file that a fault names behind that
+abbrev pub word_of_fault : Fault → Text
+word_of_fault (fault.Unsupported word) = word
+word_of_fault (fault.WrongDomain word) = word
+word_of_fault (fault.Unknown word) = word
+word_of_fault (fault.Arity word) = word
+word_of_fault (fault.Twice word) = word
+word_of_fault _ = []
 
 -- the lines, each with its line feed
 abbrev pub words_line : Text
@@ -52,7 +69,7 @@ too_large_line name = codes "maplan: " ++ (name ++ (codes ": too large" ++ 10 �
 -- `maplan: NAME:LINE:COLUMN: ` and the fault
 abbrev pub fault_line : Text → Fault → Place → Text
 fault_line name kind place =
-    codes "maplan: " ++ (name ++ (codes ":" ++ (decimal place.line ++ (codes ":" ++ (decimal place.column ++ (codes ": " ++ (text_of_fault kind ++ 10 ∷ [])))))))
+    codes "maplan: " ++ (name ++ (codes ":" ++ (decimal place.line ++ (codes ":" ++ (decimal place.column ++ (codes ": " ++ (text_of_fault kind ++ (word_of_fault kind ++ 10 ∷ []))))))))
 
 abbrev pub not_built_line : Text → Text
 not_built_line name = codes "maplan: " ++ (name ++ (codes ": not built" ++ 10 ∷ []))
@@ -66,7 +83,7 @@ memory_line = codes "maplan: out of memory" ++ 10 ∷ []
 abbrev pub line_of : Request → Refusal → Text
 line_of request (why.Read file) = read_line (name_in request file)
 line_of request (why.TooLarge file) = too_large_line (name_in request file)
-line_of request (why.Text file kind place) = fault_line (name_in request file) kind place
+line_of request (why.Fault file kind place) = fault_line (name_in request file) kind place
 line_of request (why.NotBuilt file) = not_built_line (name_in request file)
 line_of request why.Write = write_line
 line_of request why.Memory = memory_line

@@ -6,10 +6,10 @@ use Rattle.mp_outside.specs.Sink.{AppendsBeginning}
 use Rattle.mp_outside.specs.Source.{Files}
 use Rattle.mp_search.specs.declared.answer.Answer.{Answer}
 use Rattle.mp_search.specs.declared.answer.Answer.TheVariants as answer
-use Rattle.mp_sexp.specs.declared.plain_form.File.{File}
+use Rattle.mp_factor.specs.declared.files.File.{File}
 use Rattle.mp_top.specs.Cause.{CannotRead, Rests}
-use Rattle.mp_top.specs.Files.{IsOutcome}
-use Rattle.mp_top.specs.First.{IsFirst}
+use Rattle.mp_top.specs.Answered.{IsOutcome}
+use Rattle.mp_top.specs.Files.{IsFirst}
 use Rattle.mp_top.specs.Refusal.{status_of, line_of, words_line, write_line, Says}
 use Rattle.mp_top.specs.Words.{Request, request_of}
 use Rattle.mp_top.specs.declared.answer.Decision.{Decision}
@@ -51,7 +51,7 @@ Prints held words before report old new ended =
 abbrev pub IsCause : Option Files → ℕ → ℕ → Option Text → ℕ → ℕ → Request → Refusal → Type 0
 IsCause held before now fault_at writes_before writes_now request (why.Read at) = Rests held before now fault_at request (why.Read at)
 IsCause held before now fault_at writes_before writes_now request (why.TooLarge at) = Rests held before now fault_at request (why.TooLarge at)
-IsCause held before now fault_at writes_before writes_now request (why.Text at kind place) = Rests held before now fault_at request (why.Text at kind place)
+IsCause held before now fault_at writes_before writes_now request (why.Fault at kind place) = Rests held before now fault_at request (why.Fault at kind place)
 IsCause held before now fault_at writes_before writes_now request (why.NotBuilt at) = Rests held before now fault_at request (why.NotBuilt at)
 IsCause held before now fault_at writes_before writes_now request why.Write = writes_before < writes_now
 IsCause held before now fault_at writes_before writes_now request why.Memory = Unit {0}

@@ -15,6 +15,7 @@ mod words;
 
 pub use first::one_first;
 pub use log::{Entry, Kind, Log};
+pub use mp_plain::{PlainFactor, PlainRefusal, plain};
 pub use on_one_thread::run_alone;
 pub use on_threads::run;
 pub use refusal::{Fault, Refusal};

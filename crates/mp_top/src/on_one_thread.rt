@@ -3,8 +3,10 @@
 ghost use Rattle.std.specs.Prelude.{◌≡◌, ◌<◌, ◌↔◌, ℕ, List, None, true, map, string_bytes, IfOk, IfErr};
 ghost use Rattle.std.specs.Io.KnownBytes.{Appends};
 ghost use Rattle.mp_outside.specs.Sink.{AppendsBeginning};
+ghost use Rattle.mp_plain.specs.PlainPart.{IsRead};
 ghost use Rattle.mp_top.specs.Cause.{Rests};
-ghost use Rattle.mp_top.specs.Files.{IsOutcome};
+ghost use Rattle.mp_top.specs.Decision.{Decides};
+ghost use Rattle.mp_top.specs.Answered.{IsOutcome};
 ghost use Rattle.mp_top.specs.Refusal.{asked, line_of, Says, write_line};
 ghost use Rattle.mp_top.specs.Report.{IsEmptyReport};
 ghost use Rattle.mp_top.specs.Run.{Prints, PrintsFor, IsLine, IsLineFor, answer_status, published_line, CannotReadFile, DecidesFiles, Publishes, TellsFirst, TellsFirstOf};
@@ -12,14 +14,27 @@ ghost use Rattle.mp_top.specs.Words.{request_of, is_alone};
 
 use crate::answer::{Decision, answer_factor};
 use crate::first::one_first;
-use crate::reads::factor_of_files;
+use crate::reads::plain_of_files;
 use crate::refusal::{Refusal, tell_words};
 use crate::report::Report;
 use crate::status::Status;
 use crate::words::{Request, parse_words};
 use mp_outside::{Sink, Source, put};
+use mp_plain::PlainFactor;
 use mp_search::Answer;
 use std::alloc::Global;
+
+/// The answer to a plain factor.
+fn answered(alloc: Global, factor: &PlainFactor) -> Result<Decision, Refusal>
+    requires { IsRead factor.now }
+    ensures outcome { IfOk result (Decides factor.now) }
+    ensures memory { IfErr result (λ refusal. refusal ≡ Refusal.Memory) }
+{
+    match answer_factor(alloc, factor) {
+        Ok(decision) => Ok(decision),
+        Err(_) => Err(Refusal::Memory),
+    }
+}
 
 /// The answer to the problem of the two files.
 fn decide<S: Source>(
@@ -30,11 +45,8 @@ fn decide<S: Source>(
     ensures outcome { IfOk result (DecidesFiles (S.held source.old) (asked request.now)) }
     ensures cause { IfErr result (Rests (S.held source.old) (S.faults source.old) (S.faults source.new) (S.fault_at source.new) (asked request.now)) }
 {
-    let factor = factor_of_files(alloc, source, request)?;
-    match answer_factor(alloc, &factor) {
-        Ok(decision) => Ok(decision),
-        Err(_) => Err(Refusal::Memory),
-    }
+    let factor = plain_of_files(alloc, source, request)?;
+    answered(alloc, &factor)
 }
 
 /// The status of a call that printed this answer.

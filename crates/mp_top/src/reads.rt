@@ -1,18 +1,23 @@
-//! The two files of a request, read as one plain factor.
+//! The two files of a request, read as one factor, and that brought into plain form.
 
-ghost use Rattle.std.specs.Prelude.{◌≡◌, ◌≤◌, Some, IfOk, IfErr, IfSome, length, vec_len};
+ghost use Rattle.std.specs.Prelude.{◌≡◌, ◌≤◌, Some, Ok, IfOk, IfErr, IfSome, length, vec_len};
+ghost use Rattle.mp_factor.specs.FileValues.{domain_value, problem_value};
 ghost use Rattle.mp_plain.specs.PlainPart.{IsRead};
 ghost use Rattle.mp_sexp.specs.Node.{node_of};
-ghost use Rattle.mp_sexp.specs.Plain.{factor_of};
 ghost use Rattle.mp_sexp.specs.Spelling.{HasTree};
-ghost use Rattle.mp_top.specs.Cause.{Rests, RestsOnFile, RestsOnText, RestsOnForm, RestsOnTexts, IsTextOf, HaveFactor};
-ghost use Rattle.mp_top.specs.Files.{HoldsFactor, longest_file};
+ghost use Rattle.mp_top.specs.Cause.{Rests, RestsOnFile, IsTextOf};
+ghost use Rattle.mp_top.specs.Files.{Checks, HasPlainForm, HasShape, MakesFactor, Reads, ReadsTexts, SaysDomain, SaysProblem, Spells, longest_file, told_check, told_shape};
+ghost use Rattle.mp_top.specs.Leads.{Leads};
+ghost use Rattle.mp_top.specs.Reading.{Refuses, Then};
 ghost use Rattle.mp_top.specs.Refusal.{asked, name_in};
 
 use crate::refusal::{Fault, Refusal};
 use crate::words::Request;
+use mp_factor::{Domain, File, Problem, ShapeRefusal, domain, problem};
 use mp_outside::{FetchRefusal, Source, fetch};
-use mp_sexp::{File, PlainFactor, PlainRefusal, ReadRefusal, Tree, plain, read};
+use mp_plain::{PlainFactor, PlainRefusal, plain};
+use mp_sexp::{ReadRefusal, Tree, read};
+use mp_typing::{CheckRefusal, CheckedFactor, Found, check};
 use std::alloc::Global;
 
 /// The greatest number of bytes of a factor file.
@@ -44,54 +49,161 @@ fn text_of<S: Source>(
 fn tree_of(alloc: Global, text: &[u8], file: File) -> Result<Tree, Refusal>
     requires { length text.now ≤ longest_file }
     ensures tree { IfOk result (λ tree. HasTree text.now (node_of tree)) }
-    ensures cause { IfErr result (RestsOnText text.now file) }
+    ensures cause { IfErr result (Refuses (Spells file text.now)) }
 {
     match read(alloc, text) {
         Ok(tree) => Ok(tree),
-        Err(ReadRefusal::Char(place)) => Err(Refusal::Text(file, Fault::Char, place)),
-        Err(ReadRefusal::Unbalanced(place)) => Err(Refusal::Text(file, Fault::Unbalanced, place)),
-        Err(ReadRefusal::Trailing(place)) => Err(Refusal::Text(file, Fault::Trailing, place)),
-        Err(ReadRefusal::Deep(place)) => Err(Refusal::Text(file, Fault::Deep, place)),
+        Err(ReadRefusal::Char(place)) => Err(Refusal::Fault(file, Fault::Char, place)),
+        Err(ReadRefusal::Unbalanced(place)) => Err(Refusal::Fault(file, Fault::Unbalanced, place)),
+        Err(ReadRefusal::Trailing(place)) => Err(Refusal::Fault(file, Fault::Trailing, place)),
+        Err(ReadRefusal::Deep(place)) => Err(Refusal::Fault(file, Fault::Deep, place)),
         Err(ReadRefusal::OutOfMemory) => Err(Refusal::Memory),
     }
 }
 
-/// The factor of two trees.
-fn factor_of_trees(alloc: Global, domain: &Tree, problem: &Tree) -> Result<PlainFactor, Refusal>
-    ensures factor { IfOk result (λ factor. factor_of (node_of domain.now) (node_of problem.now) ≡ Some factor) }
-    ensures cause { IfErr result (RestsOnForm (node_of domain.now) (node_of problem.now)) }
+/// The refusal of a file's tree for its shape.
+fn refusal_of_shape(file: File, refusal: ShapeRefusal) -> Refusal
+    ensures { result ≡ told_shape file refusal }
 {
-    match plain(alloc, domain, problem) {
+    match refusal {
+        ShapeRefusal::Shape(place) => Refusal::Fault(file, Fault::Shape, place),
+        ShapeRefusal::Unsupported(word, place) => {
+            Refusal::Fault(file, Fault::Unsupported(word), place)
+        }
+        ShapeRefusal::Parameters(place) => Refusal::Fault(file, Fault::Parameters, place),
+        ShapeRefusal::Cost(place) => Refusal::Fault(file, Fault::Cost, place),
+        ShapeRefusal::OutOfMemory => Refusal::Memory,
+    }
+}
+
+/// The refusal of a factor that did not pass the checks.
+fn refusal_of_check(refusal: CheckRefusal) -> Refusal
+    ensures { result ≡ told_check refusal }
+{
+    match refusal {
+        CheckRefusal::WrongDomain(Found { file, at, name }) => {
+            Refusal::Fault(file, Fault::WrongDomain(name), at)
+        }
+        CheckRefusal::UnknownName(Found { file, at, name }) => {
+            Refusal::Fault(file, Fault::Unknown(name), at)
+        }
+        CheckRefusal::Arity(Found { file, at, name }) => {
+            Refusal::Fault(file, Fault::Arity(name), at)
+        }
+        CheckRefusal::Twice(Found { file, at, name }) => {
+            Refusal::Fault(file, Fault::Twice(name), at)
+        }
+        CheckRefusal::OutOfMemory => Refusal::Memory,
+    }
+}
+
+/// What a domain's tree says.
+fn said_domain(alloc: Global, tree: &Tree) -> Result<Domain, Refusal>
+    ensures said { IfOk result (λ said. HasShape File.Domain (node_of tree.now) (domain_value (node_of tree.now)) (Ok said)) }
+    ensures cause { IfErr result (Refuses (HasShape File.Domain (node_of tree.now) (domain_value (node_of tree.now)))) }
+{
+    match domain(alloc, tree) {
+        Ok(said) => Ok(said),
+        Err(refusal) => Err(refusal_of_shape(File::Domain, refusal)),
+    }
+}
+
+/// What a problem's tree says.
+fn said_problem(alloc: Global, tree: &Tree) -> Result<Problem, Refusal>
+    ensures said { IfOk result (λ said. HasShape File.Problem (node_of tree.now) (problem_value (node_of tree.now)) (Ok said)) }
+    ensures cause { IfErr result (Refuses (HasShape File.Problem (node_of tree.now) (problem_value (node_of tree.now)))) }
+{
+    match problem(alloc, tree) {
+        Ok(said) => Ok(said),
+        Err(refusal) => Err(refusal_of_shape(File::Problem, refusal)),
+    }
+}
+
+/// The domain that a text says.
+fn domain_of_text(alloc: Global, text: &[u8]) -> Result<Domain, Refusal>
+    requires { length text.now ≤ longest_file }
+    ensures said { IfOk result (λ said. SaysDomain text.now (Ok said)) }
+    ensures cause { IfErr result (Refuses (SaysDomain text.now)) }
+{
+    let tree = tree_of(alloc, text, File::Domain)?;
+    said_domain(alloc, &tree)
+}
+
+/// The problem that a text says.
+fn problem_of_text(alloc: Global, text: &[u8]) -> Result<Problem, Refusal>
+    requires { length text.now ≤ longest_file }
+    ensures said { IfOk result (λ said. SaysProblem text.now (Ok said)) }
+    ensures cause { IfErr result (Refuses (SaysProblem text.now)) }
+{
+    let tree = tree_of(alloc, text, File::Problem)?;
+    said_problem(alloc, &tree)
+}
+
+/// The factor of a domain and a problem, when nothing is wrong with it.
+fn checked(alloc: Global, domain: Domain, problem: Problem) -> Result<CheckedFactor, Refusal>
+    ensures factor { IfOk result (λ factor. Checks domain problem (Ok factor)) }
+    ensures cause { IfErr result (Refuses (Checks domain problem)) }
+{
+    match check(alloc, domain, problem) {
         Ok(factor) => Ok(factor),
+        Err(refusal) => Err(refusal_of_check(refusal)),
+    }
+}
+
+/// The plain form of a factor.
+fn plain_form(alloc: Global, factor: &CheckedFactor) -> Result<PlainFactor, Refusal>
+    ensures factor { IfOk result (Leads (HasPlainForm factor.now)) }
+    ensures cause { IfErr result (Refuses (HasPlainForm factor.now)) }
+{
+    match plain(alloc, factor) {
+        Ok(form) => Ok(form),
         Err(PlainRefusal::NotBuilt(file)) => Err(Refusal::NotBuilt(file)),
         Err(PlainRefusal::OutOfMemory) => Err(Refusal::Memory),
     }
 }
 
-/// The factor of the texts of a domain and a problem. Both are read before their forms are looked at.
-fn factor_of_texts(alloc: Global, domain: &[u8], problem: &[u8]) -> Result<PlainFactor, Refusal>
-    requires domain { length domain.now ≤ longest_file }
-    requires problem { length problem.now ≤ longest_file }
-    ensures factor { IfOk result (HaveFactor domain.now problem.now) }
-    ensures cause { IfErr result (RestsOnTexts domain.now problem.now) }
+/// The plain form of the factor of a domain and a problem.
+fn plain_factor(alloc: Global, domain: Domain, problem: Problem) -> Result<PlainFactor, Refusal>
+    ensures factor { IfOk result (Leads (MakesFactor domain problem)) }
+    ensures cause { IfErr result (Refuses (MakesFactor domain problem)) }
 {
-    let domain_tree = tree_of(alloc, domain, File::Domain)?;
-    let problem_tree = tree_of(alloc, problem, File::Problem)?;
-    factor_of_trees(alloc, &domain_tree, &problem_tree)
+    let factor = checked(alloc, domain, problem)?;
+    plain_form(alloc, &factor)
 }
 
-/// The factor that the two files hold. Both are fetched before either is looked at.
-pub(crate) fn factor_of_files<S: Source>(
+/// The plain form of the factor of a domain and of a problem's text.
+fn plain_with(alloc: Global, domain: Domain, problem: &[u8]) -> Result<PlainFactor, Refusal>
+    requires { length problem.now ≤ longest_file }
+    ensures factor { IfOk result (Leads (Then (SaysProblem problem.now) (MakesFactor domain))) }
+    ensures cause { IfErr result (Refuses (Then (SaysProblem problem.now) (MakesFactor domain))) }
+{
+    let said = problem_of_text(alloc, problem)?;
+    plain_factor(alloc, domain, said)
+}
+
+/// The plain form of the factor of two texts.
+fn plain_of_texts(alloc: Global, domain: &[u8], problem: &[u8]) -> Result<PlainFactor, Refusal>
+    requires domain { length domain.now ≤ longest_file }
+    requires problem { length problem.now ≤ longest_file }
+    ensures factor { IfOk result (Leads (ReadsTexts domain.now problem.now)) }
+    ensures cause { IfErr result (Refuses (ReadsTexts domain.now problem.now)) }
+{
+    let said = domain_of_text(alloc, domain)?;
+    plain_with(alloc, said, problem)
+}
+
+/// The plain form of the factor that the two files hold. Both are fetched before either is looked at.
+pub(crate) fn plain_of_files<S: Source>(
     alloc: Global,
     source: &mut S,
     request: &Request<'_>,
 ) -> Result<PlainFactor, Refusal>
-    ensures factor { IfOk result (λ factor. IfSome (S.held source.old) (λ files. HoldsFactor files (asked request.now) factor)) }
+    ensures factor { IfOk result (λ plain. IfSome (S.held source.old) (λ files. Leads (Reads files (asked request.now)) plain)) }
     ensures read { IfOk result IsRead }
     ensures cause { IfErr result (Rests (S.held source.old) (S.faults source.old) (S.faults source.new) (S.fault_at source.new) (asked request.now)) }
     ensures later { S.faults source.old ≤ S.faults source.new }
 {
     let domain = text_of(alloc, source, request, File::Domain)?;
     let problem = text_of(alloc, source, request, File::Problem)?;
-    factor_of_texts(alloc, domain.as_slice(), problem.as_slice())
+    plain_of_texts(alloc, domain.as_slice(), problem.as_slice())
 }

@@ -10,7 +10,7 @@ use mp_search::Answer;
 use std::alloc::Global;
 use std::test::Fail;
 
-const FILES: [(&str, &[u8]); 8] = [
+const FILES: [(&str, &[u8]); 17] = [
     (
         "lamp-d",
         b"(define (domain lamp) (:predicates (on)) (:action press :parameters () :precondition () :effect (on)))",
@@ -31,6 +31,33 @@ const FILES: [(&str, &[u8]); 8] = [
     (
         "or-d",
         b"(define (domain x) (:predicates (p)) (:action a :parameters () :precondition (or (p)) :effect (p)))",
+    ),
+    (
+        "cost-d",
+        b"(define (domain c) (:action a :parameters () :precondition () :effect (increase (total-cost) 0.5)))",
+    ),
+    (
+        "many-d",
+        b"(define (domain m) (:action a :parameters (?a ?b ?c ?d ?e ?f ?g ?h ?i ?j ?k ?l ?m)))",
+    ),
+    ("other-p", b"(define (problem o) (:domain other))"),
+    ("twice-d", b"(define (domain lamp) (:predicates (on) (on)))"),
+    ("wide-d", b"(define (domain lamp) (:predicates (on ?x)))"),
+    (
+        "un-p",
+        b"(define (problem y) (:domain lamp) (:init (q)) (:goal (on)))",
+    ),
+    (
+        "cheap-p",
+        b"(define (problem m) (:domain lamp) (:metric minimize (total-cost)))",
+    ),
+    (
+        "door-d",
+        b"(define (domain door) (:predicates (key) (open) (in)) (:action go :precondition (and (open)) :effect (in)) (:action turn :precondition (key) :effect (and (open) (not (key)))))",
+    ),
+    (
+        "door-p",
+        b"(define (problem two) (:domain door) (:init (key)) (:goal (and (in) (open))))",
     ),
     ("two-d", b"(define (domain lamp)) (a)"),
     ("empty", b""),
@@ -81,7 +108,7 @@ fn answer(
 #[test]
 fn outcomes(rt: HostRuntime) -> Result<(), Fail> {
     let alloc = rt.alloc();
-    let rows: [(&str, &str, u8, &[u8], usize); 4] = [
+    let rows: [(&str, &str, u8, &[u8], usize); 5] = [
         ("lamp-d", "lamp-p", 0, PRESSED, 2),
         (
             "lamp-d",
@@ -103,6 +130,13 @@ fn outcomes(rt: HostRuntime) -> Result<(), Fail> {
             0,
             b"cost 0\nlength 0\nagent 1\nevents 1 messages 0 bytes 0\n",
             1,
+        ),
+        (
+            "door-d",
+            "door-p",
+            0,
+            b"cost 2\nlength 2\nagent 1\n1: (turn)\n2: (go)\nevents 3 messages 0 bytes 0\n",
+            3,
         ),
     ];
     for (domain, problem, code, text, entries) in rows {
@@ -141,7 +175,7 @@ fn the_report_of_the_lamp(rt: HostRuntime) -> Result<(), Fail> {
 }
 
 /// Words, the status they end with, and the line on `err`.
-const REFUSED: [(&[&str], u8, &[u8]); 12] = [
+const REFUSED: [(&[&str], u8, &[u8]); 21] = [
     (&[], 3, b"maplan: words\n"),
     (
         &["solve", "--one", "--h", "blind", "lamp-d"],
@@ -191,12 +225,59 @@ const REFUSED: [(&[&str], u8, &[u8]); 12] = [
     (
         &["solve", "--one", "--h", "blind", "or-d", "lamp-p"],
         5,
-        b"maplan: or-d: not built\n",
+        b"maplan: or-d:1:79: F5 unsupported or\n",
     ),
     (
         &["solve", "--one", "--h", "blind", "lamp-d", "lamp-d"],
         5,
-        b"maplan: lamp-d: not built\n",
+        b"maplan: lamp-d:1:1: F4 shape\n",
+    ),
+    // A domain's shape is looked at before the problem's text.
+    (
+        &["solve", "--one", "--h", "blind", "or-d", "empty"],
+        5,
+        b"maplan: or-d:1:79: F5 unsupported or\n",
+    ),
+    (
+        &["solve", "--one", "--h", "blind", "cost-d", "lamp-p"],
+        5,
+        b"maplan: cost-d:1:94: F9 cost\n",
+    ),
+    (
+        &["solve", "--one", "--h", "blind", "many-d", "lamp-p"],
+        5,
+        b"maplan: many-d:1:80: F5 unsupported parameters\n",
+    ),
+    (
+        &["solve", "--one", "--h", "blind", "lamp-d", "un-p"],
+        5,
+        b"maplan: un-p:1:44: F6 unknown q\n",
+    ),
+    (
+        &["solve", "--one", "--h", "blind", "wide-d", "lamp-p"],
+        5,
+        b"maplan: lamp-p:1:54: F7 arity on\n",
+    ),
+    (
+        &["solve", "--one", "--h", "blind", "twice-d", "lamp-p"],
+        5,
+        b"maplan: twice-d:1:42: F8 twice on\n",
+    ),
+    // A wrong domain comes before other faults of the checks.
+    (
+        &["solve", "--one", "--h", "blind", "twice-d", "other-p"],
+        5,
+        b"maplan: other-p:1:30: F10 domain other\n",
+    ),
+    (
+        &["solve", "--one", "--h", "blind", "wide-d", "cheap-p"],
+        5,
+        b"maplan: wide-d: not built\n",
+    ),
+    (
+        &["solve", "--one", "--h", "blind", "lamp-d", "cheap-p"],
+        5,
+        b"maplan: cheap-p: not built\n",
     ),
 ];
 

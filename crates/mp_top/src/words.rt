@@ -4,7 +4,7 @@ ghost use Rattle.std.specs.Prelude.{◌≡◌, map, string_bytes, MatchOption, S
 ghost use Rattle.mp_top.specs.Refusal.{asked, name_in};
 ghost use Rattle.mp_top.specs.Words.{request_of, is_alone, is_plain_word, stands_before_dashes};
 
-use mp_sexp::File;
+use mp_factor::File;
 
 /// What accepted words ask for: a plan for these two files.
 #[derive(Clone, Copy)]

@@ -1,5 +1,5 @@
 use Rattle.mp_sexp.specs.Node.{node_of}
-use Rattle.mp_factor.specs.declared.files.FileKind.TheVariants.{Domain}
+use Rattle.mp_factor.specs.declared.files.File.TheVariants.{Domain}
 use Rattle.mp_factor.specs.Files.{file_faults}
 use Rattle.mp_factor.proofs.FirstLemmas.{found}
 use Rattle.mp_factor.proofs.files.domain_fault.Goals as goal

@@ -1,5 +1,5 @@
 use Rattle.mp_sexp.specs.Node.{node_of}
-use Rattle.mp_factor.specs.declared.files.FileKind.TheVariants.{Problem}
+use Rattle.mp_factor.specs.declared.files.File.TheVariants.{Problem}
 use Rattle.mp_factor.specs.Files.{file_faults}
 use Rattle.mp_factor.proofs.FirstLemmas.{found}
 use Rattle.mp_factor.proofs.files.problem_fault.Goals as goal

@@ -3,6 +3,6 @@ use Rattle.mp_plain.proofs.solving.solve.Goals as goal
 
 pub returns-clause-found : goal.returns-clause-found
 returns-clause-found c =
-    let u = c.in_ok-alone.ensures in
-    found c.args.factor.now c.in_ok-task.task c.in_ok-alone.alone.answer c.in_ok-alone.alone.plan c.in_ok-alone.alone.expanded c.in_ok-plan.plan
-    c.in_ok-task.ensures.task c.requires u.decided u.solved u.least u.run u.only c.in_ok-plan.ensures
+    λ made m. let u = c.in_ok-alone.ensures in
+    found made c.args.factor.now c.in_ok-task.task c.in_ok-alone.alone.answer c.in_ok-alone.alone.plan c.in_ok-alone.alone.expanded c.in_ok-plan.plan
+    m c.in_ok-task.ensures.task u.decided u.solved u.least u.run u.only c.in_ok-plan.ensures

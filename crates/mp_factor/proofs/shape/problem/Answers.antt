@@ -1,0 +1,15 @@
+use Rattle.std.proofs.Common.{◌≡◌, List, ap, ◌∙◌}
+use Rattle.mp_sexp.specs.Node.{Node, node_of, nodes_in}
+use Rattle.mp_factor.specs.Parts.{parts, rest_of}
+use Rattle.mp_factor.specs.FileValues.{problem_parts, problem_value}
+use Rattle.mp_factor.specs.Limits.{ProblemFits}
+use Rattle.mp_factor.proofs.LimitLemmas.{problem_fits}
+use Rattle.mp_factor.proofs.shape.problem.Goals as goal
+
+pub problem_of-requires : goal.problem_of-requires
+unfolding problem_value
+problem_of-requires c =
+    let read : nodes_in c.behind_first.result.now ≡ rest_of (parts (node_of c.args.tree.now)) =
+    c.behind_first.ensures ∙ ap (λ (ns : List Node). rest_of ns) c.members.ensures in
+    let fits : ProblemFits (problem_parts (rest_of (parts (node_of c.args.tree.now)))) = problem_fits (node_of c.args.tree.now) c.in_default.ensures in
+    rw read fits

@@ -1,0 +1,101 @@
+//! A factor: what an agent's two files say, form by form.
+
+use crate::atom_values::AtomList;
+use crate::init_values::ValueList;
+use crate::schema_values::SchemaList;
+use crate::signature_values::SignatureList;
+use crate::typed_values::TypedList;
+use crate::word::Word;
+use mp_list::{Copied, OutOfMemory};
+use std::marker::Model;
+
+/// A domain file of factored MA-PDDL. Each of its actions has at most 12 parameters and 16 increases, and none of
+/// its costs is above 1,000,000.
+#[derive(Drop)]
+pub struct Domain {
+    /// Its name.
+    pub word: Word,
+    pub types: TypedList,
+    pub constants: TypedList,
+    pub predicates: SignatureList,
+    pub functions: SignatureList,
+    pub schemas: SchemaList,
+}
+
+impl Model for Domain {
+    ghost use Rattle.mp_factor.specs.FactorParts.{DomainParts};
+
+    ghost Value = { DomainParts };
+
+    ghost use Rattle.mp_factor.specs.FactorFields.{domain_fields};
+    ghost use Rattle.mp_factor.specs.Limits.{DomainFits};
+
+    ghost view = { domain_fields };
+
+    ghost invariant = { λ d. DomainFits (domain_fields d) };
+}
+
+impl Copied for Domain {
+    fn copy(&self) -> Result<Domain, OutOfMemory> {
+        Ok(Domain {
+            word: self.word.copy()?,
+            types: self.types.copy()?,
+            constants: self.constants.copy()?,
+            predicates: self.predicates.copy()?,
+            functions: self.functions.copy()?,
+            schemas: self.schemas.copy()?,
+        })
+    }
+}
+
+/// A problem file of factored MA-PDDL. None of its values is above 1,000,000, and no function has two of them.
+#[derive(Drop)]
+pub struct Problem {
+    /// Its name.
+    pub word: Word,
+    /// The name of the domain that it belongs to.
+    pub domain: Word,
+    pub objects: TypedList,
+    /// The facts that are true at the start.
+    pub init: AtomList,
+    /// The values of functions.
+    pub values: ValueList,
+    /// The atoms that are to hold in the end.
+    pub goals: AtomList,
+    /// Whether the total cost is to be least; otherwise each action costs 1.
+    pub metric: bool,
+}
+
+impl Model for Problem {
+    ghost use Rattle.mp_factor.specs.FactorParts.{ProblemParts};
+
+    ghost Value = { ProblemParts };
+
+    ghost use Rattle.mp_factor.specs.FactorFields.{problem_fields};
+    ghost use Rattle.mp_factor.specs.Limits.{ProblemFits};
+
+    ghost view = { problem_fields };
+
+    ghost invariant = { λ p. ProblemFits (problem_fields p) };
+}
+
+impl Copied for Problem {
+    fn copy(&self) -> Result<Problem, OutOfMemory> {
+        Ok(Problem {
+            word: self.word.copy()?,
+            domain: self.domain.copy()?,
+            objects: self.objects.copy()?,
+            init: self.init.copy()?,
+            values: self.values.copy()?,
+            goals: self.goals.copy()?,
+            metric: self.metric,
+        })
+    }
+}
+
+/// What one agent's two files say.
+#[derive(Drop)]
+pub struct Factor {
+    pub domain: Domain,
+    pub problem: Problem,
+}

@@ -1,0 +1,22 @@
+-- What a check answers.
+use Rattle.std.proofs.Common.{◌≡◌, List, [], Some, None, sym}
+use Rattle.mp_typing.specs.declared.fault.Fault.{Fault}
+use Rattle.mp_typing.specs.declared.fault.FaultKind.{FaultKind}
+use Rattle.mp_typing.specs.declared.fault.FaultKind.TheVariants.{WrongDomain, Unknown, Arity, Twice}
+use Rattle.mp_typing.specs.declared.refusal.Found.{Found}
+use Rattle.mp_typing.specs.Faults.{leftmost}
+use Rattle.mp_typing.specs.FirstFault.{IsFirst}
+use Rattle.mp_typing.specs.Refused.{RestsOn, refusal_by, refusal_of, fault_of}
+use Rattle.mp_typing.proofs.FirstLemmas.{nothing_found, found_first}
+
+pub none_found : (faults : List Fault) → None ≡ leftmost None faults → faults ≡ []
+none_found faults e = nothing_found faults (sym e)
+
+rests_by : (faults : List Fault) (kind : FaultKind) (found : Found) → IsFirst faults (fault_of kind found) → RestsOn faults (refusal_by kind found)
+rests_by faults WrongDomain found first = first
+rests_by faults Unknown found first = first
+rests_by faults Arity found first = first
+rests_by faults Twice found first = first
+
+pub rests_on : (faults : List Fault) (fault : Fault) → Some fault ≡ leftmost None faults → RestsOn faults (refusal_of fault)
+rests_on faults fault e = rests_by faults fault.kind fault.found (found_first faults fault (sym e))

@@ -1,0 +1,81 @@
+-- Items of a list that pass a test, or of which none does.
+use Rattle.std.proofs.Common.{◌≡◌, cond, Bool, true, false, ◌&&◌, not, List, [], ◌∷◌, refl, sym, ap, subst, ◌∙◌, inl, inr}
+use Rattle.std.specs.Prelude.{Contains, filter}
+use Rattle.std.specs.List.{list_any, list_all}
+use Rattle.std.proofs.lemmas.Bool.{cases_Bool}
+use Rattle.mp_typing.proofs.Lists.{or_left, or_right, or_cases, and_left, and_right, not_true, contains_head, contains_tail, contains_cases, no_member}
+
+-- where some item passes, one does
+pub one_passes : {X : Type 0} (test : X → Bool) (xs : List X) → list_any test xs ≡ true → (x : X) × Contains xs x × (test x ≡ true)
+one_passes test [] h = absurd (cc)
+one_passes test (x ∷ xs) h =
+    elim (or_cases (test x) (list_any test xs) h) [
+      | inl here ↦ (x, contains_head x xs, here)
+      | inr there ↦ let found = one_passes test xs there in (found.0, contains_tail x xs found.0 found.1, found.2)
+    ]
+
+-- and the way back
+pub any_from_one : {X : Type 0} (test : X → Bool) (xs : List X) (x : X) → Contains xs x → test x ≡ true → list_any test xs ≡ true
+any_from_one test [] x found h = absurd (no_member x found)
+any_from_one test (y ∷ ys) x found h =
+    elim (contains_cases y ys x found) [
+      | inl here ↦ or_left (test y) (list_any test ys) (ap test here ∙ h)
+      | inr there ↦ or_right (test y) (list_any test ys) (any_from_one test ys x there h)
+    ]
+
+-- where not all items fail a test, one passes it
+pub one_passes_where_not_all_fail : {X : Type 0} (test : X → Bool) (xs : List X) → list_all (λ x. not (test x)) xs ≡ false
+    → (x : X) × Contains xs x × (test x ≡ true)
+one_passes_where_not_all_fail test [] h = absurd (cc)
+one_passes_where_not_all_fail test (x ∷ xs) h =
+    elim (cases_Bool (test x)) [
+      | inl here ↦ (x, contains_head x xs, here)
+      | inr fails ↦
+          let rest : list_all (λ y. not (test y)) xs ≡ false = sym (ap (λ b. not b && list_all (λ y. not (test y)) xs) fails) ∙ h in
+          let found = one_passes_where_not_all_fail test xs rest in
+          (found.0, contains_tail x xs found.0 found.1, found.2)
+    ]
+
+-- where all items fail a test, none is taken by it
+pub none_taken : {X : Type 0} (test : X → Bool) (xs : List X) → list_all (λ x. not (test x)) xs ≡ true → filter test xs ≡ []
+none_taken test [] h = refl
+none_taken test (x ∷ xs) h =
+    let fails = not_true (test x) (and_left (not (test x)) (list_all (λ y. not (test y)) xs) h) in
+    let rest = none_taken test xs (and_right (not (test x)) (list_all (λ y. not (test y)) xs) h) in
+    ap (λ b. cond b (x ∷ filter test xs) (filter test xs)) fails ∙ rest
+
+-- an item that a test takes is in the list and passes
+pub taken_passes : {X : Type 0} (test : X → Bool) (xs : List X) (x : X) → Contains (filter test xs) x → Contains xs x × (test x ≡ true)
+taken_passes test [] x found = absurd (no_member x found)
+taken_passes test (y ∷ ys) x found =
+    elim (cases_Bool (test y)) [
+      | inl passes ↦
+          let taken : filter test (y ∷ ys) ≡ y ∷ filter test ys = ap (λ b. cond b (y ∷ filter test ys) (filter test ys)) passes in
+          elim (contains_cases y (filter test ys) x (subst (λ zs. Contains zs x) taken found)) [
+            | inl here ↦ (subst (Contains (y ∷ ys)) here (contains_head y ys), sym (ap test here) ∙ passes)
+            | inr there ↦ let old = taken_passes test ys x there in (contains_tail y ys x old.0, old.1)
+          ]
+      | inr fails ↦
+          let left : filter test (y ∷ ys) ≡ filter test ys = ap (λ b. cond b (y ∷ filter test ys) (filter test ys)) fails in
+          let old = taken_passes test ys x (subst (λ zs. Contains zs x) left found) in
+          (contains_tail y ys x old.0, old.1)
+    ]
+
+-- and the way back
+pub taken_from_passes : {X : Type 0} (test : X → Bool) (xs : List X) (x : X) → Contains xs x → test x ≡ true → Contains (filter test xs) x
+taken_from_passes test [] x found h = absurd (no_member x found)
+taken_from_passes test (y ∷ ys) x found h =
+    elim (cases_Bool (test y)) [
+      | inl passes ↦
+          let taken : filter test (y ∷ ys) ≡ y ∷ filter test ys = ap (λ b. cond b (y ∷ filter test ys) (filter test ys)) passes in
+          subst (λ zs. Contains zs x) (sym taken) (elim (contains_cases y ys x found) [
+            | inl here ↦ subst (Contains (y ∷ filter test ys)) here (contains_head y (filter test ys))
+            | inr there ↦ contains_tail y (filter test ys) x (taken_from_passes test ys x there h)
+          ])
+      | inr fails ↦
+          let left : filter test (y ∷ ys) ≡ filter test ys = ap (λ b. cond b (y ∷ filter test ys) (filter test ys)) fails in
+          elim (contains_cases y ys x found) [
+            | inl here ↦ absurd (let no : true ≡ false = sym h ∙ sym (ap test here) ∙ fails in cc)
+            | inr there ↦ subst (λ zs. Contains zs x) (sym left) (taken_from_passes test ys x there h)
+          ]
+    ]

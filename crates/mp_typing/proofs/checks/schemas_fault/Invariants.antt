@@ -1,0 +1,9 @@
+use Rattle.std.proofs.Common.{◌≡◌, drop}
+use Rattle.std.specs.List.{flat_map}
+use Rattle.mp_typing.specs.Faults.{leftmost}
+use Rattle.mp_typing.specs.CheckFaults.{schema_faults}
+use Rattle.mp_typing.proofs.checks.schemas_fault.Given as goal
+
+abbrev pub invariant-loop-schema : goal.invariant-loop-schema
+invariant-loop-schema l =
+    leftmost l.first (flat_map (schema_faults l.declared) (drop l.schema-index l.schemas)) ≡ leftmost l.fn.least (flat_map (schema_faults l.fn.declared) l.fn.schemas)

@@ -1,0 +1,8 @@
+use Rattle.mp_typing.proofs.UnderLemmas.{lies_under_decides, is_of_type_decides}
+use Rattle.mp_typing.proofs.test_laws.type_test_decides.Goals as goal
+
+pub returns-clause-under : goal.returns-clause-under
+returns-clause-under c = lies_under_decides
+
+pub returns-clause-object : goal.returns-clause-object
+returns-clause-object c = is_of_type_decides

@@ -1,0 +1,16 @@
+pub mod CheckFaults
+pub mod Faults
+pub mod FirstFault
+pub mod Indexed
+pub mod IsA
+pub mod Listing
+pub mod Lookups
+pub mod Lower
+pub mod Members
+pub mod Names
+pub mod ObjectList
+pub mod Places
+pub mod Refused
+pub mod Repeats
+pub mod Under
+pub mod Uses

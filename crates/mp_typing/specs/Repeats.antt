@@ -1,0 +1,46 @@
+-- Names that are declared more than once.
+use Rattle.std.specs.Prelude.{Bool, true, false, not, ◌&&◌, List, [], ◌∷◌, ◌++◌, Option, Some, None, if◌then◌else◌}
+use Rattle.std.specs.List.{list_any, find}
+use Rattle.std.specs.Cmp.Lexicographic.{pointwise}
+use Rattle.std.specs.Str.{bytes_eq}
+use Rattle.mp_factor.specs.declared.files.File.{File}
+use Rattle.mp_factor.specs.declared.word.Word.{Word}
+use Rattle.mp_factor.specs.declared.typed_values.Typed.{Typed}
+use Rattle.mp_typing.specs.declared.fault.Fault.{Fault}
+use Rattle.mp_typing.specs.declared.fault.FaultKind.TheVariants.{Twice}
+use Rattle.mp_typing.specs.Faults.{fault_at}
+
+-- two words with one name
+abbrev pub is_same : Word → Word → Bool
+is_same a b = bytes_eq a.name b.name
+
+-- a word, where it is a second declaration
+abbrev pub twice_if : Bool → File → Word → List Fault
+twice_if is_second file word = if is_second then fault_at Twice file word ∷ [] else []
+
+-- a word that has the name of one of these
+unfoldable pub repeat_faults : File → List Word → Word → List Fault
+repeat_faults file before word = twice_if (list_any (λ w. is_same w word) before) file word
+
+-- words that have the name of one of these or of an earlier one
+unfoldable pub repeated_faults : File → List Word → List Word → List Fault
+repeated_faults file before [] = []
+repeated_faults file before (w ∷ ws) = repeat_faults file before w ++ repeated_faults file (before ++ w ∷ []) ws
+
+-- both private, or both public
+abbrev pub is_same_privacy : Bool → Bool → Bool
+is_same_privacy true private = private
+is_same_privacy false private = not private
+
+-- objects of the same types as they are written, and the same privacy
+unfoldable pub is_alike : Typed → Typed → Bool
+is_alike a b = pointwise is_same a.types b.types && is_same_privacy a.private b.private
+
+-- an object, by the first of its name
+abbrev pub unlike_faults : File → Option Typed → Typed → List Fault
+unlike_faults file None object = []
+unlike_faults file (Some first) object = if is_alike first object then [] else fault_at Twice file object.word ∷ []
+
+-- an object is like the first of all objects that has its name
+unfoldable pub object_faults : File → List Typed → Typed → List Fault
+object_faults file all object = unlike_faults file (find (λ o. is_same o.word object.word) all) object

@@ -1,0 +1,181 @@
+//! Checks of a factor: its domain's name, names that are not declared, numbers of terms, and names declared twice.
+
+ghost use Rattle.std.specs.Prelude.{◌≡◌, ◌++◌, [], IfOk, IfErr};
+ghost use Rattle.std.specs.List.{flat_map};
+ghost use Rattle.mp_typing.specs.Faults.{leftmost};
+ghost use Rattle.mp_typing.specs.Lookups.{declared as declared_of};
+ghost use Rattle.mp_typing.specs.CheckFaults.{owner_faults, schema_faults as faults_of_schema, declared_faults as faults_of_declared, value_faults as faults_of_value, problem_faults as faults_of_problem, check_faults};
+ghost use Rattle.mp_typing.specs.Refused.{RestsOn, refusal_of};
+
+use crate::checked::CheckedFactor;
+use crate::declared::{Declared, declarations};
+use crate::fault::{Fault, FaultKind, with};
+use crate::refusal::CheckRefusal;
+use crate::repeats::{objects_fault, repeated_fault};
+use crate::uses::{atoms_fault, function_fault, increases_fault};
+use mp_factor::{Domain, File, Problem, Schema, Value, Word};
+use mp_list::OutOfMemory;
+use std::alloc::Global;
+
+/// The first fault, with that of a problem that belongs to another domain. Refuses only for want of memory.
+#[tactic(auto, unfolding(crate::specs::CheckFaults::owner_faults))]
+fn owner_fault(
+    least: Option<Fault>,
+    name: &Word,
+    owner: &Word,
+) -> Result<Option<Fault>, OutOfMemory>
+    ensures { IfOk result (λ first. first ≡ leftmost least (owner_faults name.now owner.now)) }
+{
+    if owner.name.as_slice() == name.name.as_slice() {
+        Ok(least)
+    } else {
+        with(least, FaultKind::WrongDomain, File::Problem, owner)
+    }
+}
+
+/// The first fault, with those of an action. Refuses only for want of memory.
+#[tactic(auto, using(crate::proofs::FirstLemmas::leftmost_append), unfolding(crate::specs::CheckFaults::schema_faults))]
+fn schema_fault(
+    alloc: Global,
+    least: Option<Fault>,
+    declared: &Declared,
+    schema: &Schema,
+) -> Result<Option<Fault>, OutOfMemory>
+    ensures { IfOk result (λ first. first ≡ leftmost least (faults_of_schema declared.now schema.now)) }
+{
+    let file = File::Domain;
+    let params = schema.params.as_slice();
+    let listed = repeated_fault(alloc, least, file, params)?;
+    let pre = atoms_fault(listed, file, params, declared, schema.pre.as_slice())?;
+    let add = atoms_fault(pre, file, params, declared, schema.add.as_slice())?;
+    let del = atoms_fault(add, file, params, declared, schema.del.as_slice())?;
+    increases_fault(del, file, params, declared, schema.increases.as_slice())
+}
+
+/// The first fault, with those of actions. Refuses only for want of memory.
+fn schemas_fault(
+    alloc: Global,
+    least: Option<Fault>,
+    declared: &Declared,
+    schemas: &[Schema],
+) -> Result<Option<Fault>, OutOfMemory>
+    ensures { IfOk result (λ first. first ≡ leftmost least (flat_map (faults_of_schema declared.now) schemas.now)) }
+{
+    let mut first = least;
+    for schema in schemas {
+        first = schema_fault(alloc, first, declared, schema)?;
+    }
+    Ok(first)
+}
+
+/// The first fault, with those of the names that a domain declares. Refuses only for want of memory.
+#[tactic(auto, using(crate::proofs::FirstLemmas::leftmost_append), unfolding(crate::specs::CheckFaults::declared_faults))]
+fn declared_fault(
+    alloc: Global,
+    least: Option<Fault>,
+    declared: &Declared,
+    domain: &Domain,
+    problem: &Problem,
+) -> Result<Option<Fault>, OutOfMemory>
+    requires { declared.now ≡ declared_of domain.now problem.now }
+    ensures { IfOk result (λ first. first ≡ leftmost least (faults_of_declared (domain.now.constants ++ problem.now.objects) domain.now)) }
+{
+    let file = File::Domain;
+    let constants = domain.constants.as_slice();
+    let others = problem.objects.as_slice();
+    let objects = objects_fault(least, file, &declared.objects, constants, others, constants)?;
+    let predicates = repeated_fault(alloc, objects, file, domain.predicates.as_slice())?;
+    let functions = repeated_fault(alloc, predicates, file, domain.functions.as_slice())?;
+    repeated_fault(alloc, functions, file, domain.schemas.as_slice())
+}
+
+/// The first fault, with those of a value at the start. Refuses only for want of memory.
+#[tactic(auto, unfolding(crate::specs::CheckFaults::value_faults))]
+fn value_fault(
+    least: Option<Fault>,
+    declared: &Declared,
+    value: &Value,
+) -> Result<Option<Fault>, OutOfMemory>
+    ensures { IfOk result (λ first. first ≡ leftmost least (faults_of_value declared.now value.now)) }
+{
+    function_fault(least, File::Problem, &[], declared, &value.of)
+}
+
+/// The first fault, with those of values at the start. Refuses only for want of memory.
+fn values_fault(
+    least: Option<Fault>,
+    declared: &Declared,
+    values: &[Value],
+) -> Result<Option<Fault>, OutOfMemory>
+    ensures { IfOk result (λ first. first ≡ leftmost least (flat_map (faults_of_value declared.now) values.now)) }
+{
+    let mut first = least;
+    for value in values {
+        first = value_fault(first, declared, value)?;
+    }
+    Ok(first)
+}
+
+/// The first fault, with those of a problem. Refuses only for want of memory.
+#[tactic(auto, using(crate::proofs::FirstLemmas::leftmost_append), unfolding(crate::specs::CheckFaults::problem_faults))]
+fn problem_fault(
+    least: Option<Fault>,
+    declared: &Declared,
+    domain: &Domain,
+    problem: &Problem,
+) -> Result<Option<Fault>, OutOfMemory>
+    requires { declared.now ≡ declared_of domain.now problem.now }
+    ensures { IfOk result (λ first. first ≡ leftmost least (faults_of_problem (domain.now.constants ++ problem.now.objects) declared.now problem.now)) }
+{
+    let file = File::Problem;
+    let constants = domain.constants.as_slice();
+    let others = problem.objects.as_slice();
+    let objects = objects_fault(least, file, &declared.objects, constants, others, others)?;
+    let init = atoms_fault(objects, file, &[], declared, problem.init.as_slice())?;
+    let values = values_fault(init, declared, problem.values.as_slice())?;
+    atoms_fault(values, file, &[], declared, problem.goals.as_slice())
+}
+
+/// The first fault of a factor. Refuses only for want of memory.
+#[tactic(auto, using(crate::proofs::FirstLemmas::leftmost_append), unfolding(crate::specs::CheckFaults::check_faults))]
+fn first_fault(
+    alloc: Global,
+    domain: &Domain,
+    problem: &Problem,
+) -> Result<Option<Fault>, OutOfMemory>
+    ensures { IfOk result (λ first. first ≡ leftmost None (check_faults domain.now problem.now)) }
+{
+    let declared = declarations(alloc, domain, problem)?;
+    let owner = owner_fault(None, &domain.word, &problem.domain)?;
+    let names = declared_fault(alloc, owner, &declared, domain, problem)?;
+    let schemas = schemas_fault(alloc, names, &declared, domain.schemas.as_slice())?;
+    problem_fault(schemas, &declared, domain, problem)
+}
+
+/// The refusal that says a fault.
+fn refusal(fault: Fault) -> CheckRefusal
+    ensures { result ≡ refusal_of fault }
+{
+    let Fault { kind, found } = fault;
+    match kind {
+        FaultKind::WrongDomain => CheckRefusal::WrongDomain(found),
+        FaultKind::Unknown => CheckRefusal::UnknownName(found),
+        FaultKind::Arity => CheckRefusal::Arity(found),
+        FaultKind::Twice => CheckRefusal::Twice(found),
+    }
+}
+
+/// Checks what two files say. Refuses the first fault of the factor: a problem of another domain before all else, and
+/// then by place, the domain before the problem, and at one place an unknown name, then a number of terms, then a
+/// second declaration. Refuses also for want of memory.
+#[tactic(auto, using(crate::proofs::CheckLemmas::none_found, crate::proofs::CheckLemmas::rests_on))]
+pub fn check(alloc: Global, domain: Domain, problem: Problem) -> Result<CheckedFactor, CheckRefusal>
+    ensures given { IfOk result (λ checked. checked ≡ record { domain = domain; problem = problem }) }
+    ensures accepted { IfOk result (λ checked. check_faults domain problem ≡ []) }
+    ensures refused { IfErr result (λ refusal. RestsOn (check_faults domain problem) refusal) }
+{
+    match first_fault(alloc, &domain, &problem)? {
+        None => Ok(CheckedFactor::of(alloc, domain, problem)),
+        Some(fault) => Err(refusal(fault)),
+    }
+}
