@@ -1,17 +1,11 @@
 -- Which numbers are members of `numbers_below`, and what sets made by it are equal to.
-use Rattle.std.proofs.Common.{◌≡◌, ℕ, zero, suc, ◌+◌, ◌<◌, Bool, true, false, cond, not, ◌&&◌, ◌||◌, ltb, eqb, List, [], ◌∷◌, ◌++◌, length, get_or, refl, sym, ap, ◌∙◌, ⊎_elim, arith}
-use Rattle.std.proofs.Math.ListN.{set as set_at, replicate}
-use Rattle.std.proofs.lemmas.List.{get_or-set_same, get_or-set_other, get_or-replicate, ext_get_or}
-use Rattle.std.proofs.lemmas.Bool.{cases_eq, cases_lt, le-ltb, lt-ltb, false≢true, false_from_ne_true}
+use Rattle.std.proofs.Common.{◌≡◌, ℕ, zero, suc, ◌+◌, ◌<◌, Bool, true, false, cond, not, ◌&&◌, ◌||◌, ltb, eqb, List, [], ◌∷◌, ◌++◌, refl, sym, ap, ◌∙◌, arith}
+use Rattle.std.proofs.lemmas.Bool.{lt-ltb, false≢true, false_from_ne_true}
 use Rattle.std.proofs.lemmas.Bool.Decides.{nat_tests}
-use Rattle.std.proofs.lemmas.Slice.Eq.{slice_eq-Decides}
-use Rattle.std.proofs.Math.Bool.{beq}
-use Rattle.std.specs.Bool.{Decides}
-use Rattle.std.specs.Cmp.Lexicographic.{pointwise}
 use Rattle.std.specs.Ordering.{nat_cmp}
 use Rattle.std.specs.Cmp.{nat_cmp_total, unsigned_tied}
 use Rattle.std.specs.FinSet as set
-use Rattle.mp_sets.specs.Numbers.{Numbers, SizedSet, AllBelow, numbers_below}
+use Rattle.mp_sets.specs.Numbers.{Numbers, AllBelow, numbers_below}
 
 -- one step of the recursion where the number passes, and where it does not
 added : (q n : ℕ) (t : ℕ → Bool) → t n ≡ true → (eqb q n || (ltb q n && t q)) ≡ (ltb q (n + 1) && t q)
@@ -66,24 +60,23 @@ below_size n t q h = first_test q n (t q) (sym (contains-numbers_below n t q) �
 pub contains_at : (n : ℕ) (t : ℕ → Bool) (q : ℕ) → q < n → set.contains (numbers_below n t) q ≡ t q
 contains_at n t q h = contains-numbers_below n t q ∙ ap (λ b. b && t q) (lt-ltb q n h)
 
--- what is written into a list of flags is what the set of them gets
-pub numbers_below-insert : (flags : List Bool) (n x : ℕ) → length flags ≡ n → x < n → numbers_below n (λ k. get_or (set_at flags x true) k false) ≡ set.insert (numbers_below n (λ k. get_or flags k false)) x
-numbers_below-insert flags n x long h = same_numbers _ _ (λ q. contains-numbers_below n _ q ∙ written q ∙ sym (contains-insert_nat _ x q ∙ ap (λ b. eqb q x || b) (contains-numbers_below n _ q)))
+-- a test that passes one number more, one that passes one less, and one that passes none
+pub numbers_below-insert : (n x : ℕ) (t u : ℕ → Bool) → x < n → ((q : ℕ) → u q ≡ (eqb q x || t q)) → numbers_below n u ≡ set.insert (numbers_below n t) x
+numbers_below-insert n x t u h more = same_numbers _ _ (λ q.
+    contains-numbers_below n u q ∙ ap (λ b. ltb q n && b) (more q) ∙ written q (t q) ∙ sym (contains-insert_nat _ x q ∙ ap (λ b. eqb q x || b) (contains-numbers_below n t q)))
   where
-    written : (q : ℕ) → (ltb q n && get_or (set_at flags x true) q false) ≡ (eqb q x || (ltb q n && get_or flags q false))
-    written q = ⊎_elim (λ e. rw (e, get_or-set_same flags x true false (omega arith)) (grind (arith, nat_tests))) (λ ne. rw (get_or-set_other flags x q true false ne) (grind (arith, nat_tests))) (cases_eq q x)
+    written : (q : ℕ) (b : Bool) → (ltb q n && (eqb q x || b)) ≡ (eqb q x || (ltb q n && b))
+    written q b = grind (arith, nat_tests)
 
-pub numbers_below-remove : (flags : List Bool) (n x : ℕ) → length flags ≡ n → x < n → numbers_below n (λ k. get_or (set_at flags x false) k false) ≡ set.remove (numbers_below n (λ k. get_or flags k false)) x
-numbers_below-remove flags n x long h = same_numbers _ _ (λ q. contains-numbers_below n _ q ∙ written q ∙ sym (contains-remove_nat _ x q ∙ ap (λ b. not (eqb q x) && b) (contains-numbers_below n _ q)))
+pub numbers_below-remove : (n x : ℕ) (t u : ℕ → Bool) → ((q : ℕ) → u q ≡ (not (eqb q x) && t q)) → numbers_below n u ≡ set.remove (numbers_below n t) x
+numbers_below-remove n x t u less = same_numbers _ _ (λ q.
+    contains-numbers_below n u q ∙ ap (λ b. ltb q n && b) (less q) ∙ written q (t q) ∙ sym (contains-remove_nat _ x q ∙ ap (λ b. not (eqb q x) && b) (contains-numbers_below n t q)))
   where
-    written : (q : ℕ) → (ltb q n && get_or (set_at flags x false) q false) ≡ (not (eqb q x) && (ltb q n && get_or flags q false))
-    written q = ⊎_elim (λ e. rw (e, get_or-set_same flags x false false (omega arith)) (grind (arith, nat_tests))) (λ ne. rw (get_or-set_other flags x q false false ne) (grind (arith, nat_tests))) (cases_eq q x)
+    written : (q : ℕ) (b : Bool) → (ltb q n && (not (eqb q x) && b)) ≡ (not (eqb q x) && (ltb q n && b))
+    written q b = grind (arith, nat_tests)
 
-pub numbers_below-none : (n : ℕ) → numbers_below n (λ k. get_or (replicate n false) k false) ≡ set.empty
-numbers_below-none n = same_numbers _ _ (λ q. contains-numbers_below n _ q ∙ none q ∙ sym (set.contains-empty nat_cmp q))
-  where
-    none : (q : ℕ) → (ltb q n && get_or (replicate n false) q false) ≡ false
-    none q = ⊎_elim (λ h. ap (λ b. ltb q n && b) (get_or-replicate n q false false h) ∙ and_false (ltb q n)) (λ h. ap (λ b. b && get_or (replicate n false) q false) (le-ltb q n h)) (cases_lt q n)
+pub numbers_below-none : (n : ℕ) (t : ℕ → Bool) → ((q : ℕ) → t q ≡ false) → numbers_below n t ≡ set.empty
+numbers_below-none n t none = same_numbers _ _ (λ q. contains-numbers_below n t q ∙ ap (λ b. ltb q n && b) (none q) ∙ and_false (ltb q n) ∙ sym (set.contains-empty nat_cmp q))
 
 -- a number more to take out, or to put in
 pub difference-push : (s : Numbers) (ks : List ℕ) (k : ℕ) → set.remove (set.difference s (set.from_list ks)) k ≡ set.difference s (set.from_list (ks ++ k ∷ []))
@@ -127,31 +120,3 @@ union-none s = same_numbers _ _ (λ q. sym (set.contains-union nat_cmp_total s _
 -- one number that is in the one set and not in the other
 pub is_subset_not : (s t : Numbers) (q : ℕ) → set.contains s q ≡ true → set.contains t q ≡ false → set.is_subset s t ≡ false
 is_subset_not s t q here there = false_from_ne_true _ (λ e. false≢true (sym there ∙ set.is_subset-contains nat_cmp_total s t e q here))
-
--- the set that a list of flags stands for
-abbrev pub sized : ℕ → List Bool → SizedSet
-sized n flags = record { size = n; members = numbers_below n (λ k. get_or flags k false) }
-
-pub sized-same : (m n : ℕ) (fs gs : List Bool) → m ≡ n → fs ≡ gs → sized m fs ≡ sized n gs
-sized-same m n fs gs e f = λ i. sized (e i) (f i)
-
--- lists of flags that stand for the same set
-pub same_flags : (m n : ℕ) (fs gs : List Bool) → length fs ≡ m → length gs ≡ n → sized m fs ≡ sized n gs → fs ≡ gs
-same_flags m n fs gs f_long g_long same =
-    let sizes : m ≡ n = ap (λ s. s.size) same in
-    ext_get_or false fs gs (f_long ∙ sizes ∙ sym g_long) (λ k h.
-    let left : k < m = omega arith in
-    let right : k < n = omega arith in
-    sym (contains_at m _ k left) ∙ ap (λ s. set.contains s.members k) same ∙ contains_at n _ k right)
-
--- the test of two lists of flags, by what they stand for
-pub Decides-flags : (m n : ℕ) (fs gs : List Bool) (s t : SizedSet) (r : Bool) → length fs ≡ m → length gs ≡ n → m ≡ n → sized m fs ≡ s → sized n gs ≡ t → r ≡ pointwise beq fs gs → Decides r (s ≡ t)
-Decides-flags m n fs gs s t r f_long g_long sizes left right e =
-    let flags = slice_eq-Decides Decides-beq fs gs r e in
-    (λ yes. sym left ∙ sized-same m n fs gs sizes (flags.0 yes) ∙ right, λ same. flags.1 (same_flags m n fs gs f_long g_long (left ∙ same ∙ sym right)))
-  where
-    Decides-beq : (a b : Bool) → Decides (beq a b) (a ≡ b)
-    Decides-beq true true = (λ e. refl, λ e. refl)
-    Decides-beq true false = (λ e. absurd (false≢true e), λ e. sym e)
-    Decides-beq false true = (λ e. absurd (false≢true e), λ e. e)
-    Decides-beq false false = (λ e. refl, λ e. refl)

@@ -5,6 +5,7 @@ ghost use Rattle.std.specs.FinSet as set;
 ghost use Rattle.mp_sets.specs.Numbers.{AllBelow, holds, after, listed};
 
 use crate::fact_list::FactList;
+use crate::words;
 use mp_list::{Copied, OutOfMemory};
 use std::alloc::Global;
 use std::marker::Model;
@@ -13,13 +14,14 @@ use std::marker::Model;
 #[derive(Drop)]
 pub struct Bits {
     size: u32,
-    /// Whether each number below the size is a member.
-    flags: Vec<bool>,
+    /// As many words as the numbers below the size need: bit x % 64 of word x / 64 says whether x is a
+    /// member, and no bit at or above the size is set.
+    words: Vec<u64>,
 }
 
 impl Model for Bits {
-    ghost use Rattle.std.specs.Prelude.{◌≡◌, false, length, slice_index_or};
     ghost use Rattle.mp_sets.specs.Numbers.{SizedSet, sized_set_code, numbers_below};
+    ghost use Rattle.mp_sets.specs.Words.{has_bit, ArePacked};
 
     ghost Value = { SizedSet };
 
@@ -27,10 +29,10 @@ impl Model for Bits {
 
     ghost view = { λ b. record {
       size = b.size;
-      members = numbers_below b.size (λ x. slice_index_or b.flags.items x false);
+      members = numbers_below b.size (has_bit b.words.items);
     } };
 
-    ghost invariant = { λ b. length b.flags.items ≡ b.size };
+    ghost invariant = { λ b. ArePacked b.size b.words.items };
 }
 
 impl Bits {
@@ -40,7 +42,7 @@ impl Bits {
     {
         Ok(Bits {
             size,
-            flags: vec![in alloc; false; size as usize]?,
+            words: vec![in alloc; 0u64; (size as usize + 63) / 64]?,
         })
     }
 
@@ -57,7 +59,7 @@ impl Bits {
         requires { x < self.old.size }
         ensures { self.new ≡ record self.old { members = set.insert self.old.members x } }
     {
-        self.flags[x as usize] = true;
+        self.words[(x / 64) as usize] |= 1 << (x % 64);
     }
 
     /// Takes a number out, if it is a member.
@@ -65,7 +67,7 @@ impl Bits {
         requires { x < self.old.size }
         ensures { self.new ≡ record self.old { members = set.remove self.old.members x } }
     {
-        self.flags[x as usize] = false;
+        self.words[(x / 64) as usize] &= !(1 << (x % 64));
     }
 
     /// Whether a number is a member.
@@ -73,7 +75,7 @@ impl Bits {
         requires { x < self.now.size }
         ensures { result ≡ set.contains self.now.members x }
     {
-        self.flags[x as usize]
+        (self.words[(x / 64) as usize] >> (x % 64)) & 1 == 1
     }
 
     /// Whether all numbers of a list are members.
@@ -124,12 +126,7 @@ impl Bits {
         requires { self.now.size ≡ other.now.size }
         ensures { result ≡ set.is_subset self.now.members other.now.members }
     {
-        for x in 0..self.size() {
-            if self.contains(x) && !other.contains(x) {
-                return false;
-            }
-        }
-        true
+        words::are_within(self.words.as_slice(), other.words.as_slice())
     }
 
     /// Whether the other set, which has the same size, has the same members.
@@ -137,7 +134,7 @@ impl Bits {
         requires { self.now.size ≡ other.now.size }
         ensures { IsTrue result ↔ (self.now ≡ other.now) }
     {
-        self.flags.as_slice() == other.flags.as_slice()
+        words::are_equal(self.words.as_slice(), other.words.as_slice())
     }
 
     /// The members, least one first.
@@ -146,7 +143,7 @@ impl Bits {
         ensures set { IfOk result (λ list. set.from_list list ≡ self.now.members) }
         ensures below { IfOk result (λ list. All (λ x. x < self.now.size) list) }
     {
-        let mut list = FactList::new(*self.flags.allocator());
+        let mut list = FactList::new(*self.words.allocator());
         for number in 0..self.size() {
             if self.contains(number) {
                 list.push(number)?;
@@ -158,10 +155,10 @@ impl Bits {
 
 impl Copied for Bits {
     fn copy(&self) -> Result<Bits, OutOfMemory> {
-        let alloc = *self.flags.allocator();
+        let alloc = *self.words.allocator();
         Ok(Bits {
             size: self.size,
-            flags: Vec::from_slice(alloc, self.flags.as_slice())?,
+            words: Vec::from_slice(alloc, self.words.as_slice())?,
         })
     }
 }

@@ -5,6 +5,7 @@ mod agent;
 mod bits;
 mod fact_list;
 mod tag;
+mod words;
 
 pub use agent::Agent;
 pub use bits::Bits;

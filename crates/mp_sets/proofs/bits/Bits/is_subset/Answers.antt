@@ -1,13 +1,16 @@
-use Rattle.std.proofs.Common.{sym, arith}
-use Rattle.std.specs.Cmp.{nat_cmp_total}
+use Rattle.std.proofs.Common.{◌≡◌, ℕ, true, List, subst, ◌∙◌}
 use Rattle.std.specs.FinSet as set
-use Rattle.mp_sets.proofs.SetLemmas.{is_subset_not}
+use Rattle.mp_sets.specs.Words.{has_bit}
+use Rattle.mp_sets.proofs.WordLemmas.{within-is_subset}
 use Rattle.mp_sets.proofs.bits.Bits.is_subset.Goals as goal
-
-pub returns-then-not-contains : goal.returns-then-not-contains
-returns-then-not-contains c =
-    sym (is_subset_not _ _ c.loop-x.x (cc) (cc))
 
 pub returns : goal.returns
 returns c =
-    sym (set.contains-is_subset nat_cmp_total _ _ (λ q here. c.loop-x.invariant q (omega (arith, c.size-x-end.ensures.below q here)) here))
+    let m = c.self.inside.size in
+    let n = c.other.inside.size in
+    let xs = c.self.inside.words.items in
+    let ys = c.other.inside.words.items in
+    let tells : List ℕ → List ℕ → Type 0 = λ xs ys. (c.are_within.result ≡ true → (q : ℕ) → has_bit xs q ≡ true → has_bit ys q ≡ true) × (((q : ℕ) → has_bit xs q ≡ true → has_bit ys q ≡ true) → c.are_within.result ≡ true) in
+    within-is_subset m n xs ys c.are_within.result c.self.invariant c.other.invariant
+    (subst (λ xs. tells xs ys) c.as_slice.ensures.value (subst (λ ys. tells c.as_slice.result.now ys) c.as_slice-2.ensures.value c.are_within.ensures))
+    ∙ (λ i. set.is_subset (c.self.view_is i).members (c.other.view_is i).members)

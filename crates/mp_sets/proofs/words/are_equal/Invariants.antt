@@ -1,0 +1,6 @@
+use Rattle.std.proofs.Common.{◌≡◌, ◌*◌, ◌<◌, ℕ}
+use Rattle.mp_sets.specs.Words.{has_bit}
+use Rattle.mp_sets.proofs.words.are_equal.Given as goal
+
+abbrev pub invariant-loop-at : goal.invariant-loop-at
+invariant-loop-at l = (x : ℕ) → x < 64 * l.at → has_bit l.words x ≡ has_bit l.others x
