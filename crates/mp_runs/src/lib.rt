@@ -1,0 +1,9 @@
+//! Runs of events and plans of transition systems (`specs/`), and their laws.
+#![tactic(auto)]
+
+mod laws;
+
+pub use laws::{
+    costs_of_appended_plans, runs_have_what_steps_keep, runs_of_appended_lists,
+    simulations_keep_plans,
+};
