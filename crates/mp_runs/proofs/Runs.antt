@@ -1,6 +1,7 @@
 -- Runs of appended lists, and what each step keeps.
-use Rattle.std.proofs.Common.{◌≡◌, List, [], ◌∷◌, ◌++◌, append-nil, append_assoc, Option, Some, None, refl, sym, ap, ◌∙◌, subst, IsSome}
+use Rattle.std.proofs.Common.{◌≡◌, ℕ, ◌+◌, ◌<◌, length, get_or, take, List, [], ◌∷◌, ◌++◌, append-nil, append_assoc, Option, Some, None, refl, sym, ap, ◌∙◌, subst, IsSome}
 use Rattle.std.proofs.lemmas.Bool.{false≢true}
+use Rattle.std.proofs.lemmas.List.{take_more}
 use Rattle.std.proofs.lemmas.Option.{none-some, same_Some}
 use Rattle.std.specs.Option.{option_and_then}
 use Rattle.mp_runs.specs.Run.{run, IsLegal}
@@ -56,6 +57,13 @@ module _ {S E : Type 0} (step : S → E → Option S) where
       by : (o : Option S) → option_and_then (λ t. run step t (e ∷ [])) o ≡ option_and_then (λ t. step t e) o
       by None = refl
       by (Some t) = run-one t e
+
+  -- one more event of a list
+  pub run-take : (s t : S) (events : List E) (i : ℕ) (e : E) → i < length events → e ≡ get_or events i e → run step s (take i events) ≡ Some t → run step s (take (i + 1) events) ≡ step t e
+  run-take s t events i e within is ran =
+      ap (run step s) (take_more events i e within) ∙ ap (λ x. run step s (take i events ++ x ∷ [])) (sym is)
+      ∙ run-more s (take i events) e
+      ∙ ap (option_and_then (λ u. step u e)) ran
 
   -- where an appended list runs, the first one does, and the second one from there
   pub run_cut : (s u : S) (before events : List E) → run step s (before ++ events) ≡ Some u → (t : S) × (run step s before ≡ Some t) × (run step t events ≡ Some u)

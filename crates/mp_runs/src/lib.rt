@@ -2,8 +2,12 @@
 #![tactic(auto)]
 
 mod laws;
+mod takes;
+#[cfg(test)]
+mod tests;
 
 pub use laws::{
     costs_of_appended_plans, runs_have_what_steps_keep, runs_of_appended_lists,
     simulations_keep_plans,
 };
+pub use takes::{Takes, take_front};
