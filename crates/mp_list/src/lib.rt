@@ -1,8 +1,16 @@
 //! Lists, and the one refusal that every crate shares: want of memory.
 #![tactic(auto)]
 
+mod compared;
+mod copied;
+mod laws;
 mod list;
 mod memory;
 
-pub use list::{Copied, List};
+pub use copied::Copied;
+pub use laws::{first_is_one, repeat_has_earlier};
+pub use list::List;
 pub use memory::OutOfMemory;
+
+#[cfg(test)]
+mod tests;

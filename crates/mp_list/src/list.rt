@@ -1,18 +1,15 @@
 //! A list that only grows at its end.
 
-ghost use Rattle.std.specs.Prelude.{◌≡◌, ◌++◌, ◌∷◌, [], length, slice_get, IfOk, OnOk, OnErr};
+ghost use Rattle.std.specs.Prelude.{◌≡◌, ◌++◌, ◌∷◌, [], ◌<◌, ◌^◌, length, slice_get, IfOk, OnOk, OnErr};
 ghost use Rattle.std.specs.Option.{option_copied};
+ghost use Rattle.std.specs.Iterator.Runs.{EveryRun, ItemsMapTo};
+ghost use Rattle.std.specs.Slice.Iter.{iter_rest, iter_steps};
 
+use crate::copied::Copied;
 use crate::memory::OutOfMemory;
 use std::alloc::Global;
 use std::marker::Model;
-
-/// A copy of a value that may hold memory.
-pub trait Copied: Sized {
-    /// An equal value. Refuses only for want of memory.
-    fn copy(&self) -> Result<Self, OutOfMemory>
-        ensures { IfOk result (λ copy. copy ≡ self.now) };
-}
+use std::slice;
 
 /// A list. Contracts see it as the list of its items.
 #[derive(Drop)]
@@ -36,6 +33,15 @@ impl<T> List<T> {
         List {
             items: Vec::new(alloc),
         }
+    }
+
+    /// The empty list, with memory for this many items. Refuses only for want of memory.
+    pub fn with_capacity(alloc: Global, capacity: usize) -> Result<List<T>, OutOfMemory>
+        ensures { IfOk result (λ list. list ≡ []) }
+    {
+        Ok(List {
+            items: Vec::with_capacity(alloc, capacity)?,
+        })
     }
 
     /// Adds an item at the end. For want of memory the list stays as it was.
@@ -62,50 +68,40 @@ impl<T> List<T> {
     {
         self.items.get(at)
     }
-}
 
-impl<T> List<T> {
     /// The items, first one first.
     pub fn as_slice(&self) -> &[T]
         ensures { result.now ≡ self.now }
     {
         self.items.as_slice()
     }
+
+    /// The items one by one, first one first.
+    pub fn iter(&self) -> slice::Iter<'_, T>
+        ensures items { iter_rest result ≡ self.now }
+        ensures len { length (iter_rest result) < 2 ^ 64 }
+        ensures in_order { EveryRun (iter_steps {A = T}) (λ p. ItemsMapTo p (λ item. item.now) (iter_rest p.from)) }
+    {
+        self.items.as_slice().iter()
+    }
+}
+
+impl<'a, T> IntoIterator for &'a List<T> {
+    type Item = &'a T;
+
+    type IntoIter = slice::Iter<'a, T>;
+
+    ghost into_iter_gives = { λ list it. (iter_rest it ≡ list.now) × (length (iter_rest it) < 2 ^ 64)
+        × EveryRun (iter_steps {A = T}) (λ p. ItemsMapTo p (λ item. item.now) (iter_rest p.from)) };
+
+    fn into_iter(self) -> slice::Iter<'a, T> {
+        self.as_slice().iter()
+    }
 }
 
 impl<T: Copied + Drop> Copied for List<T> {
     fn copy(&self) -> Result<List<T>, OutOfMemory> {
-        let mut items = Vec::with_capacity(*self.items.allocator(), self.items.len())?;
-        for item in self.as_slice() {
-            items.push(item.copy()?)?;
-        }
+        let items = T::copy_all(*self.items.allocator(), self.as_slice())?;
         Ok(List { items })
     }
 }
-
-impl Copied for bool {
-    fn copy(&self) -> Result<bool, OutOfMemory> {
-        Ok(*self)
-    }
-}
-
-impl Copied for u8 {
-    fn copy(&self) -> Result<u8, OutOfMemory> {
-        Ok(*self)
-    }
-}
-
-impl Copied for u32 {
-    fn copy(&self) -> Result<u32, OutOfMemory> {
-        Ok(*self)
-    }
-}
-
-impl Copied for u64 {
-    fn copy(&self) -> Result<u64, OutOfMemory> {
-        Ok(*self)
-    }
-}
-
-#[cfg(test)]
-mod tests;

@@ -1,0 +1,215 @@
+//! Lists as a caller meets them: compared, sorted, as keys of maps, gone over and copied.
+
+ghost use Rattle.std.specs.Prelude.{◌≡◌, ◌==◌, IfOk, OnOk};
+ghost use Rattle.std.specs.List.{list_any};
+ghost use Rattle.std.specs.Ordering.{is_lt, nat_cmp};
+ghost use Rattle.std.specs.Cmp.Lexicographic.{pointwise, slice_cmp};
+ghost use Rattle.std.specs.Str.{bytes_eq};
+ghost use Rattle.std.specs.BTreeMap as ordered;
+ghost use Rattle.std.specs.HashMap as hashed;
+ghost use Rattle.std.specs.List.Sorted.{IsSorted};
+
+use crate::{Copied, List, OutOfMemory};
+use std::alloc::{AllocError, Global};
+use std::cmp::Ordering;
+use std::collections::{BTreeMap, HashMap};
+use std::fmt;
+use std::hash::{DefaultHasher, Hash, Hasher};
+use std::test::Fail;
+
+fn list_of(alloc: Global, bytes: &[u8]) -> Result<List<u8>, OutOfMemory> {
+    let mut list = List::with_capacity(alloc, bytes.len())?;
+    for byte in bytes {
+        list.push(*byte)?;
+    }
+    Ok(list)
+}
+
+fn is_same(a: &List<u8>, b: &List<u8>) -> bool
+    ensures { result ≡ bytes_eq a.now b.now }
+{
+    *a == *b
+}
+
+fn is_before(a: &List<u8>, b: &List<u8>) -> bool
+    ensures { result ≡ is_lt (slice_cmp nat_cmp a.now b.now) }
+{
+    a.cmp(b).is_lt()
+}
+
+fn copied_bytes(list: &List<u8>, alloc: Global) -> Result<List<u8>, OutOfMemory>
+    ensures { IfOk result (λ copy. copy ≡ list.now) }
+{
+    let mut copy = List::new(alloc);
+    for byte in list {
+        copy.push(*byte)?;
+    }
+    Ok(copy)
+}
+
+fn is_among(list: &List<u8>, byte: u8) -> bool
+    ensures { result ≡ list_any (λ b. b == byte) list.now }
+{
+    list.iter().any(|item| *item == byte)
+}
+
+fn number_of(numbers: &BTreeMap<List<u8>, usize>, word: &List<u8>) -> Option<usize>
+    ensures { result ≡ ordered.get (slice_cmp nat_cmp) numbers.now word.now }
+{
+    numbers.get(word).copied()
+}
+
+fn number_by_hash(numbers: &HashMap<List<u8>, usize>, word: &List<u8>) -> Option<usize>
+    ensures { result ≡ hashed.get (pointwise ◌==◌) numbers.now word.now }
+{
+    numbers.get(word).copied()
+}
+
+fn sorted(words: &mut Vec<List<u8>>) -> Result<(), AllocError>
+    ensures { OnOk result (IsSorted (slice_cmp nat_cmp) words.new.items) }
+{
+    words.sort()
+}
+
+/// How two words compare: by order, by equality, by `PartialOrd` and by hash.
+fn compared(
+    alloc: Global,
+    a: &str,
+    b: &str,
+) -> Result<(Ordering, bool, Option<Ordering>, bool), OutOfMemory> {
+    let one = list_of(alloc, a.as_bytes())?;
+    let other = list_of(alloc, b.as_bytes())?;
+    Ok((
+        one.cmp(&other),
+        is_same(&one, &other),
+        one.partial_cmp(&other),
+        hash_of(&one) == hash_of(&other),
+    ))
+}
+
+fn hash_of(word: &List<u8>) -> u64 {
+    let mut state = DefaultHasher::new();
+    word.hash(&mut state);
+    state.finish()
+}
+
+#[test]
+fn comparisons(rt: HostRuntime) -> Result<(), Fail> {
+    for (a, b, order) in [
+        ("", "", Ordering::Equal),
+        ("", "a", Ordering::Less),
+        ("at", "at", Ordering::Equal),
+        ("at", "atom", Ordering::Less),
+        ("atom", "at", Ordering::Greater),
+        ("at", "as", Ordering::Greater),
+        ("b", "ab", Ordering::Greater),
+    ] {
+        let is_equal = order.is_eq();
+        let want = (order, is_equal, Some(order), is_equal);
+        assert_eq!(rt; compared(rt.alloc(), a, b)?, want, "{a} and {b}");
+    }
+    Ok(())
+}
+
+/// The words in order.
+fn in_order(alloc: Global, words: &[&str]) -> Result<Vec<List<u8>>, OutOfMemory> {
+    let mut all = Vec::new(alloc);
+    for word in words {
+        all.push(list_of(alloc, word.as_bytes())?)?;
+    }
+    sorted(&mut all)?;
+    Ok(all)
+}
+
+/// The number of each word, in a map by their order.
+fn by_order(alloc: Global, words: &[&str]) -> Result<BTreeMap<List<u8>, usize>, OutOfMemory> {
+    let mut numbers = BTreeMap::new(alloc);
+    for (number, word) in words.iter().enumerate() {
+        numbers.insert(list_of(alloc, word.as_bytes())?, number)?;
+    }
+    Ok(numbers)
+}
+
+/// The number of each word, in a map by their hashes.
+fn by_hash(alloc: Global, words: &[&str]) -> Result<HashMap<List<u8>, usize>, OutOfMemory> {
+    let mut numbers = HashMap::new(alloc);
+    for (number, word) in words.iter().enumerate() {
+        numbers.insert(list_of(alloc, word.as_bytes())?, number)?;
+    }
+    Ok(numbers)
+}
+
+/// The place of a word among these in order, and its number in both maps.
+fn numbered(alloc: Global, words: &[&str], word: &str) -> Result<[Option<usize>; 3], OutOfMemory> {
+    let wanted = list_of(alloc, word.as_bytes())?;
+    let place = in_order(alloc, words)?
+        .iter()
+        .position(|known| is_same(known, &wanted));
+    let ordered = number_of(&by_order(alloc, words)?, &wanted);
+    let hashed = number_by_hash(&by_hash(alloc, words)?, &wanted);
+    Ok([place, ordered, hashed])
+}
+
+#[test]
+fn keys(rt: HostRuntime) -> Result<(), Fail> {
+    let words = ["to", "be", "or", "not"];
+    for (word, numbers) in [
+        ("to", [Some(3), Some(0), Some(0)]),
+        ("be", [Some(0), Some(1), Some(1)]),
+        ("or", [Some(2), Some(2), Some(2)]),
+        ("not", [Some(1), Some(3), Some(3)]),
+        ("no", [None, None, None]),
+        ("", [None, None, None]),
+    ] {
+        assert_eq!(rt; numbered(rt.alloc(), &words, word)?, numbers, "{word}");
+    }
+    Ok(())
+}
+
+/// A list of three lists of bytes, copied.
+fn nested(alloc: Global) -> Result<List<List<u8>>, OutOfMemory> {
+    let mut lists = List::new(alloc);
+    for text in ["\x03\x05", "", "\x07"] {
+        lists.push(list_of(alloc, text.as_bytes())?)?;
+    }
+    lists.copy()
+}
+
+fn copied<T: Copied + Drop>(alloc: Global, value: T) -> Result<List<T>, OutOfMemory> {
+    let mut list = List::new(alloc);
+    list.push(value.copy()?)?;
+    list.push(value)?;
+    list.copy()
+}
+
+fn written<T: fmt::Debug + Drop>(alloc: Global, list: List<T>) -> Result<String, AllocError> {
+    format!(in alloc; "{list:?}")
+}
+
+/// A copy, as `Debug` writes it.
+fn written_copy(alloc: Global, of: &str) -> Result<String, OutOfMemory> {
+    Ok(match of {
+        "lists" => written(alloc, nested(alloc)?)?,
+        "bool" => written(alloc, copied(alloc, true)?)?,
+        "u8" => written(alloc, copied(alloc, 8_u8)?)?,
+        "u32" => written(alloc, copied(alloc, 9_u32)?)?,
+        "u64" => written(alloc, copied(alloc, 4294967296_u64)?)?,
+        _ => written(alloc, copied_bytes(&list_of(alloc, of.as_bytes())?, alloc)?)?,
+    })
+}
+
+#[test]
+fn copies(rt: HostRuntime) -> Result<(), Fail> {
+    for (of, want) in [
+        ("lists", "[[3, 5], [], [7]]"),
+        ("bool", "[true, true]"),
+        ("u8", "[8, 8]"),
+        ("u32", "[9, 9]"),
+        ("u64", "[4294967296, 4294967296]"),
+        ("ab", "[97, 98]"),
+    ] {
+        let text = written_copy(rt.alloc(), of)?;
+        assert_eq!(rt; text.as_str(), want);
+    }
+    Ok(())
+}
