@@ -2,3 +2,6 @@ pub mod ListedLemmas
 pub mod NumbersLemmas
 pub mod SetLemmas
 pub mod WordLemmas
+pub mod ComparedLemmas
+pub mod DigitLemmas
+pub mod FirstBitLemmas

@@ -1,5 +1,5 @@
 -- The members of a set as the list of them that rises.
-use Rattle.std.proofs.Common.{◌≡◌, ℕ, zero, suc, ◌+◌, ◌-◌, ◌<◌, Bool, true, false, cond, ◌&&◌, ◌||◌, ltb, eqb, List, [], ◌∷◌, ◌++◌, length, All, refl, sym, ap, ◌∙◌, subst, arith}
+use Rattle.std.proofs.Common.{◌≡◌, ℕ, zero, suc, ◌+◌, ◌-◌, ◌<◌, ◌≤◌, Bool, true, false, cond, ◌&&◌, ◌||◌, ltb, eqb, List, [], ◌∷◌, ◌++◌, length, All, refl, sym, ap, ◌∙◌, subst, inl, inr, arith}
 use Rattle.std.specs.List.{filter, list_any, range_with_len}
 use Rattle.std.specs.List.Sorted.{IsStrictlyIncreasing}
 use Rattle.std.proofs.lemmas.List.{map-id, append-nil}
@@ -7,9 +7,10 @@ use Rattle.std.proofs.lemmas.List.FromFn.{filter_of_map_range_with_len_more, get
 use Rattle.std.proofs.lemmas.List.Elements.{All-push}
 use Rattle.std.proofs.lemmas.List.Kept.{IsStrictlyIncreasing-filter}
 use Rattle.std.proofs.lemmas.List.Folds.{list_any-append}
+use Rattle.std.proofs.lemmas.Bool.{cases_lt}
 use Rattle.std.proofs.lemmas.Bool.Decides.{nat_tests}
 use Rattle.std.specs.FinSet as set
-use Rattle.mp_sets.specs.Numbers.{SizedSet, AllBelow, IsAboveLast, listed}
+use Rattle.mp_sets.specs.Numbers.{Numbers, SizedSet, AllBelow, IsAboveLast, IsLeastFrom, HasNoneFrom, members_before, listed}
 use Rattle.mp_sets.proofs.SetLemmas.{same_numbers, none_below}
 
 -- the numbers below n that pass
@@ -44,8 +45,8 @@ passing_below p (suc n) =
       | false ↦ subst P (sym (append-nil xs)) wider
     ])
 
-pub passing_above : (p : ℕ → Bool) (n : ℕ) → IsAboveLast (filter p (range_with_len 0 n)) n
-passing_above p n some = passing_below p n (length (filter p (range_with_len 0 n)) - 1) 0 (omega arith)
+pub members_before-above : (s : Numbers) (n x : ℕ) → n ≤ x → IsAboveLast (members_before s n) x
+members_before-above s n x le some = omega (arith, passing_below (set.contains s) n (length (members_before s n) - 1) 0 (omega arith))
 
 pub passing-IsStrictlyIncreasing : (p : ℕ → Bool) (n : ℕ) → IsStrictlyIncreasing (filter p (range_with_len 0 n))
 passing-IsStrictlyIncreasing p n =
@@ -74,6 +75,26 @@ list_any-passing p (suc n) q =
     ∙ ap (λ b. b || list_any (λ y. eqb y q) (cond (p n) (n ∷ []) [])) (list_any-passing p n q)
     ∙ one_more q n p (p n) refl
     ∙ ap (λ m. ltb q m && p q) e
+
+-- the list grows at the least member from its end on
+passing_skipped : (p : ℕ → Bool) (m n : ℕ) → m ≤ n → ((y : ℕ) → m ≤ y → y < n → p y ≡ false) → filter p (range_with_len 0 n) ≡ filter p (range_with_len 0 m)
+passing_skipped p m zero le none = let e : zero ≡ m = omega arith in ap (λ k. filter p (range_with_len 0 k)) e
+passing_skipped p m (suc n) le none =
+    elim (cases_lt n m) [
+      | inl past ↦ let e : suc n ≡ m = omega arith in ap (λ k. filter p (range_with_len 0 k)) e
+      | inr more ↦
+          passing_next p n
+          ∙ ap (λ b. filter p (range_with_len 0 n) ++ cond b (n ∷ []) []) (none n more (omega arith))
+          ∙ append-nil _
+          ∙ passing_skipped p m n more (λ y h lt. none y h (omega arith))
+    ]
+
+pub members_before-next : (s : Numbers) (from x : ℕ) → IsLeastFrom s from x → members_before s (x + 1) ≡ members_before s from ++ x ∷ []
+members_before-next s from x is =
+    passing_push (set.contains s) x is.member ∙ ap (λ xs. xs ++ x ∷ []) (passing_skipped (set.contains s) from x is.above is.least)
+
+pub members_before-last : (s : Numbers) (from n : ℕ) → HasNoneFrom s from → from ≤ n → members_before s n ≡ members_before s from
+members_before-last s from n none le = passing_skipped (set.contains s) from n le (λ y h _. none y h)
 
 -- the set of the list of a set's members is the set
 pub from_list-listed : (s : SizedSet) → AllBelow s.size s.members → set.from_list (listed s) ≡ s.members

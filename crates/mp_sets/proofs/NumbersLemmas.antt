@@ -62,6 +62,9 @@ after-none s = same_numbers _ _ (λ q. contains-after s [] [] q ∙ as_it_was (s
 pub after-empty : (xs : List ℕ) → after set.empty [] xs ≡ set.from_list xs
 after-empty xs = same_numbers _ _ (λ q. contains-after set.empty [] xs q ∙ ap (λ b. (b && true) || list_any (λ y. eqb y q) xs) (set.contains-empty _ q) ∙ sym (set.contains-from_list_nat xs q))
 
+pub union-empty : (s : Numbers) → set.union set.empty s ≡ s
+union-empty s = same_numbers _ _ (λ q. set.contains-union nat_cmp_total set.empty s q ∙ ap (λ b. b || set.contains s q) (set.contains-empty _ q))
+
 -- two lists that rise and have the same numbers are one
 tail_pairs : (x : ℕ) (xs : List ℕ) → AllPairs (λ a b. a < b) (x ∷ xs) → AllPairs (λ a b. a < b) xs
 tail_pairs x xs pairs = λ i j d lt h. pairs (suc i) (suc j) d (omega arith) (omega arith)

@@ -133,7 +133,7 @@ has_bit-at words k i small =
     let bit : (64 * k + i) % 64 ≡ i = omega arith in
     rw (place, bit) refl
 
-bit_of_word : (words : List ℕ) (k q : ℕ) → q / 64 ≡ k → has_bit words q ≡ eqb (bit_at (get_or words k 0) (q % 64)) 1
+pub bit_of_word : (words : List ℕ) (k q : ℕ) → q / 64 ≡ k → has_bit words q ≡ eqb (bit_at (get_or words k 0) (q % 64)) 1
 unfolding has_bit
 bit_of_word words k q e = ap (λ n. eqb (bit_at (get_or words n 0) (q % 64)) 1) e
 

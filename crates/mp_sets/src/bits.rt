@@ -1,8 +1,11 @@
 //! Sets of numbers below a size.
 
-ghost use Rattle.std.specs.Prelude.{◌≡◌, ◌<◌, ◌↔◌, All, IsTrue, IfOk};
+ghost use Rattle.std.specs.Prelude.{◌≡◌, ℕ, ◌+◌, ◌<◌, ◌^◌, ◌↔◌, All, IsTrue, IfOk, IfSome, IfNone};
 ghost use Rattle.std.specs.FinSet as set;
-ghost use Rattle.mp_sets.specs.Numbers.{AllBelow, holds, after, listed};
+ghost use Rattle.mp_sets.specs.Numbers.{AllBelow, IsLeastFrom, HasNoneFrom, holds, after, listed};
+ghost use Rattle.mp_sets.specs.Words.{has_bit, words_for, ArePacked};
+ghost use Rattle.mp_sets.specs.Compared.{binary};
+ghost use Rattle.std.specs.Simd.Lanes.{number_l, digits_l};
 
 use crate::fact_list::FactList;
 use crate::words;
@@ -11,7 +14,7 @@ use std::alloc::Global;
 use std::marker::Model;
 
 /// A set of numbers below a size, which stays as it was made. Contracts see it as the size and the set.
-#[derive(Drop)]
+#[derive(Debug, Drop)]
 pub struct Bits {
     size: u32,
     /// As many words as the numbers below the size need: bit x % 64 of word x / 64 says whether x is a
@@ -44,6 +47,27 @@ impl Bits {
             size,
             words: vec![in alloc; 0u64; (size as usize + 63) / 64]?,
         })
+    }
+
+    /// The set of the numbers of a list, which are below a size.
+    pub fn from_list(alloc: Global, size: u32, list: &FactList) -> Result<Bits, OutOfMemory>
+        requires { All (λ x. x < size) list.now }
+        ensures { IfOk result (λ made. made
+            ≡ record { size = size; members = set.from_list list.now }) }
+    {
+        let mut made = Bits::new(alloc, size)?;
+        made.insert_all(list);
+        Ok(made)
+    }
+
+    /// Makes this set equal to another one of its size. Takes no memory.
+    pub fn copy_from(&mut self, other: &Bits)
+        requires { self.old.size ≡ other.now.size }
+        ensures { self.new ≡ other.now }
+    {
+        self.words
+            .as_mut_slice()
+            .copy_from_slice(other.words.as_slice());
     }
 
     /// The size: all members are below it.
@@ -137,6 +161,20 @@ impl Bits {
         words::are_equal(self.words.as_slice(), other.words.as_slice())
     }
 
+    /// The least member at or above a number: none exactly where there is none. Takes no memory.
+    pub fn least_from(&self, from: u32) -> Option<u32>
+        ensures some { IfSome result (λ x. IsLeastFrom self.now.members from x) }
+        ensures none { IfNone result (HasNoneFrom self.now.members from) }
+        ensures next { IfSome result (λ x. (x < self.now.size) × (x + 1 < 2 ^ 32)) }
+        ensures below { AllBelow self.now.size self.now.members }
+    {
+        if from >= self.size() {
+            return None;
+        }
+        let x = words::first_from(self.words(), from)?;
+        Some(x as u32)
+    }
+
     /// The members, least one first.
     pub fn list(&self) -> Result<FactList, OutOfMemory>
         ensures members { IfOk result (λ list. list ≡ listed self.now) }
@@ -144,12 +182,27 @@ impl Bits {
         ensures below { IfOk result (λ list. All (λ x. x < self.now.size) list) }
     {
         let mut list = FactList::new(*self.words.allocator());
-        for number in 0..self.size() {
-            if self.contains(number) {
-                list.push(number)?;
-            }
+        let mut from = 0;
+        while let Some(number) = self.least_from(from) {
+            list.push(number)?;
+            from = number + 1;
         }
         Ok(list)
+    }
+}
+
+impl Bits {
+    /// The words, and what they say of the size and the members.
+    pub(crate) fn words(&self) -> &[u64]
+        ensures packed { ArePacked self.now.size result.now }
+        ensures bits { (x : ℕ) → set.contains self.now.members x ≡ has_bit result.now x }
+        ensures number { number_l (2 ^ 64) result.now ≡ binary self.now.members }
+        ensures digits { result.now
+            ≡ digits_l (2 ^ 64) (words_for self.now.size) (binary self.now.members) }
+    {
+        let words = self.words.as_slice();
+        words::have_64_bits(words);
+        words
     }
 }
 

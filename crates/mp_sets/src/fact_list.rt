@@ -3,14 +3,23 @@
 ghost use Rattle.std.specs.Prelude.{◌≡◌, ◌++◌, ◌∷◌, [], length, slice_get, OnOk, OnErr};
 ghost use Rattle.std.specs.Option.{option_copied};
 ghost use Rattle.std.specs.List.Sorted.{IsStrictlyIncreasing};
+ghost use Rattle.std.specs.Prelude.{Some, refl, nat_eq};
+ghost use Rattle.std.specs.Ordering.{nat_cmp};
+ghost use Rattle.std.specs.Cmp.{partial_equiv_from_equiv};
+ghost use Rattle.std.specs.Cmp.Lexicographic.{pointwise, slice_cmp, nat_list_eq_equiv, nat_list_cmp_total, texts_po, texts_ties};
+ghost use Rattle.std.specs.Cmp.Rules.{hashing};
+ghost use Rattle.std.specs.Hash as fed;
+ghost use Rattle.std.proofs.Common.{rules};
 ghost use Rattle.mp_sets.specs.Numbers.{IsAboveLast};
 
 use mp_list::{Copied, OutOfMemory};
 use std::alloc::Global;
+use std::cmp::Ordering;
+use std::hash::{Hash, Hasher};
 use std::marker::Model;
 
 /// Numbers of facts, each above the one before it. Contracts see it as the list of them.
-#[derive(Drop)]
+#[derive(Debug, Drop)]
 pub struct FactList {
     numbers: Vec<u32>,
 }
@@ -75,5 +84,54 @@ impl Copied for FactList {
         Ok(FactList {
             numbers: Vec::from_slice(alloc, self.numbers.as_slice())?,
         })
+    }
+}
+
+impl PartialEq for FactList {
+    ghost eq = { pointwise nat_eq };
+
+    ghost laws = { partial_equiv_from_equiv nat_list_eq_equiv };
+
+    fn eq(&self, other: &FactList) -> bool {
+        self.as_slice() == other.as_slice()
+    }
+}
+
+impl Eq for FactList {
+    ghost laws = { nat_list_eq_equiv };
+}
+
+/// The first numbers that differ tell, and the lengths where there are none.
+impl PartialOrd for FactList {
+    ghost partial_cmp = { λ a b. Some (slice_cmp nat_cmp a b) };
+
+    ghost laws = { texts_po };
+
+    fn partial_cmp(&self, other: &FactList) -> Option<Ordering> {
+        Some(self.cmp(other))
+    }
+}
+
+impl Ord for FactList {
+    ghost cmp = { slice_cmp nat_cmp };
+
+    ghost total = { nat_list_cmp_total };
+
+    ghost matches_partial_cmp = { λ a b. refl };
+
+    ghost matches_eq = { texts_ties };
+
+    fn cmp(&self, other: &FactList) -> Ordering {
+        self.as_slice().cmp(&other.as_slice())
+    }
+}
+
+impl Hash for FactList {
+    ghost hash_input = { fed.slice fed.u32 };
+
+    ghost respects_eq = { Prim.search (hashing, rules) };
+
+    fn hash<H: Hasher>(&self, state: &mut H) {
+        self.as_slice().hash(state);
     }
 }

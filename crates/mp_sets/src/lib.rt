@@ -3,6 +3,7 @@
 
 mod agent;
 mod bits;
+mod compared;
 mod fact_list;
 mod tag;
 mod words;

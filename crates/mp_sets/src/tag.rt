@@ -4,7 +4,7 @@ use mp_list::{Copied, List, OutOfMemory};
 
 /// Another agent's private facts as a state carries them: a token that stands for the set of those that
 /// are true, and whether all private goals of that agent hold in it.
-#[derive(Clone, Copy, Debug, PartialEq, Eq)]
+#[derive(Clone, Copy, Debug, PartialEq, Eq, PartialOrd, Ord, Hash)]
 pub struct Tag {
     /// The number of the set; only its own agent knows which set that is.
     pub token: u64,

@@ -1,35 +1,37 @@
-use Rattle.std.proofs.Common.{◌≡◌, ℕ, ◌++◌, ◌∷◌, [], ◌<◌, List, All, sym, ap, ◌∙◌, subst, arith}
-use Rattle.std.specs.List.{filter, range_with_len}
+use Rattle.std.proofs.Common.{ℕ, ◌++◌, ◌∷◌, [], ◌<◌, List, All, sym, ap, ◌∙◌, subst, arith}
 use Rattle.std.specs.FinSet as set
 use Rattle.mp_sets.specs.Numbers.{IsAboveLast}
-use Rattle.mp_sets.proofs.ListedLemmas.{passing_push, passing_kept, passing_below, passing_above, from_list-listed}
+use Rattle.mp_sets.proofs.ListedLemmas.{members_before-next, members_before-last, members_before-above, passing_below, from_list-listed}
 use Rattle.mp_sets.proofs.bits.Bits.list.Goals as goal
-use Rattle.mp_sets.proofs.bits.Bits.list.Goals.{then-contains+in_ok-push, else-contains}
 
 pub push-requires : goal.push-requires
 push-requires c =
-    let P : List ℕ → Type 0 = λ xs. IsAboveLast xs c.loop-number.number in
-    subst P (sym c.loop-number.invariant) (passing_above _ c.loop-number.number)
+    let P : List ℕ → Type 0 = λ xs. IsAboveLast xs c.in-Some.number in
+    subst P (sym c.loop-number.invariant.0) (members_before-above c.args.self.now.members c.loop-number.from c.in-Some.number c.in-Some.ensures.some.above)
+
+pub overflow_add-from : goal.overflow_add-from
+overflow_add-from c = record { fits = c.in-Some.ensures.next.1 }
 
 pub loop-number-preserved : goal.loop-number-preserved
-loop-number-preserved c =
-    let s = c.args.self.now.members in
-    elim c.if-contains.branch [
-      | then-contains+in_ok-push w ↦
-          w.list-is ∙ w.in_ok-push.ensures.ok ∙ ap (λ xs. xs ++ c.loop-number.number ∷ []) c.loop-number.invariant
-          ∙ sym (passing_push (set.contains s) c.loop-number.number (sym c.contains.ensures ∙ w.if-contains.true))
-      | else-contains w ↦
-          w.list-is ∙ c.loop-number.invariant ∙ sym (passing_kept (set.contains s) c.loop-number.number (sym c.contains.ensures ∙ w.if-contains.false))
-    ]
+loop-number-preserved c = (
+  c.in_ok-push.ensures.ok
+      ∙ ap (λ xs. xs ++ c.in-Some.number ∷ []) c.loop-number.invariant.0
+      ∙ sym (members_before-next c.args.self.now.members c.loop-number.from c.in-Some.number c.in-Some.ensures.some),
+  omega (arith, c.in-Some.ensures.next.0),
+)
+
+pub returns-clause-members : goal.returns-clause-members
+returns-clause-members c =
+    let s = c.args.self.now in
+    c.loop-number.invariant.0 ∙ sym (members_before-last s.members c.loop-number.from s.size c.in_default.ensures.none c.loop-number.invariant.1)
 
 pub returns-clause-set : goal.returns-clause-set
 returns-clause-set c =
-    let all : c.loop-number.number ≡ c.args.self.now.size = omega (arith, c.size-number-end.ensures.size) in
-    ap set.from_list (c.loop-number.invariant ∙ ap (λ n. filter (set.contains c.args.self.now.members) (range_with_len 0 n)) all)
-    ∙ from_list-listed c.args.self.now c.size-number-end.ensures.below
+    let s = c.args.self.now in
+    ap set.from_list (returns-clause-members c) ∙ from_list-listed s c.in_default.ensures.below
 
 pub returns-clause-below : goal.returns-clause-below
 returns-clause-below c =
-    let all : c.loop-number.number ≡ c.args.self.now.size = omega (arith, c.size-number-end.ensures.size) in
-    let P : List ℕ → Type 0 = λ xs. All (λ y. y < c.args.self.now.size) xs in
-    subst P (sym (c.loop-number.invariant ∙ ap (λ n. filter (set.contains c.args.self.now.members) (range_with_len 0 n)) all)) (passing_below _ c.args.self.now.size)
+    let s = c.args.self.now in
+    let P : List ℕ → Type 0 = λ xs. All (λ y. y < s.size) xs in
+    subst P (sym (returns-clause-members c)) (passing_below (set.contains s.members) s.size)
