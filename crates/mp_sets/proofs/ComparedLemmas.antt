@@ -7,7 +7,7 @@ use Rattle.std.proofs.lemmas.Nat.{pow_pos}
 use Rattle.std.proofs.lemmas.Nat.Bits.{bit_at-lt, bit_at_above, bit_at_cat_low, bit_at_cat_high, bit_at-zero, same_from_bits}
 use Rattle.std.specs.Bool.{Decides}
 use Rattle.std.specs.List.{list_any}
-use Rattle.std.specs.Cmp.{nat_cmp_total, IsTotalOrder, on_total, then_total, both_ways, unsigned_tied, tied_itself, Equal-is}
+use Rattle.std.specs.Cmp.{nat_cmp_total, IsTotalOrder, on_total, then_total, unsigned_tied, tied_itself, Equal-is}
 use Rattle.std.specs.Int.{bit_at}
 use Rattle.std.specs.Simd.Lanes.{number_l, digits_l}
 use Rattle.std.specs.Ordering.{eq_by_cmp, is_eq, nat_cmp, ordering_then}
@@ -106,20 +106,7 @@ same_binary s t e =
 pub binary_from_bits : (s : Numbers) (n : ℕ) → ((k : ℕ) → bit_at n k ≡ one_if (set.contains s k)) → n ≡ binary s
 binary_from_bits s n bits = same_from_bits n (binary s) (λ k. bits k ∙ sym (bit_at-binary s k))
 
--- two sets are one where each has the members of the other
-pub same_itself : (s : Numbers) → same s s ≡ true
-same_itself s =
-    let all : set.is_subset s s ≡ true = set.contains-is_subset nat_cmp_total s s (λ q here. here) in
-    and_from (set.is_subset s s) (set.is_subset s s) all all
-
-pub same_is : (s t : Numbers) → same s t ≡ true → s ≡ t
-same_is s t both =
-    let parts = and_parts (set.is_subset s t) (set.is_subset t s) both in
-    same_numbers s t (λ q. both_ways (set.contains s q) (set.contains t q) (set.is_subset-contains nat_cmp_total s t parts.0 q) (set.is_subset-contains nat_cmp_total t s parts.1 q))
-
-pub Decides-same : (s t : Numbers) → Decides (same s t) (s ≡ t)
-Decides-same s t = (same_is s t, λ e. subst (λ u. same s u ≡ true) e (same_itself s))
-
+-- sets are equal exactly where they are one
 pub sized_eq_is : (s t : SizedSet) → sized_eq s t ≡ true → s ≡ t
 sized_eq_is s t both =
     let parts = and_parts (eqb s.size t.size) (eqb (binary s.members) (binary t.members)) both in

@@ -1,7 +1,12 @@
+-- sets below a size, their members as lists, what holds of them after an action
+pub mod SetLemmas
 pub mod ListedLemmas
 pub mod NumbersLemmas
-pub mod SetLemmas
+-- lists that rise
+pub mod RisingLemmas
+-- words of 64 bits: their bits, the first one that is set, their number
 pub mod WordLemmas
-pub mod ComparedLemmas
-pub mod DigitLemmas
 pub mod FirstBitLemmas
+pub mod DigitLemmas
+-- comparisons
+pub mod ComparedLemmas

@@ -1,9 +1,9 @@
 -- What follows from the definitions of `holds`, `after` and `listed`, for the crates above.
-use Rattle.std.proofs.Common.{◌≡◌, ℕ, zero, suc, ◌<◌, Bool, true, false, not, ◌&&◌, ◌||◌, ltb, eqb, List, [], ◌∷◌, length, get_or, All, refl, sym, ap, ◌∙◌, subst, arith}
+use Rattle.std.proofs.Common.{◌≡◌, ℕ, zero, suc, ◌<◌, Bool, true, false, cond, not, ◌&&◌, ◌||◌, ltb, eqb, List, [], ◌∷◌, length, get_or, All, refl, sym, ap, ◌∙◌, subst, arith}
 use Rattle.std.proofs.lemmas.Bool.{false≢true, and_parts, and_from, eqb-true, eq-eqb, lt-ltb, or_right}
 use Rattle.std.proofs.lemmas.Bool.Decides.{nat_tests}
 use Rattle.std.proofs.lemmas.List.Kept.{AllPairs-from_increasing}
-use Rattle.std.specs.List.{AllPairs, list_any}
+use Rattle.std.specs.List.{AllPairs, filter, list_any}
 use Rattle.std.specs.List.Sorted.{IsStrictlyIncreasing}
 use Rattle.std.specs.Cmp.{nat_cmp_total}
 use Rattle.std.specs.FinSet as set
@@ -58,6 +58,36 @@ after-none s = same_numbers _ _ (λ q. contains-after s [] [] q ∙ as_it_was (s
     as_it_was : (b : Bool) → ((b && true) || false) ≡ b
     as_it_was true = refl
     as_it_was false = refl
+
+-- what of a list passes a test
+pub list_any-filter : (f : ℕ → Bool) (x : ℕ) (xs : List ℕ) → list_any (λ y. eqb y x) (filter f xs) ≡ (list_any (λ y. eqb y x) xs && f x)
+list_any-filter f x [] = refl
+list_any-filter f x (y ∷ ys) =
+    elim (f y) as (λ b. f y ≡ b → list_any (λ z. eqb z x) (cond b (y ∷ filter f ys) (filter f ys)) ≡ ((eqb y x || list_any (λ z. eqb z x) ys) && f x)) [
+      | true ↦ λ e. ap (λ b. eqb y x || b) (list_any-filter f x ys) ∙ kept y x f (list_any (λ z. eqb z x) ys) e
+      | false ↦ λ e. list_any-filter f x ys ∙ left_out y x f (list_any (λ z. eqb z x) ys) e
+    ] refl
+  where
+    kept : (y x : ℕ) (f : ℕ → Bool) (b : Bool) → f y ≡ true → (eqb y x || (b && f x)) ≡ ((eqb y x || b) && f x)
+    kept y x f b e = grind (arith, nat_tests)
+
+    left_out : (y x : ℕ) (f : ℕ → Bool) (b : Bool) → f y ≡ false → (b && f x) ≡ ((eqb y x || b) && f x)
+    left_out y x f b e = grind (arith, nat_tests)
+
+-- deletes that are adds too may be left out
+pub after-without_adds : (s : Numbers) (del add : List ℕ) → after s (filter (λ x. not (list_any (λ y. eqb y x) add)) del) add ≡ after s del add
+after-without_adds s del add =
+    same_numbers _ _ (λ x.
+    contains-after s _ add x
+    ∙ ap (λ b. (set.contains s x && not b) || list_any (λ y. eqb y x) add) (list_any-filter (λ z. not (list_any (λ y. eqb y z) add)) x del)
+    ∙ without (set.contains s x) (list_any (λ y. eqb y x) del) (list_any (λ y. eqb y x) add)
+    ∙ sym (contains-after s del add x))
+  where
+    without : (c d a : Bool) → ((c && not (d && not a)) || a) ≡ ((c && not d) || a)
+    without true true true = refl
+    without true true false = refl
+    without true false a = refl
+    without false d a = refl
 
 pub after-empty : (xs : List ℕ) → after set.empty [] xs ≡ set.from_list xs
 after-empty xs = same_numbers _ _ (λ q. contains-after set.empty [] xs q ∙ ap (λ b. (b && true) || list_any (λ y. eqb y q) xs) (set.contains-empty _ q) ∙ sym (set.contains-from_list_nat xs q))

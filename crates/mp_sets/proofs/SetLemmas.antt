@@ -1,11 +1,12 @@
 -- Which numbers are members of `numbers_below`, and what sets made by it are equal to.
-use Rattle.std.proofs.Common.{◌≡◌, ℕ, zero, suc, ◌+◌, ◌<◌, Bool, true, false, cond, not, ◌&&◌, ◌||◌, ltb, eqb, List, [], ◌∷◌, ◌++◌, refl, sym, ap, ◌∙◌, arith}
-use Rattle.std.proofs.lemmas.Bool.{lt-ltb, false≢true, false_from_ne_true}
+use Rattle.std.proofs.Common.{◌≡◌, ℕ, zero, suc, ◌+◌, ◌<◌, Bool, true, false, cond, not, ◌&&◌, ◌||◌, ltb, eqb, List, [], ◌∷◌, ◌++◌, refl, sym, ap, ◌∙◌, subst, arith}
+use Rattle.std.proofs.lemmas.Bool.{lt-ltb, and_parts, and_from, false≢true, false_from_ne_true}
 use Rattle.std.proofs.lemmas.Bool.Decides.{nat_tests}
 use Rattle.std.specs.Ordering.{nat_cmp}
-use Rattle.std.specs.Cmp.{nat_cmp_total, unsigned_tied}
+use Rattle.std.specs.Bool.{Decides}
+use Rattle.std.specs.Cmp.{nat_cmp_total, unsigned_tied, both_ways}
 use Rattle.std.specs.FinSet as set
-use Rattle.mp_sets.specs.Numbers.{Numbers, AllBelow, numbers_below}
+use Rattle.mp_sets.specs.Numbers.{Numbers, AllBelow, same, numbers_below}
 
 -- one step of the recursion where the number passes, and where it does not
 added : (q n : ℕ) (t : ℕ → Bool) → t n ≡ true → (eqb q n || (ltb q n && t q)) ≡ (ltb q (n + 1) && t q)
@@ -120,3 +121,20 @@ union-none s = same_numbers _ _ (λ q. sym (set.contains-union nat_cmp_total s _
 -- one number that is in the one set and not in the other
 pub is_subset_not : (s t : Numbers) (q : ℕ) → set.contains s q ≡ true → set.contains t q ≡ false → set.is_subset s t ≡ false
 is_subset_not s t q here there = false_from_ne_true _ (λ e. false≢true (sym there ∙ set.is_subset-contains nat_cmp_total s t e q here))
+
+-- two sets are one exactly where each has the members of the other
+pub same_itself : (s : Numbers) → same s s ≡ true
+same_itself s =
+    let all : set.is_subset s s ≡ true = set.contains-is_subset nat_cmp_total s s (λ q here. here) in
+    and_from (set.is_subset s s) (set.is_subset s s) all all
+
+pub same_is : (s t : Numbers) → same s t ≡ true → s ≡ t
+same_is s t both =
+    let parts = and_parts (set.is_subset s t) (set.is_subset t s) both in
+    same_numbers s t (λ q. both_ways (set.contains s q) (set.contains t q) (set.is_subset-contains nat_cmp_total s t parts.0 q) (set.is_subset-contains nat_cmp_total t s parts.1 q))
+
+pub same_not : (s t : Numbers) → (s ≡ t → ⊥) → same s t ≡ false
+same_not s t other = false_from_ne_true (same s t) (λ e. other (same_is s t e))
+
+pub Decides-same : (s t : Numbers) → Decides (same s t) (s ≡ t)
+Decides-same s t = (same_is s t, λ e. subst (λ u. same s u ≡ true) e (same_itself s))

@@ -5,12 +5,14 @@ mod agent;
 mod bits;
 mod compared;
 mod fact_list;
+mod laws;
 mod tag;
 mod words;
 
 pub use agent::Agent;
 pub use bits::Bits;
 pub use fact_list::FactList;
+pub use laws::equal_sets_are_one;
 pub use tag::{Tag, Tags};
 
 #[cfg(test)]
