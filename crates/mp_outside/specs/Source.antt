@@ -1,5 +1,5 @@
 -- What a source of files tells of itself, where it does.
-use Rattle.std.specs.Prelude.{◌≡◌, ℕ, List, take, Option, Some, None, ⊤, IfSome, IsSomeAnd}
+use Rattle.std.specs.Prelude.{◌≡◌, ◌≤◌, ◌⊎◌, ℕ, List, take, drop, Option, Some, None, ⊤, IfSome, IsSomeAnd}
 
 -- the files that a source holds: the bytes under each name, none under a name that it does not hold
 abbrev pub Files : Type 0
@@ -24,3 +24,15 @@ FaultAt (Some files) fault_at name = fault_at ≡ name
 -- all of it where it is no longer
 abbrev pub IsFrontOf : Option Files → List ℕ → ℕ → List ℕ → Type 0
 IsFrontOf held name n bytes = IfSome held (λ files. IsSomeAnd (files name) (λ whole. bytes ≡ take n whole))
+
+-- at most n of the known bytes that were left are gone, the first ones
+abbrev pub LosesAtMost : Option (List ℕ) → Option (List ℕ) → ℕ → Type 0
+LosesAtMost None new n = ⊤
+LosesAtMost (Some xs) None n = ⊥
+LosesAtMost (Some xs) (Some ys) n = (k : ℕ) × (k ≤ n) × (ys ≡ drop k xs)
+
+-- Where the source tells what it holds, it holds this name, and at most n bytes of the file are gone since it was
+-- begun; or it was not begun, and no bytes are gone.
+abbrev pub TakesAtMost : Option Files → List ℕ → ℕ → Option (List ℕ) → Option (List ℕ) → Type 0
+TakesAtMost held name n old new =
+    (new ≡ old) ⊎ IfSome held (λ files. IsSomeAnd (files name) (λ whole. LosesAtMost (Some whole) new n))

@@ -1,6 +1,6 @@
 //! Gates: where a run with several agents may be held up.
 
-use mp_joint::Agent;
+use mp_sets::Agent;
 
 /// What an agent is about to do.
 #[derive(Clone, Copy, Debug, PartialEq, Eq)]
@@ -25,4 +25,18 @@ pub struct NoGate;
 
 impl Gate for NoGate {
     fn pass(&self, _agent: Agent, _kind: Kind3) {}
+}
+
+#[cfg(test)]
+mod tests {
+    use super::*;
+    use std::test::Fail;
+
+    #[test]
+    fn lets_each_act_pass(_rt: HostRuntime) -> Result<(), Fail> {
+        for kind in [Kind3::Expand, Kind3::Take, Kind3::Start] {
+            NoGate.pass(Agent::first(), kind);
+        }
+        Ok(())
+    }
 }

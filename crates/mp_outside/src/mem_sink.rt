@@ -63,6 +63,7 @@ impl Sink for MemSink {
     fn write(&mut self, piece: &[u8]) -> Result<usize, Failed>
         ensures later { self.old.faults ≤ self.new.faults }
         ensures failed { OnErr result (self.old.faults < self.new.faults) }
+        ensures no_fault { IfOk result (λ _. self.new.faults ≡ self.old.faults) }
         ensures count { IfOk result (λ n. n ≤ length piece.now) }
         ensures some { IfOk result (λ n. 0 < length piece.now → 0 < n) }
         ensures ok { IfOk result (λ n. Appends (told self.old.faults (Some self.old.bytes.items)) (told self.new.faults (Some self.new.bytes.items)) (take n piece.now)) }

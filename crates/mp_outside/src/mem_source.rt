@@ -1,10 +1,11 @@
 //! A source in memory.
 
-ghost use Rattle.std.specs.Prelude.{◌≡◌, ◌<◌, ◌≤◌, ◌+◌, ◌↔◌, true, false, Some, None, Ok, IfSome, IfNone, IsSome, IfOk, IsErr, is_err, OnErr, IsTrue, if◌then◌else◌, length, min, take, drop, vec_items};
+ghost use Rattle.std.specs.Prelude.{◌≡◌, ◌≢◌, ◌<◌, ◌≤◌, ◌+◌, ◌↔◌, true, false, Some, None, Ok, IfSome, IfNone, IsSome, IfOk, IsErr, is_err, OnErr, IsTrue, if◌then◌else◌, length, min, take, drop, vec_items};
 ghost use Rattle.std.specs.Io.KnownBytes.{Consumes, IsAtEnd};
 ghost use Rattle.mp_outside.specs.Calls.{after_call, next_fails};
 ghost use Rattle.std.specs.Option.{option_and_then};
 ghost use Rattle.mp_outside.specs.Memory.{held_in, name_at, rest_at};
+ghost use Rattle.mp_outside.specs.Source.{LosesAtMost};
 
 use crate::calls::Calls;
 use crate::failed::Failed;
@@ -80,6 +81,8 @@ impl Source for MemSource {
     fn begin(&mut self, name: &str) -> Result<bool, Failed>
         ensures files { self.new.files ≡ self.old.files }
         ensures absent { (result ≡ Ok false) ↔ (held_in self.old.files name.now ≡ None) }
+        ensures no_fault { IfOk result (λ _. self.new.faults ≡ self.old.faults) }
+        ensures still { result ≢ Ok true → rest_at self.new.files self.new.file self.new.given ≡ rest_at self.old.files self.old.file self.old.given }
         ensures begun { result ≡ Ok true → self.new.begun ≡ true }
         ensures whole { result ≡ Ok true → rest_at self.new.files self.new.file self.new.given ≡ held_in self.old.files name.now }
         ensures name { result ≡ Ok true → name_at self.new.files self.new.file ≡ Some name.now }
@@ -115,6 +118,9 @@ impl Source for MemSource {
         ensures end { IfOk result (λ n. n ≡ 0 → IsAtEnd (rest_at self.old.files self.old.file self.old.given)) }
         ensures still { (self.new.begun ≡ self.old.begun) × (self.new.file ≡ self.old.file) }
         ensures at { OnErr result (option_and_then (name_at self.new.files) self.new.fault_at ≡ name_at self.old.files self.old.file) }
+
+        ensures no_fault { IfOk result (λ _. self.new.faults ≡ self.old.faults) }
+        ensures lost { OnErr result (LosesAtMost (rest_at self.old.files self.old.file self.old.given) (rest_at self.new.files self.new.file self.new.given) (length buf.old)) }
 
         // A failing call takes nothing; another one takes as much as it may.
         ensures kept { OnErr result (self.new.given ≡ self.old.given) }

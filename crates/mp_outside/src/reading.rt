@@ -1,7 +1,7 @@
 //! Reading a whole file, up to a limit.
 
 ghost use Rattle.std.specs.Prelude.{◌≡◌, ◌≢◌, ◌+◌, ◌^◌, ◌<◌, ◌≤◌, ◌↔◌, true, take, vec_len, vec_items, IfSome, IfOk, IfErr, Some};
-ghost use Rattle.mp_outside.specs.Source.{Lacks, FaultAt, IsFrontOf};
+ghost use Rattle.mp_outside.specs.Source.{Lacks, LosesAtMost, TakesAtMost, FaultAt, IsFrontOf};
 
 use crate::source::Source;
 use std::alloc::{AllocError, Global};
@@ -25,8 +25,9 @@ pub enum FetchRefusal {
 }
 
 /// The first bytes of the file of this name, at most `limit + 1` of them, so that the caller sees whether the
-/// file is longer than the limit. `Absent` exactly where the source tells that it does not hold the name;
-/// `Failed` only where its count of faults rose, at this name; `OutOfMemory` for want of memory.
+/// file is longer than the limit. Whatever it answers, no more of the file is taken from the source. `Absent`
+/// exactly where the source tells that it does not hold the name; `Failed` exactly where its count of faults rose,
+/// at this name; `OutOfMemory` for want of memory.
 pub fn fetch<S: Source>(
     alloc: Global,
     source: &mut S,
@@ -36,9 +37,9 @@ pub fn fetch<S: Source>(
     requires { limit < 2 ^ 32 }
     ensures text { IfOk result (λ bytes. IsFrontOf (S.held source.old) name.now (limit + 1) bytes.items) }
     ensures short { IfOk result (λ bytes. vec_len bytes ≤ limit + 1) }
+    ensures taken { TakesAtMost (S.held source.old) name.now (limit + 1) (S.left source.old) (S.left source.new) }
     ensures absent { (result ≡ Err FetchRefusal.Absent) ↔ Lacks (S.held source.old) name.now }
-    ensures no_fault { result ≡ Err FetchRefusal.Absent → S.faults source.new ≡ S.faults source.old }
-    ensures failed { result ≡ Err FetchRefusal.Failed → S.faults source.old < S.faults source.new }
+    ensures failed { (result ≡ Err FetchRefusal.Failed) ↔ (S.faults source.old < S.faults source.new) }
     ensures at { result ≡ Err FetchRefusal.Failed → FaultAt (S.held source.old) (S.fault_at source.new) (Some name.now) }
     ensures later { S.faults source.old ≤ S.faults source.new }
     ensures held { S.held source.new ≡ S.held source.old }
@@ -60,8 +61,9 @@ fn read_front<S: Source>(
     requires small { most ≤ 2 ^ 32 }
     ensures text { IfOk result (λ bytes. IfSome (S.left source.old) (λ whole. bytes.items ≡ take most whole)) }
     ensures short { IfOk result (λ bytes. vec_len bytes ≤ most) }
+    ensures taken { LosesAtMost (S.left source.old) (S.left source.new) most }
     ensures present { IfErr result (λ e. e ≢ FetchRefusal.Absent) }
-    ensures failed { IfErr result (λ e. e ≡ FetchRefusal.Failed → S.faults source.old < S.faults source.new) }
+    ensures failed { (result ≡ Err FetchRefusal.Failed) ↔ (S.faults source.old < S.faults source.new) }
     ensures at { IfErr result (λ e. e ≡ FetchRefusal.Failed → FaultAt (S.held source.old) (S.fault_at source.new) (S.begun source.old)) }
     ensures later { S.faults source.old ≤ S.faults source.new }
     ensures held { S.held source.new ≡ S.held source.old }

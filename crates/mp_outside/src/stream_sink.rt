@@ -51,14 +51,13 @@ impl<W: Write> Sink for StreamSink<W> {
 #[cfg(test)]
 mod tests {
     use super::*;
-    use crate::put;
+    use crate::{put, put_all};
     use std::test::Fail;
 
     #[test]
     fn writes_to_its_stream(rt: HostRuntime) -> Result<(), Fail> {
         let mut sink = StreamSink::new(Vec::new(rt.alloc()));
-        put(&mut sink, b"cost 1\n")?;
-        put(&mut sink, b"length 1\n")?;
+        put_all(&mut sink, &[b"cost 1\n", b"length 1\n"])?;
         assert_eq!(rt; sink.stream.as_slice(), b"cost 1\nlength 1\n".as_slice());
         assert_eq!(rt; sink.faults, 0);
         Ok(())

@@ -1,4 +1,4 @@
-use Rattle.std.proofs.Common.{◌≡◌, ◌+◌, ◌≤◌, true, vec_len}
+use Rattle.std.proofs.Common.{◌≡◌, ◌+◌, true, vec_len}
 use Rattle.std.specs.Io.KnownBytes.{Consumes}
 use Rattle.mp_outside.proofs.reading.read_front.Given as goal
 
@@ -6,7 +6,7 @@ use Rattle.mp_outside.proofs.reading.read_front.Given as goal
 abbrev pub invariant-loop-room : goal.invariant-loop-room
 invariant-loop-room g l = record {
   held : g.S.Source.held l.source ≡ g.S.Source.held l.fn.source;
-  later : g.S.Source.faults l.fn.source ≤ g.S.Source.faults l.source;
+  no_fault : g.S.Source.faults l.source ≡ g.S.Source.faults l.fn.source;
   is_begun : g.S.Source.is_begun l.source ≡ true;
   begun : g.S.Source.begun l.source ≡ g.S.Source.begun l.fn.source;
   took : Consumes (g.S.Source.left l.fn.source) (g.S.Source.left l.source) l.bytes.items;

@@ -12,5 +12,5 @@ pub loop-done-preserved : goal.loop-done-preserved
 loop-done-preserved g c = record {
   within = grind (arith, common_steps);
   grew = grows _ _ _ c.args.text.now c.loop-done.done c.in_ok-done.field-0 c.loop-done.invariant.grew c.in_ok-done.ensures.ok;
-  later = omega (arith, c.in_ok-done.ensures.later);
+  no_fault = cc (c.in_ok-done.ensures.no_fault);
 }
