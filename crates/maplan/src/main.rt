@@ -2,14 +2,14 @@
 //! `mp_top::run`.
 #![tactic(auto)]
 
-use mp_outside::{FileSource, NoGate, StreamSink, put};
-use mp_top::{Report, Status, run};
+use mp_outside::StreamSink;
+use mp_top::run_on_files;
 use std::io::ErrorKind;
 use std::process::ExitCode;
 use std::{env, io};
 
-/// The words of the command line without the program's name. An argument that is not text is an error.
-fn command_line(rt: &HostRuntime) -> io::Result<Vec<String>> {
+/// The words of the command line without the program's name.
+fn read_words(rt: &HostRuntime) -> io::Result<Vec<String>> {
     let mut words = Vec::new(rt.alloc());
     for word in env::args(rt)?.skip(1) {
         words.push(word)?;
@@ -17,30 +17,19 @@ fn command_line(rt: &HostRuntime) -> io::Result<Vec<String>> {
     Ok(words)
 }
 
-/// Answers the words of the command line. Arguments that are not text are no accepted words.
+/// The words of the command line, none where no memory was left for them. Arguments that are not text are no
+/// accepted words, so there is no word then.
+fn command_line(rt: &HostRuntime) -> Option<Vec<String>> {
+    match read_words(rt) {
+        Ok(words) => Some(words),
+        Err(e) if e.kind() == ErrorKind::OutOfMemory => None,
+        Err(_) => Some(Vec::new(rt.alloc())),
+    }
+}
+
 fn main(rt: HostRuntime) -> ExitCode {
-    let alloc = rt.alloc();
-    let mut source = FileSource::new(&rt);
     let mut out = StreamSink::new(rt.stdout());
     let mut err = StreamSink::new(rt.stderr());
-    let mut report = Report::new(alloc);
-    let words = match command_line(&rt) {
-        Ok(words) => words,
-        Err(e) if e.kind() == ErrorKind::OutOfMemory => {
-            let _ = put(&mut err, b"maplan: out of memory\n");
-            return ExitCode::from(Status::Memory.code());
-        }
-        Err(_) => Vec::new(alloc),
-    };
-    let status = run(
-        &rt,
-        alloc,
-        words.as_slice(),
-        &mut source,
-        &mut out,
-        &mut err,
-        &NoGate,
-        &mut report,
-    );
+    let status = run_on_files(&rt, rt.alloc(), command_line(&rt), &mut out, &mut err);
     ExitCode::from(status.code())
 }

@@ -1,5 +1,5 @@
 -- What a sink gained, whether or not the writing ended well.
-use Rattle.std.proofs.Common.{◌≡◌, ℕ, ◌<◌, List, ◌++◌, length, Option, Some, None, Result, Ok, Err, OnOk, OnErr, arith, sym, ap, ◌∙◌}
+use Rattle.std.proofs.Common.{◌≡◌, ◌↔◌, IsErr, refl, ℕ, ◌<◌, List, ◌++◌, length, Option, Some, None, Result, Ok, Err, OnOk, OnErr, arith, sym, ap, ◌∙◌}
 use Rattle.std.proofs.Math.Seq.{take-length}
 use Rattle.std.specs.Io.KnownBytes.{Appends}
 use Rattle.mp_outside.specs.Sink.{AppendsBeginning}
@@ -10,6 +10,8 @@ whole_is_beginning None new text h = tt
 whole_is_beginning (Some xs) None text h = tt
 whole_is_beginning (Some xs) (Some ys) text h = (length text, h ∙ ap (λ t. xs ++ t) (sym (take-length text)))
 
-pub said : {X Y : Type 0} (r : Result X Y) (old new : Option (List ℕ)) (before now : ℕ) (text : List ℕ) → OnOk r (Appends old new text) → OnErr r (AppendsBeginning old new text) → OnErr r (before < now) → AppendsBeginning old new text × (now ≡ before → Appends old new text)
+pub said : {X Y : Type 0} (r : Result X Y) (old new : Option (List ℕ)) (before now : ℕ) (text : List ℕ) → OnOk r (Appends old new text) → OnErr r (AppendsBeginning old new text) → (IsErr r ↔ (before < now)) → AppendsBeginning old new text × (now ≡ before → Appends old new text)
 said (Ok x) old new before now text ok err failed = (whole_is_beginning old new text ok, λ _. ok)
-said (Err e) old new before now text ok err failed = (err, λ same. absurd (omega arith))
+said (Err e) old new before now text ok err failed =
+    let risen : before < now = failed.0 refl in
+    (err, λ same. absurd (omega arith))

@@ -4,6 +4,7 @@
 mod answer;
 mod first;
 mod log;
+mod on_files;
 mod on_one_thread;
 mod on_threads;
 mod outcome;
@@ -16,6 +17,7 @@ mod words;
 pub use first::one_first;
 pub use log::{Entry, Kind, Log};
 pub use mp_plain::{PlainFactor, PlainRefusal, plain};
+pub use on_files::run_on_files;
 pub use on_one_thread::run_alone;
 pub use on_threads::run;
 pub use refusal::{Fault, Refusal};

@@ -2,7 +2,7 @@
 
 ghost use Rattle.std.specs.Prelude.{◌≡◌, ◌++◌, ◌∷◌, [], codes};
 ghost use Rattle.std.specs.List.{flat_map};
-ghost use Rattle.mp_top.specs.Refusal.{status_of, line_of, name_in, text_of_fault, word_of_fault, words_line, fault_line, Says, asked};
+ghost use Rattle.mp_top.specs.Refusal.{status_of, line_of, name_in, text_of_fault, word_of_fault, words_line, memory_line, fault_line, Says, asked};
 
 use crate::status::Status;
 use crate::words::Request;
@@ -147,7 +147,7 @@ impl Refusal {
                 )
             }
             Refusal::Write => say(err, &[b"maplan: cannot write\n"]),
-            Refusal::Memory => say(err, &[b"maplan: out of memory\n"]),
+            Refusal::Memory => tell_memory(err),
         }
     }
 }
@@ -157,6 +157,13 @@ pub(crate) fn tell_words<E: Sink>(err: &mut E)
     ensures { Says E.written E.faults err.old err.new words_line }
 {
     say(err, &[b"maplan: words\n"])
+}
+
+/// Writes the line for want of memory.
+pub(crate) fn tell_memory<E: Sink>(err: &mut E)
+    ensures { Says E.written E.faults err.old err.new memory_line }
+{
+    say(err, &[b"maplan: out of memory\n"])
 }
 
 /// Writes the line of a fault at a place of a file.

@@ -16,4 +16,4 @@ pub returns-in-Write : goal.returns-in-Write
 returns-in-Write g c = rw c.in-Write.is c.say-in-Write.ensures
 
 pub returns-in-Memory : goal.returns-in-Memory
-returns-in-Memory g c = rw c.in-Memory.is c.say-in-Memory.ensures
+returns-in-Memory g c = rw c.in-Memory.is c.tell_memory.ensures
