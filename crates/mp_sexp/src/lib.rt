@@ -6,6 +6,7 @@ mod name;
 mod reader;
 mod reading;
 mod refusal;
+mod short;
 mod tree;
 
 pub use name::{Name, NameList};

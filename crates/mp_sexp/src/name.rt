@@ -1,6 +1,6 @@
 //! Names: words as they count, with their letters folded.
 
-ghost use Rattle.std.specs.Prelude.{◌≡◌, ◌++◌, ◌∷◌, ◌↔◌, [], length, slice_get, IfOk, OnOk, OnErr, IsTrue};
+ghost use Rattle.std.specs.Prelude.{◌≡◌, ◌++◌, ◌∷◌, ◌↔◌, [], length, slice_get, ◌≤◌, IfOk, OnOk, OnErr, IsTrue};
 ghost use Rattle.std.specs.Prelude.{Some};
 ghost use Rattle.std.specs.Option.{option_copied};
 ghost use Rattle.std.specs.Cmp.{partial_equiv_from_equiv};
@@ -8,8 +8,11 @@ ghost use Rattle.std.specs.Cmp.Lexicographic.{nat_list_eq_equiv, nat_list_cmp_to
 ghost use Rattle.std.specs.Hash as fed;
 ghost use Rattle.std.specs.Cmp.Rules.{hashing};
 ghost use Rattle.std.proofs.Common.{refl, rules};
+ghost use Rattle.mp_sexp.specs.Bytes.{folded};
 ghost use Rattle.mp_sexp.specs.Name.{IsCapital, HasNoCapitals, same_bytes, byte_order};
 
+use crate::bytes::fold;
+use crate::short::{MOST, Short};
 use mp_list::{Copied, List, OutOfMemory};
 use std::alloc::Global;
 use std::cmp::Ordering;
@@ -17,11 +20,21 @@ use std::fmt;
 use std::hash::{Hash, Hasher};
 use std::marker::Model;
 
+/// Where a name keeps its bytes.
+#[derive(Drop)]
+pub(crate) enum Data {
+    /// In the name itself.
+    Few(Short),
+    /// In memory of their own.
+    Many(Box<Vec<u8>>),
+}
+
 /// A word's bytes with the letters A to Z folded to a to z, so that two names are the same exactly where
-/// their bytes are. Contracts see it as the list of its bytes.
+/// their bytes are. Contracts see it as the list of its bytes. A name of at most 22 bytes takes no memory
+/// beside itself.
 #[derive(Drop)]
 pub struct Name {
-    bytes: Vec<u8>,
+    pub(crate) data: Data,
 }
 
 /// A list of names.
@@ -29,23 +42,73 @@ pub type NameList = List<Name>;
 
 impl Model for Name {
     ghost use Rattle.std.specs.Prelude.{List, ℕ};
-    ghost use Rattle.mp_sexp.specs.Name.{HasNoCapitals};
+    ghost use Rattle.mp_sexp.specs.Data.{bytes_of};
+    ghost use Rattle.mp_sexp.specs.Bytes.{folded};
+ghost use Rattle.mp_sexp.specs.Name.{HasNoCapitals};
 
     ghost Value = { List ℕ };
 
-    ghost view = { λ n. n.bytes.items };
+    ghost view = { λ n. bytes_of n.data };
 
-    ghost invariant = { λ n. HasNoCapitals n.bytes.items };
+    ghost invariant = { λ n. HasNoCapitals (bytes_of n.data) };
+}
+
+/// A name of these bytes in memory of their own.
+fn many(bytes: Vec<u8>) -> Result<Name, OutOfMemory>
+    requires { HasNoCapitals bytes.items }
+    ensures { IfOk result (λ name. name ≡ bytes.items) }
+{
+    let alloc = *bytes.allocator();
+    Ok(Name {
+        data: Data::Many(Box::new(alloc, bytes)?),
+    })
+}
+
+/// These bytes, folded, in memory of their own.
+fn folded_bytes(alloc: Global, bytes: &[u8]) -> Result<Vec<u8>, OutOfMemory>
+    ensures value { IfOk result (λ v. v.items ≡ folded bytes.now) }
+    ensures small { IfOk result (λ v. HasNoCapitals v.items) }
+{
+    let mut out = Vec::with_capacity(alloc, bytes.len())?;
+    for byte in bytes {
+        out.push(fold(*byte))?;
+    }
+    Ok(out)
+}
+
+/// At most 22 bytes, folded.
+fn folded_few(alloc: Global, bytes: &[u8]) -> Short
+    requires { length bytes.now ≤ 22 }
+    ensures value { result ≡ folded bytes.now }
+    ensures small { HasNoCapitals result }
+{
+    let mut out = Short::new(alloc);
+    for byte in bytes {
+        out.push(fold(*byte));
+    }
+    out
 }
 
 impl Name {
-    /// The empty name, which takes no memory yet.
+    /// The empty name.
     pub fn new(alloc: Global) -> Name
         ensures { result ≡ [] }
     {
         Name {
-            bytes: Vec::new(alloc),
+            data: Data::Few(Short::new(alloc)),
         }
+    }
+
+    /// The name that these bytes spell: their capital letters are folded. Refuses only for want of memory.
+    pub fn folded(alloc: Global, bytes: &[u8]) -> Result<Name, OutOfMemory>
+        ensures { IfOk result (λ name. name ≡ folded bytes.now) }
+    {
+        if bytes.len() <= MOST {
+            return Ok(Name {
+                data: Data::Few(folded_few(alloc, bytes)),
+            });
+        }
+        many(folded_bytes(alloc, bytes)?)
     }
 
     /// Adds a byte at the end. For want of memory the name stays as it was.
@@ -54,7 +117,18 @@ impl Name {
         ensures ok { OnOk result (self.new ≡ self.old ++ byte ∷ []) }
         ensures err { OnErr result (self.new ≡ self.old) }
     {
-        self.bytes.push(byte)?;
+        match &mut self.data {
+            Data::Few(short) => {
+                if short.has_room() {
+                    short.push(byte);
+                } else {
+                    let mut bytes = Vec::from_slice(short.allocator(), short.as_slice())?;
+                    bytes.push(byte)?;
+                    *self = many(bytes)?;
+                }
+            }
+            Data::Many(bytes) => bytes.push(byte)?,
+        }
         Ok(())
     }
 
@@ -62,14 +136,14 @@ impl Name {
     pub fn len(&self) -> usize
         ensures { result ≡ length self.now }
     {
-        self.bytes.len()
+        self.as_slice().len()
     }
 
     /// The byte at a place, counted from 0: none exactly where the name is not longer than that.
     pub fn get(&self, at: usize) -> Option<&u8>
         ensures { option_copied result ≡ slice_get self.now at }
     {
-        self.bytes.get(at)
+        self.as_slice().get(at)
     }
 
     /// The bytes, which hold no capital letter.
@@ -77,23 +151,28 @@ impl Name {
         ensures bytes { result.now ≡ self.now }
         ensures folded { HasNoCapitals self.now }
     {
-        self.bytes.as_slice()
+        match &self.data {
+            Data::Few(short) => short.as_slice(),
+            Data::Many(bytes) => bytes.as_slice(),
+        }
     }
 
     /// Whether the name is spelled by these bytes.
     pub fn is(&self, bytes: &[u8]) -> bool
         ensures { IsTrue result ↔ (self.now ≡ bytes.now) }
     {
-        self.bytes.as_slice() == bytes
+        self.as_slice() == bytes
     }
 }
 
 impl Copied for Name {
     fn copy(&self) -> Result<Name, OutOfMemory> {
-        let alloc = *self.bytes.allocator();
-        Ok(Name {
-            bytes: Vec::from_slice(alloc, self.as_slice())?,
-        })
+        match &self.data {
+            Data::Few(short) => Ok(Name {
+                data: Data::Few(short.same()),
+            }),
+            Data::Many(bytes) => many(Vec::from_slice(*bytes.allocator(), bytes.as_slice())?),
+        }
     }
 }
 
