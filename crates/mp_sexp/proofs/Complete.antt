@@ -5,8 +5,8 @@ use Rattle.std.proofs.lemmas.Bool.{ne_eqb, lt-ltb}
 use Rattle.std.proofs.lemmas.List.{append-nil}
 use Rattle.mp_sexp.specs.declared.tree.Place.{Place}
 use Rattle.mp_sexp.specs.declared.bytes.Kind.TheVariants as kinds
-use Rattle.mp_sexp.specs.declared.reader.Part.{Part}
-use Rattle.mp_sexp.specs.declared.reader.Part.TheVariants as parts
+use Rattle.mp_sexp.specs.Part.{Part}
+use Rattle.mp_sexp.specs.Part as parts
 use Rattle.mp_sexp.specs.Bytes.{IsSpace, IsWordByte, folded, folded_byte, open_bracket, close_bracket, semicolon, line_feed}
 use Rattle.mp_sexp.specs.Kinds.{kind_of}
 use Rattle.mp_sexp.specs.Node.{Node, Nodes, word, list, none, more, nodes_from, depth, depth_of_all}
@@ -38,7 +38,7 @@ run_cons s t at b bs e = rw e refl
 
 -- ---- single bytes
 
-step_kind : (members : List Node) (around : List Level) (at : Place) (b : ℕ) (k : _) → kind_of b ≡ k → step (reading parts.Gap members around) at b ≡ read_byte k (reading parts.Gap members around) at b
+pub step_kind : (members : List Node) (around : List Level) (at : Place) (b : ℕ) (k : _) → kind_of b ≡ k → step (reading parts.Gap members around) at b ≡ read_byte k (reading parts.Gap members around) at b
 unfolding step
 step_kind members around at b k e = ap (λ k. read_byte k (reading parts.Gap members around) at b) e
 

@@ -4,8 +4,8 @@ use Rattle.std.proofs.lemmas.Bool.{ltb-true}
 use Rattle.mp_sexp.specs.declared.tree.Place.{Place}
 use Rattle.mp_sexp.specs.declared.bytes.Kind.{Kind}
 use Rattle.mp_sexp.specs.declared.bytes.Kind.TheVariants as kinds
-use Rattle.mp_sexp.specs.declared.reader.Part.{Part}
-use Rattle.mp_sexp.specs.declared.reader.Part.TheVariants as parts
+use Rattle.mp_sexp.specs.Part.{Part}
+use Rattle.mp_sexp.specs.Part as parts
 use Rattle.mp_sexp.specs.Kinds.{kind_of}
 use Rattle.mp_sexp.specs.Node.{Node, word, list, nodes_from, depth, depth_of_all}
 use Rattle.mp_sexp.specs.Spelling.{next_place, place_after, deepest}

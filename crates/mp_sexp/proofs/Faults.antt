@@ -6,8 +6,8 @@ use Rattle.std.proofs.lemmas.List.{length_push, length-append}
 use Rattle.mp_sexp.specs.declared.tree.Place.{Place}
 use Rattle.mp_sexp.specs.declared.bytes.Kind.{Kind}
 use Rattle.mp_sexp.specs.declared.bytes.Kind.TheVariants as kinds
-use Rattle.mp_sexp.specs.declared.reader.Part.{Part}
-use Rattle.mp_sexp.specs.declared.reader.Part.TheVariants as parts
+use Rattle.mp_sexp.specs.Part.{Part}
+use Rattle.mp_sexp.specs.Part as parts
 use Rattle.mp_sexp.specs.declared.refusal.ReadRefusal.{ReadRefusal}
 use Rattle.mp_sexp.specs.declared.refusal.ReadRefusal.TheVariants.{Char, Unbalanced, Trailing, Deep, OutOfMemory}
 use Rattle.mp_sexp.specs.Bytes.{IsSpace, IsWordByte, open_bracket, close_bracket, semicolon, line_feed}

@@ -6,8 +6,8 @@ use Rattle.std.proofs.lemmas.List.{append-nil}
 use Rattle.mp_sexp.specs.declared.tree.Place.{Place}
 use Rattle.mp_sexp.specs.declared.bytes.Kind.{Kind}
 use Rattle.mp_sexp.specs.declared.bytes.Kind.TheVariants as kinds
-use Rattle.mp_sexp.specs.declared.reader.Part.{Part}
-use Rattle.mp_sexp.specs.declared.reader.Part.TheVariants as parts
+use Rattle.mp_sexp.specs.Part.{Part}
+use Rattle.mp_sexp.specs.Part as parts
 use Rattle.mp_sexp.specs.Bytes.{IsSpace, IsWordByte, folded, folded_byte, open_bracket, close_bracket, semicolon, line_feed}
 use Rattle.mp_sexp.specs.Kinds.{kind_of}
 use Rattle.mp_sexp.specs.Node.{Node, Nodes, word, list, none, more, nodes_from}

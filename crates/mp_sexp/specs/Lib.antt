@@ -4,5 +4,6 @@ pub mod Fault
 pub mod Kinds
 pub mod Name
 pub mod Node
+pub mod Part
 pub mod Reading
 pub mod Spelling

@@ -1,17 +1,17 @@
 -- Reading a text from left to right, byte after byte: how the reader works. What it is to find stands in
 -- `Spelling`, apart from this.
-use Rattle.std.specs.Prelude.{ℕ, ◌≡◌, ◌==◌, ◌&&◌, nat_lt, List, [], ◌∷◌, ◌++◌, length, map, reverse, Result, Ok, Err, if◌then◌else◌}
+use Rattle.std.specs.Prelude.{ℕ, ◌≡◌, ◌+◌, ◌<◌, ◌≤◌, ◌==◌, ◌&&◌, nat_lt, Bool, not, List, [], ◌∷◌, ◌++◌, length, map, reverse, Result, Ok, Err, if◌then◌else◌}
 use Rattle.mp_sexp.specs.declared.tree.Place.{Place}
 use Rattle.mp_sexp.specs.declared.bytes.Kind.{Kind}
 use Rattle.mp_sexp.specs.declared.bytes.Kind.TheVariants as kinds
-use Rattle.mp_sexp.specs.declared.reader.Part.{Part}
-use Rattle.mp_sexp.specs.declared.reader.Part.TheVariants as parts
-use Rattle.mp_sexp.specs.declared.reader.OpenList.{OpenList}
-use Rattle.mp_sexp.specs.declared.reader.Reader.{Reader}
+use Rattle.mp_sexp.specs.Part.{Part}
+use Rattle.mp_sexp.specs.Part as parts
+use Rattle.mp_sexp.specs.declared.open_lists.OpenList.{OpenList}
+use Rattle.mp_sexp.specs.declared.open_lists.Lists.{Lists}
 use Rattle.mp_sexp.specs.declared.refusal.ReadRefusal.{ReadRefusal}
 use Rattle.mp_sexp.specs.declared.refusal.ReadRefusal.TheVariants as refusals
 use Rattle.mp_sexp.specs.Bytes.{folded_byte, line_feed}
-use Rattle.mp_sexp.specs.Kinds.{kind_of}
+use Rattle.mp_sexp.specs.Kinds.{kind_of, is_word_kind}
 use Rattle.mp_sexp.specs.Node.{Node, word, list, nodes_from, nodes_in}
 use Rattle.mp_sexp.specs.Spelling.{next_place, place_after, deepest}
 
@@ -122,8 +122,28 @@ level_of l = record { members = nodes_in l.members.items; inner = l.inner }
 abbrev pub levels_in : List OpenList → List Level
 levels_in lists = reverse (map level_of lists)
 
-abbrev pub state_of : Reader → State
-state_of r = record { part = r.part; members = nodes_in r.members.items; around = levels_in r.around.items }
+-- what is read between two words or brackets
+abbrev pub state_of : Lists → State
+state_of l = record { part = parts.Gap; members = nodes_in l.members.items; around = levels_in l.around.items }
+
+-- a byte of a word
+abbrev pub is_word : ℕ → Bool
+is_word b = is_word_kind (kind_of b)
+
+-- a byte that does not end a line
+abbrev pub is_within_line : ℕ → Bool
+is_within_line b = not (b == line_feed)
+
+-- the place so many bytes further on in a line
+abbrev pub further : Place → ℕ → Place
+further at n = record { line = at.line; column = at.column + n }
+
+-- What is read next of a text leads from this state, place and text to those.
+pub record GoesOn (s : State) (at : Place) (text : List ℕ) (t : State) (next : Place) (rest : List ℕ) : Type 0 where
+  pub same : run s at text ≡ run t next rest
+  pub less : length rest < length text
+  pub line : next.line + length rest ≤ at.line + length text
+  pub column : next.column + length rest ≤ at.column + length text
 
 -- What a function returned, seen by view, is what reading gives, unless memory ran out.
 abbrev pub Fails : {Y : Type 0} → ReadRefusal → Result Y ReadRefusal → Type 0

@@ -3,6 +3,7 @@
 
 mod bytes;
 mod name;
+mod open_lists;
 mod reader;
 mod reading;
 mod refusal;

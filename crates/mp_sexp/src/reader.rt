@@ -1,47 +1,16 @@
 //! The reader: it goes over a text once, from left to right, with the lists that stand open on a stack.
 
-ghost use Rattle.std.specs.Prelude.{◌≡◌, ◌+◌, ◌^◌, ◌<◌, ◌≤◌, ◌∷◌, [], Ok, length};
-ghost use Rattle.mp_sexp.specs.Node.{node_of, nodes_in, nodes_from, list};
+ghost use Rattle.std.specs.Prelude.{◌≡◌, ◌+◌, ◌^◌, ◌<◌, ◌≤◌, ◌∷◌, [], Ok, length, drop, IfOk, IfErr};
+ghost use Rattle.std.specs.List.{prefix_len};
+ghost use Rattle.mp_sexp.specs.Node.{node_of};
 ghost use Rattle.mp_sexp.specs.Spelling.{next_place as place_after_byte};
-ghost use Rattle.mp_sexp.specs.Kinds.{kind_of};
-ghost use Rattle.mp_sexp.specs.Reading.{Gives, state_of, levels_in, ended, lengthened, opened, closed, misplaced as misplaced_of, read_byte, read_comment, step, finished, only_list, node_at};
+ghost use Rattle.mp_sexp.specs.Reading.{Gives, Fails, GoesOn, state_of, run, node_at, is_word, is_within_line, further as place_further};
 
-use crate::bytes::{Kind, fold, kind_of_byte};
-use crate::name::Name;
+use crate::bytes::{Kind, kind_of_byte};
+use crate::open_lists::{Lists, misplaced};
 use crate::refusal::ReadRefusal;
-use crate::tree::{Place, Tree, TreeList};
+use crate::tree::{Place, Tree};
 use std::alloc::Global;
-
-/// What the byte before the next one belongs to.
-#[derive(Drop)]
-pub enum Part {
-    Gap,
-    Comment,
-    /// A word that may go on: its bytes so far, folded, and where it begins.
-    Word(Name, Place),
-}
-
-/// A list that stands open around another.
-#[derive(Drop)]
-pub struct OpenList {
-    /// Its members before the inner list.
-    pub members: Vec<Tree>,
-    /// Where the inner list begins.
-    pub inner: Place,
-}
-
-/// What is read so far. The text itself counts as the outermost list.
-#[derive(Drop)]
-pub struct Reader {
-    pub part: Part,
-    /// The members of the list that is being read.
-    pub members: Vec<Tree>,
-    /// The lists around it, the outermost first.
-    pub around: Vec<OpenList>,
-}
-
-/// The deepest brackets that may stand open.
-const DEEPEST: usize = 100;
 
 /// The place after this byte, which stands at this place.
 fn next_place(place: Place, byte: u8) -> Place
@@ -62,188 +31,102 @@ fn next_place(place: Place, byte: u8) -> Place
     }
 }
 
-/// A list of these members.
-fn list_tree(members: Vec<Tree>, place: Place) -> Tree
-    ensures { node_of result ≡ list (nodes_from (nodes_in members.items)) place }
+/// How many bytes of a word stand first in a text.
+fn word_len(text: &[u8]) -> usize
+    ensures value { result ≡ prefix_len is_word text.now }
+    ensures within { result ≤ length text.now }
 {
-    Tree::List(TreeList { items: members }, place)
+    for (len, byte) in text.iter().enumerate() {
+        if !matches!(kind_of_byte(*byte), Kind::Word) {
+            return len;
+        }
+    }
+    text.len()
 }
 
-/// The members, with the word that ends here.
-fn with_ended(part: Part, mut members: Vec<Tree>) -> Result<Vec<Tree>, ReadRefusal>
-    ensures { Gives (λ v. nodes_in v.items) result (Ok (ended part (nodes_in members.items))) }
+/// How many bytes stand before the first line feed of a text, or before its end.
+fn line_len(text: &[u8]) -> usize
+    ensures value { result ≡ prefix_len is_within_line text.now }
+    ensures within { result ≤ length text.now }
 {
-    match part {
-        Part::Gap => Ok(members),
-        Part::Comment => Ok(members),
-        Part::Word(name, place) => {
-            members.push(Tree::Word(name, place))?;
-            Ok(members)
+    for (len, byte) in text.iter().enumerate() {
+        if *byte == b'\n' {
+            return len;
         }
+    }
+    text.len()
+}
+
+/// The place so many bytes further on in a line.
+fn further(place: Place, len: usize) -> Place
+    requires { place.column + len < 2 ^ 32 }
+    ensures { result ≡ place_further place len }
+{
+    Place {
+        line: place.line,
+        column: place.column + len as u32,
     }
 }
 
-/// The word with one more byte, or a new word that begins here.
-fn with_byte(alloc: Global, part: Part, place: Place, byte: u8) -> Result<Part, ReadRefusal>
-    ensures { Gives (λ p. p) result (Ok (lengthened part place byte)) }
+/// What stands behind a comment, whose text this is: from the line feed that ends it.
+fn after_comment(place: Place, text: &[u8]) -> (Place, &[u8])
+    requires { place.column + length text.now < 2 ^ 32 }
+    ensures place { result.0 ≡ place_further place (prefix_len is_within_line text.now) }
+    ensures rest { result.1.now ≡ drop (prefix_len is_within_line text.now) text.now }
 {
-    match part {
-        Part::Word(mut name, begin) => {
-            name.push(fold(byte))?;
-            Ok(Part::Word(name, begin))
-        }
-        Part::Gap | Part::Comment => {
-            let mut name = Name::new(alloc);
-            name.push(fold(byte))?;
-            Ok(Part::Word(name, place))
-        }
-    }
+    let len = line_len(text);
+    let (_, rest) = text.split_at(len);
+    (further(place, len), rest)
 }
 
-/// A list opens here.
-fn with_open(
+/// The word that stands first in a text is read.
+fn after_word<'t>(
+    lists: &mut Lists,
     alloc: Global,
-    members: Vec<Tree>,
-    mut around: Vec<OpenList>,
     place: Place,
-) -> Result<Reader, ReadRefusal>
-    ensures { Gives state_of result (opened place (nodes_in members.items) (levels_in around.items)) }
+    text: &'t [u8],
+) -> Result<(Place, &'t [u8]), ReadRefusal>
+    requires some { 0 < prefix_len is_word text.now }
+    requires column { place.column + length text.now < 2 ^ 32 }
+    ensures ok { IfOk result (λ p. GoesOn (state_of lists.old) place text.now (state_of lists.new) p.0 p.1.now) }
+    ensures err { IfErr result (λ e. Fails e (run (state_of lists.old) place text.now)) }
 {
-    if around.is_empty() && !members.is_empty() {
-        return Err(ReadRefusal::Trailing(place));
+    if lists.around.is_empty() {
+        return Err(misplaced(lists.members.as_slice(), place));
     }
-    if around.len() >= DEEPEST {
-        return Err(ReadRefusal::Deep(place));
-    }
-    around.push(OpenList {
-        members,
-        inner: place,
-    })?;
-    Ok(Reader {
-        part: Part::Gap,
-        members: Vec::new(alloc),
-        around,
-    })
+    let len = word_len(text);
+    let (word, rest) = text.split_at(len);
+    lists.add_word(alloc, word, place)?;
+    Ok((further(place, len), rest))
 }
 
-/// The fault of what is neither in brackets nor opens one.
-fn misplaced(members: &[Tree], place: Place) -> ReadRefusal
-    ensures { result ≡ misplaced_of (nodes_in members.now) place }
-{
-    match members {
-        [] => ReadRefusal::Unbalanced(place),
-        [_, ..] => ReadRefusal::Trailing(place),
-    }
-}
-
-/// The list that is being read closes here.
-fn with_close(
-    members: Vec<Tree>,
-    mut around: Vec<OpenList>,
+/// The word, bracket, space or comment that stands first in a text is read: where the rest of the text stands, and the rest.
+fn after_first<'t>(
+    lists: &mut Lists,
+    alloc: Global,
     place: Place,
-) -> Result<Reader, ReadRefusal>
-    ensures { Gives state_of result (closed place (nodes_in members.items) (levels_in around.items)) }
+    text: &'t [u8],
+) -> Result<(Place, &'t [u8]), ReadRefusal>
+    requires some { 0 < length text.now }
+    requires line { place.line + length text.now < 2 ^ 32 }
+    requires column { place.column + length text.now < 2 ^ 32 }
+    ensures ok { IfOk result (λ p. GoesOn (state_of lists.old) place text.now (state_of lists.new) p.0 p.1.now) }
+    ensures err { IfErr result (λ e. Fails e (run (state_of lists.old) place text.now)) }
 {
-    match around.pop() {
-        None => Err(misplaced(members.as_slice(), place)),
-        Some(open) => {
-            let OpenList {
-                members: mut outer,
-                inner,
-            } = open;
-            outer.push(list_tree(members, inner))?;
-            Ok(Reader {
-                part: Part::Gap,
-                members: outer,
-                around,
-            })
-        }
-    }
-}
-
-/// What is read after one more byte, which stands at this place.
-#[tactic(auto, unfolding(crate::specs::Reading::read_byte))]
-fn after_byte(alloc: Global, reader: Reader, place: Place, byte: u8) -> Result<Reader, ReadRefusal>
-    ensures { Gives state_of result (read_byte (kind_of byte) (state_of reader) place byte) }
-{
-    let Reader {
-        part,
-        members,
-        around,
-    } = reader;
-    match kind_of_byte(byte) {
-        Kind::Space => Ok(Reader {
-            part: Part::Gap,
-            members: with_ended(part, members)?,
-            around,
-        }),
-        Kind::Comment => Ok(Reader {
-            part: Part::Comment,
-            members: with_ended(part, members)?,
-            around,
-        }),
-        Kind::Open => with_open(alloc, with_ended(part, members)?, around, place),
-        Kind::Close => with_close(with_ended(part, members)?, around, place),
-        Kind::Word => {
-            if around.is_empty() {
-                return Err(misplaced(members.as_slice(), place));
+    match text {
+        [] => Ok((place, text)),
+        [byte, rest @ ..] => {
+            match kind_of_byte(*byte) {
+                Kind::Space => {}
+                Kind::Comment => return Ok(after_comment(next_place(place, *byte), rest)),
+                Kind::Open => lists.open(alloc, place)?,
+                Kind::Close => lists.close(alloc, place)?,
+                Kind::Word => return after_word(lists, alloc, place, text),
+                Kind::Foreign => return Err(ReadRefusal::Char(place)),
             }
-            Ok(Reader {
-                part: with_byte(alloc, part, place, byte)?,
-                members,
-                around,
-            })
+            Ok((next_place(place, *byte), rest))
         }
-        Kind::Foreign => Err(ReadRefusal::Char(place)),
     }
-}
-
-/// What is read after one more byte of a comment.
-fn after_comment(mut reader: Reader, byte: u8) -> Reader
-    ensures { state_of result ≡ read_comment (state_of reader) byte }
-{
-    reader.part = if byte == b'\n' {
-        Part::Gap
-    } else {
-        Part::Comment
-    };
-    reader
-}
-
-/// What is read after one more byte, inside a comment or outside.
-#[tactic(auto, unfolding(crate::specs::Reading::step))]
-fn stepped(alloc: Global, reader: Reader, place: Place, byte: u8) -> Result<Reader, ReadRefusal>
-    ensures { Gives state_of result (step (state_of reader) place byte) }
-{
-    match &reader.part {
-        Part::Comment => Ok(after_comment(reader, byte)),
-        _ => after_byte(alloc, reader, place, byte),
-    }
-}
-
-/// The one list that was read, when the text ends at this place.
-fn only_tree(mut members: Vec<Tree>, around: &[OpenList], place: Place) -> Result<Tree, ReadRefusal>
-    ensures { Gives node_of result (only_list place (nodes_in members.items) (levels_in around.now)) }
-{
-    if members.len() != 1 || !around.is_empty() {
-        return Err(ReadRefusal::Unbalanced(place));
-    }
-    match members.pop() {
-        Some(Tree::List(nodes, begin)) => Ok(Tree::List(nodes, begin)),
-        _ => Err(ReadRefusal::Unbalanced(place)),
-    }
-}
-
-/// The tree of the text that was read to its end, at this place.
-fn finish(reader: Reader, place: Place) -> Result<Tree, ReadRefusal>
-    ensures { Gives node_of result (finished place (state_of reader)) }
-{
-    let Reader {
-        part,
-        members,
-        around,
-    } = reader;
-    only_tree(with_ended(part, members)?, around.as_slice(), place)
 }
 
 /// The tree of a text, or its first fault.
@@ -253,14 +136,12 @@ pub fn tree_at(alloc: Global, text: &[u8]) -> Result<Tree, ReadRefusal>
     ensures { Gives node_of result (node_at text.now) }
 {
     let mut place = Place { line: 1, column: 1 };
-    let mut reader = Reader {
-        part: Part::Gap,
-        members: Vec::new(alloc),
-        around: Vec::new(alloc),
-    };
-    for byte in text {
-        reader = stepped(alloc, reader, place, *byte)?;
-        place = next_place(place, *byte);
+    let mut lists = Lists::new(alloc);
+    let mut rest = text;
+    while !rest.is_empty() {
+        let (next, left) = after_first(&mut lists, alloc, place, rest)?;
+        place = next;
+        rest = left;
     }
-    finish(reader, place)
+    lists.only_tree(place)
 }
