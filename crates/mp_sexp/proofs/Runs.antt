@@ -12,7 +12,7 @@ use Rattle.mp_sexp.specs.declared.bytes.Kind.TheVariants as kinds
 use Rattle.mp_sexp.specs.Part as parts
 use Rattle.mp_sexp.specs.declared.refusal.ReadRefusal.{ReadRefusal}
 use Rattle.mp_sexp.specs.declared.refusal.ReadRefusal.TheVariants as refusals
-use Rattle.mp_sexp.specs.Bytes.{IsSpace, IsWordByte, folded, folded_byte, line_feed}
+use Rattle.mp_sexp.specs.Bytes.{IsWordByte, folded, folded_byte, line_feed}
 use Rattle.mp_sexp.specs.Kinds.{kind_of, is_word_kind}
 use Rattle.mp_sexp.specs.Node.{Node, word}
 use Rattle.mp_sexp.specs.Spelling.{next_place}
@@ -38,7 +38,7 @@ pub byte_goes_on : (s t : State) (at : Place) (b : ℕ) (bs : List ℕ) → step
 byte_goes_on s t at b bs e =
     let l = line_sum at b (length bs) in
     let c = column_sum at b (length bs) in
-    record { same = run_cons s t at b bs e; less = omega arith; line = omega (arith, l); column = omega (arith, c); }
+    record { same = run_cons s t at b bs e; less = omega arith; line = omega (arith, l); column = omega (arith, c) }
 
 space_goes_on : (members : List Node) (around : List Level) (at : Place) (b : ℕ) (bs : List ℕ) → kind_of b ≡ kinds.Space
     → GoesOn (reading parts.Gap members around) at (b ∷ bs) (reading parts.Gap members around) (next_place at b) bs

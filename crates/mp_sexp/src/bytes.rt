@@ -21,6 +21,7 @@ pub enum Kind {
 }
 
 /// Whether a byte stands between words.
+#[inline]
 pub fn is_space(byte: u8) -> bool
     ensures { result ≡ space_of byte }
 {
@@ -28,6 +29,7 @@ pub fn is_space(byte: u8) -> bool
 }
 
 /// The kind of a byte.
+#[inline]
 #[tactic(auto, unfolding(crate::specs::Kinds::kind_of))]
 pub fn kind_of_byte(byte: u8) -> Kind
     ensures { result ≡ kind_of byte }
@@ -48,6 +50,7 @@ pub fn kind_of_byte(byte: u8) -> Kind
 }
 
 /// A to Z become a to z.
+#[inline]
 pub fn fold(byte: u8) -> u8
     ensures value { result ≡ folded_byte byte }
     ensures small { ¬ IsCapital result }

@@ -44,7 +44,7 @@ impl Model for Name {
     ghost use Rattle.std.specs.Prelude.{List, ℕ};
     ghost use Rattle.mp_sexp.specs.Data.{bytes_of};
     ghost use Rattle.mp_sexp.specs.Bytes.{folded};
-ghost use Rattle.mp_sexp.specs.Name.{HasNoCapitals};
+    ghost use Rattle.mp_sexp.specs.Name.{HasNoCapitals};
 
     ghost Value = { List ℕ };
 

@@ -1,6 +1,7 @@
 ghost use Rattle.std.specs.Prelude.{◌<◌, ◌^◌, length};
 
 use super::*;
+use mp_list::Copied;
 use std::alloc::{AllocError, Global};
 use std::test::Fail;
 
@@ -75,25 +76,6 @@ fn texts(rt: HostRuntime) -> Result<(), Fail> {
 }
 
 #[test]
-fn beginnings(rt: HostRuntime) {
-    let mut line = 1;
-    let mut column = 1;
-    for (len, byte) in LAMP.iter().enumerate() {
-        if len + 1 < LAMP.len() {
-            let want = Some(ReadRefusal::Unbalanced(at(line, column)));
-            assert_eq!(rt; refusal(rt.alloc(), &LAMP[..len]), want, "at {len}");
-        }
-        assert!(rt; line < 1000 && column < 1000);
-        column += 1;
-        if *byte == b'\n' {
-            line += 1;
-            column = 1;
-        }
-    }
-    assert_eq!(rt; line, 4);
-}
-
-#[test]
 fn places(rt: HostRuntime) -> Result<(), Fail> {
     let tree = read(rt.alloc(), b" (aB\n (c))")?;
     let Tree::List(outer, at) = tree else {
@@ -113,5 +95,26 @@ fn places(rt: HostRuntime) -> Result<(), Fail> {
             }
         }
     }
+    Ok(())
+}
+
+/// Names of few bytes and of many, and how each is spelled in a text.
+const NAMES: [(&[u8], &[u8]); 4] = [
+    (b"", b""),
+    (b"Drive-Truck", b"drive-truck"),
+    (b"ABCDEFGHIJKLMNOPQRSTUV", b"abcdefghijklmnopqrstuv"),
+    (b"a-Name-of-24-bytes-here[", b"a-name-of-24-bytes-here["),
+];
+
+#[test]
+fn names(rt: HostRuntime) -> Result<(), Fail> {
+    for (spelled, bytes) in NAMES {
+        let mut name = Name::folded(rt.alloc(), spelled)?;
+        let copy = name.copy()?;
+        assert!(rt; name.is(bytes) && name == copy && name.len() == bytes.len());
+        name.push(b'-')?;
+        assert!(rt; name > copy && name.get(bytes.len()) == Some(&b'-'));
+    }
+    assert!(rt; Name::new(rt.alloc()).is(b""));
     Ok(())
 }

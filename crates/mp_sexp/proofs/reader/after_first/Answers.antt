@@ -1,6 +1,5 @@
-use Rattle.std.proofs.Common.{◌≡◌, refl, sym, ap, ◌∙◌}
+use Rattle.std.proofs.Common.{sym, ◌∙◌}
 use Rattle.std.proofs.lemmas.Result.{err_from_is_err_and}
-use Rattle.mp_sexp.specs.Kinds.{kind_of}
 use Rattle.mp_sexp.specs.Node.{nodes_in}
 use Rattle.mp_sexp.specs.Reading.{levels_in}
 use Rattle.mp_sexp.proofs.Runs.{space_read, comment_read, open_read, close_read, open_refused, close_refused, foreign_refused}

@@ -1,7 +1,7 @@
-use Rattle.std.proofs.Common.{◌≡◌, length, refl, sym, ap, ◌∙◌, arith}
+use Rattle.std.proofs.Common.{◌≡◌, length, sym, ◌∙◌, arith}
 use Rattle.std.proofs.lemmas.Bool.{eqb-true, eqb-false}
 use Rattle.mp_sexp.specs.Node.{nodes_in}
-use Rattle.mp_sexp.specs.Reading.{GoesOn, levels_in}
+use Rattle.mp_sexp.specs.Reading.{levels_in}
 use Rattle.mp_sexp.proofs.Runs.{outside_fails, some_levels, word_goes_on}
 use Rattle.mp_sexp.proofs.reader.after_word.Goals as goal
 
