@@ -1,11 +1,14 @@
 -- What plans cost.
-use Rattle.std.proofs.Common.{◌≡◌, ◌+◌, ◌≤◌, List, ◌∷◌, ◌++◌, refl, zero-le, arith}
+use Rattle.std.proofs.Common.{◌≡◌, ◌+◌, ◌≤◌, List, [], ◌∷◌, ◌++◌, refl, zero-le, arith}
 use Rattle.std.proofs.lemmas.List.Sums.{sum_by-cons, sum_by-append}
 use Rattle.mp_runs.specs.Simulation.{GoesOverToSums}
 use Rattle.mp_runs.specs.System.{System, plan_cost}
 
 pub plan_cost-cons : {S A : Type 0} (system : System S A) (a : A) (plan : List A) → plan_cost system (a ∷ plan) ≡ system.cost a + plan_cost system plan
 plan_cost-cons system a plan = sum_by-cons system.cost a plan
+
+pub plan_cost-one : {S A : Type 0} (system : System S A) (a : A) → plan_cost system (a ∷ []) ≡ system.cost a
+plan_cost-one system a = omega arith
 
 pub plan_cost-append : {S A : Type 0} (system : System S A) (before plan : List A) → plan_cost system (before ++ plan) ≡ plan_cost system before + plan_cost system plan
 plan_cost-append system before plan = sum_by-append system.cost before plan

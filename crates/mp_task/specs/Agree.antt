@@ -1,16 +1,11 @@
 -- When the tasks of a team's agents belong together.
-use Rattle.std.specs.Prelude.{◌≡◌, ◌≢◌, ◌↔◌, ℕ, Bool, List, length, map, All, Contains, IsTrue}
-use Rattle.std.specs.List.{range_with_len}
-use Rattle.std.specs.FinSet as set
-use Rattle.mp_sets.specs.Numbers.{holds}
+use Rattle.std.specs.Prelude.{◌≡◌, ◌≢◌, ◌≤◌, ◌↔◌, ℕ, List, length, map, All, Contains, IsTrue}
+use Rattle.std.specs.List.{AllPairs, range_with_len}
 use Rattle.mp_task.specs.declared.act.Act.{Act}
 use Rattle.mp_task.specs.declared.act.Far.{Far}
 use Rattle.mp_task.specs.AgentTask.{AgentTask}
+use Rattle.mp_task.specs.Met.{met_at_start}
 use Rattle.mp_task.specs.Public.{is_public, part_of}
-
--- for each agent, whether its private goals are true at the start
-abbrev pub met_at_start : List AgentTask → List Bool
-met_at_start tasks = map (λ t. holds (set.from_list t.start_priv) t.goal_priv) tasks
 
 -- the public part of a public action of another agent of the team
 pub record IsFarPart (tasks : List AgentTask) (me : ℕ) (part : Far) : Type 0 where
@@ -20,13 +15,20 @@ pub record IsFarPart (tasks : List AgentTask) (me : ℕ) (part : Far) : Type 0 w
   pub act : Act
   pub own : Contains other.acts act
   pub public : IsTrue (is_public act)
-  pub is : part ≡ part_of act
+  pub is : part ≡ part_of other.me act
+
+-- The list of the others' parts: the public parts of all public actions of the other agents and nothing else, none
+-- twice, and agent by agent in rising order. The order among one agent's parts is left open.
+pub record IsFarList (tasks : List AgentTask) (me : ℕ) (far : List Far) : Type 0 where
+  pub exact : (part : Far) → Contains far part ↔ IsFarPart tasks me part
+  pub once : AllPairs (λ a b. a ≢ b) far
+  pub by_agent : AllPairs (λ a b. a.by ≤ b.by) far
 
 -- what the task of one agent says of the team
 pub record FitsTeam (tasks : List AgentTask) (t : AgentTask) : Type 0 where
   pub agents : t.agents ≡ length tasks
   pub met : t.met ≡ met_at_start tasks
-  pub far : (part : Far) → Contains t.far part ↔ IsFarPart tasks t.me part
+  pub far : IsFarList tasks t.me t.far
 
 -- what two tasks of one team say alike
 pub record SayAlike (t u : AgentTask) : Type 0 where

@@ -2,8 +2,10 @@ pub mod Agree
 pub mod AgentTask
 pub mod Heuristic
 pub mod Limits
+pub mod Met
 pub mod Plan
 pub mod Projected
 pub mod Public
+pub mod Seen
 pub mod Strips
 pub mod TaskFields

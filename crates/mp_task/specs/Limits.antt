@@ -18,7 +18,10 @@ pub record ActFits (publics privates : ℕ) (act : Act) : Type 0 where
   pub del_priv : AllLess privates act.del_priv
   pub cost : act.cost ≤ 16000000
 
-pub record FarFits (publics : ℕ) (part : Far) : Type 0 where
+-- the part of an action names an agent of the team and facts that there are, and costs at most 16,000,000
+pub record FarFits (agents publics : ℕ) (part : Far) : Type 0 where
+  pub from_1 : 1 ≤ part.by
+  pub in_team : part.by ≤ agents
   pub pre : AllLess publics part.pre
   pub add : AllLess publics part.add
   pub del : AllLess publics part.del
@@ -38,4 +41,4 @@ pub record IsWithinLimits (t : AgentTask) : Type 0 where
   pub number_of_acts : length t.acts ≤ 200000
   pub number_of_far : length t.far ≤ 3000000
   pub acts : All (ActFits t.publics t.privates) t.acts
-  pub far : All (FarFits t.publics) t.far
+  pub far : All (FarFits t.agents t.publics) t.far

@@ -1,4 +1,4 @@
--- Which actions are public (MA-STRIPS), and what the team sees of them.
+-- Which actions are public and which are private (MA-STRIPS), and what the team sees of the public ones.
 use Rattle.std.specs.Prelude.{ℕ, Bool, not, ◌&&◌, ◌==◌, List, length}
 use Rattle.std.specs.List.{list_any, filter}
 use Rattle.mp_task.specs.declared.act.Act.{Act}
@@ -11,7 +11,16 @@ is_empty xs = length xs == 0
 abbrev pub is_public : Act → Bool
 is_public act = not (is_empty act.pre_pub && (is_empty act.add_pub && is_empty act.del_pub))
 
--- the public part of an action, without the deletes that are adds too
-abbrev pub part_of : Act → Far
-part_of act =
-    record { pre = act.pre_pub; add = act.add_pub; del = filter (λ x. not (list_any (λ y. y == x) act.add_pub)) act.del_pub; cost = act.cost }
+-- and private where none is
+abbrev pub is_private : Act → Bool
+is_private act = not (is_public act)
+
+-- the public part of an action of an agent, without the deletes that are adds too
+abbrev pub part_of : ℕ → Act → Far
+part_of agent act = record {
+  by = agent;
+  pre = act.pre_pub;
+  add = act.add_pub;
+  del = filter (λ x. not (list_any (λ y. y == x) act.add_pub)) act.del_pub;
+  cost = act.cost;
+}

@@ -1,7 +1,7 @@
 //! Actions of a task by the numbers of their facts.
 
 use mp_list::{Copied, List, OutOfMemory};
-use mp_sets::FactList;
+use mp_sets::{Agent, FactList};
 
 /// An own action: a ground action of STRIPS whose facts are public or private to the agent.
 #[derive(Drop)]
@@ -25,9 +25,11 @@ pub struct Act {
 /// Own actions by their numbers.
 pub type ActList = List<Act>;
 
-/// What the team sees of another agent's public action: its public facts and its cost.
+/// What the team sees of another agent's public action: whose it is, its public facts and its cost.
 #[derive(Drop)]
 pub struct Far {
+    /// The agent whose action it is.
+    pub by: Agent,
     /// The public preconditions.
     pub pre: FactList,
     /// The public facts that it makes true.
@@ -58,6 +60,7 @@ impl Copied for Act {
 impl Copied for Far {
     fn copy(&self) -> Result<Far, OutOfMemory> {
         Ok(Far {
+            by: self.by,
             pre: self.pre.copy()?,
             add: self.add.copy()?,
             del: self.del.copy()?,

@@ -4,8 +4,9 @@ ghost use Rattle.std.specs.Prelude.{◌≡◌, ℕ, ◌<◌, ◌≤◌, ◌^◌,
 ghost use Rattle.mp_sets.specs.Numbers.{Numbers};
 ghost use Rattle.mp_task.specs.AgentTask.{AgentTask};
 ghost use Rattle.mp_task.specs.Limits.{IsWithinLimits};
-ghost use Rattle.mp_task.specs.Projected.{projected, projected_state};
-ghost use Rattle.mp_task.specs.Strips.{IsPlanFrom, plan_cost};
+ghost use Rattle.mp_runs.specs.System.{IsPlanFrom, plan_cost};
+ghost use Rattle.mp_task.specs.Projected.{projected_state};
+ghost use Rattle.mp_task.specs.Seen.{seen_system};
 ghost use Rattle.mp_task.specs.Heuristic.{SizesFit};
 ghost use Rattle.std.proofs.Common.{lit<, sym, zero-le};
 ghost use Rattle.std.proofs.lemmas.Option.{none-some};
@@ -44,12 +45,12 @@ pub trait Heuristic: Sized + Drop {
     /// It is none only where the projected problem has no plan from there.
     ghost dead: { (task : AgentTask) (publics privates : Numbers) → IsWithinLimits task
         → value task publics privates ≡ None
-        → (plan : List ℕ) → ¬ IsPlanFrom (projected task) (projected_state task publics privates) plan };
+        → (plan : List ℕ) → ¬ IsPlanFrom (seen_system task) (projected_state task publics privates) plan };
 
     /// Otherwise it is at most the cost of each plan of the projected problem from there.
     ghost admissible: { (task : AgentTask) (publics privates : Numbers) → IsWithinLimits task
-        → (plan : List ℕ) → IsPlanFrom (projected task) (projected_state task publics privates) plan
-        → IfSome (value task publics privates) (λ h. h ≤ plan_cost (projected task) plan) };
+        → (plan : List ℕ) → IsPlanFrom (seen_system task) (projected_state task publics privates) plan
+        → IfSome (value task publics privates) (λ h. h ≤ plan_cost (seen_system task) plan) };
 }
 
 /// The heuristic that knows nothing: its value is always 0.

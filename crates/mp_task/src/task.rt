@@ -38,7 +38,7 @@ pub struct Task {
     pub goal_priv: FactList,
     /// The own actions by their numbers.
     pub acts: ActList,
-    /// The public parts of the other agents' public actions.
+    /// The public parts of the other agents' public actions, by rising agent.
     pub far: FarList,
     /// For each agent, whether its private goals are true at the start.
     pub met: Flags,
