@@ -1,4 +1,6 @@
--- in reading order: the projected state; tasks that agree; plans as one agent sees them; worked teams
+-- in reading order: the projected state; tasks that agree; joint states; plans as one agent sees them; estimates
 pub mod ProjectedState
 pub mod Agreeing
+pub mod JointStates
 pub mod SeenPlan
+pub mod Estimates

@@ -3,10 +3,12 @@
 
 mod act;
 mod heuristic;
+mod laws;
 mod task;
 
 pub use act::{Act, ActList, Far, FarList};
 pub use heuristic::{Blind, Heuristic};
+pub use laws::{plans_are_seen_as_plans, steps_lead_to_joint_states, values_are_bounds_for_the_team};
 pub use task::{Flags, Task, TaskList};
 
 #[cfg(test)]
