@@ -1,5 +1,6 @@
 pub mod Agree
 pub mod AgentTask
+pub mod Examples
 pub mod Heuristic
 pub mod Limits
 pub mod Met
