@@ -1,6 +1,6 @@
 -- What the tasks of a team that agree say of one another.
 use Rattle.std.proofs.Common.{◌≡◌, ◌≢◌, ℕ, zero, suc, ◌+◌, ◌-◌, ◌<◌, List, [], ◌∷◌, length, map, get_or, All, Option, Some, None, refl, sym, ap, ◌∙◌, arith}
-use Rattle.std.proofs.lemmas.List.{get_or-map}
+use Rattle.std.proofs.lemmas.List.{get_or_default, get_or-map}
 use Rattle.std.proofs.lemmas.List.Elements.{Contains-get_or}
 use Rattle.std.proofs.lemmas.List.FromFn.{get_or-range_with_len}
 use Rattle.std.proofs.lemmas.Option.{none-some, slice_get_within, get_or_from_slice_get}
@@ -54,3 +54,11 @@ step_parts tasks step act here = by step.agent refl here
 pub public_start-at : (tasks : List AgentTask) (t : AgentTask) → Contains tasks t → ((u : AgentTask) → Contains tasks u → u.start_pub ≡ t.start_pub) → public_start tasks ≡ set.from_list t.start_pub
 public_start-at [] t (i, within, is) same = absurd (omega arith)
 public_start-at (u ∷ us) t here same = ap set.from_list (same u (Contains-get_or (u ∷ us) 0 u (omega arith)))
+
+-- one task alone is that of an agent
+pub same_number : (tasks : List AgentTask) → Agree tasks → (t u : AgentTask) → Contains tasks t → Contains tasks u → t.me ≡ u.me → t ≡ u
+same_number tasks agree t u here there mine =
+    let a = number_at tasks agree here.0 t here.1 here.2 in
+    let b = number_at tasks agree there.0 u there.1 there.2 in
+    let place : here.0 ≡ there.0 = omega arith in
+    sym here.2 ∙ ap (λ k. get_or tasks k t) place ∙ get_or_default tasks there.0 t u there.1 ∙ there.2

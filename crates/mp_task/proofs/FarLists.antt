@@ -25,17 +25,15 @@ only_one y x (k, within, is) = let e : k ≡ 0 = omega arith in ap (λ n. get_or
 pub first_or_later : {X : Type 0} (y x : X) (xs : List X) → Contains (y ∷ xs) x → (y ≡ x) ⊎ Contains xs x
 first_or_later y x xs here = ⊎_elim (λ now. inl (only_one y x now)) (λ later. inr later) (Contains-append_cases (y ∷ []) xs x here)
 
--- of an agent's actions the public ones have parts
-public_acts : List Act → List Act
-public_acts acts = filter is_public acts
-
+-- the public part of a public action of an agent
 record IsPartOf (agent : ℕ) (acts : List Act) (part : Far) : Type 0 where
   act : Act
   own : Contains acts act
   public : is_public act ≡ true
   is : part ≡ part_of agent act
 
-pub parts_in : ℕ → List Act → List Far
+-- the parts of an agent's actions
+unfoldable pub parts_in : ℕ → List Act → List Far
 parts_in agent acts = map (part_of agent) (filter is_public acts)
 
 parts_sound : (agent : ℕ) (acts : List Act) (part : Far) → Contains (parts_in agent acts) part → IsPartOf agent acts part
@@ -65,7 +63,7 @@ parts_complete agent (a ∷ acts) act here public = by (is_public a) refl (parts
     by false hidden rest (inr there) = rest there public
 
 -- the parts of all agents but one
-pub parts_of_others : ℕ → List AgentTask → List Far
+unfoldable pub parts_of_others : ℕ → List AgentTask → List Far
 parts_of_others me tasks = flat_map (λ u. cond (eqb u.me me) [] (parts_in u.me u.acts)) tasks
 
 later_agent : (me : ℕ) (u : AgentTask) (tasks : List AgentTask) (part : Far) → IsFarPart tasks me part → IsFarPart (u ∷ tasks) me part

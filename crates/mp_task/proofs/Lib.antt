@@ -2,6 +2,8 @@
 pub mod ProjectedState
 pub mod Agreeing
 pub mod FarLists
+pub mod Disagreeing
 pub mod JointStates
 pub mod SeenPlan
 pub mod Estimates
+pub mod Example
