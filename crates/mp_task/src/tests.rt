@@ -1,11 +1,9 @@
-//! A team of two by hand. The left one walks from far to near and drops; the right one lifts what lies in the
-//! middle and lays it at the end. Public are end (0) and mid (1), private far (0) and near (1) of the left one
-//! and held (0) of the right one.
+//! The left one of the worked team of two (`specs/Examples.antt`) by hand, with one part of the right one's.
 
-ghost use Rattle.std.specs.Prelude.{◌≡◌, ◌<◌, [], ◌∷◌, All, IfOk, length};
+ghost use Rattle.std.specs.Prelude.{◌≡◌, [], ◌∷◌, All, IfOk, length};
 ghost use Rattle.mp_task.specs.Limits.{ActFits, FarFits};
 
-use crate::{Act, Blind, Far, FarList, Heuristic, Task};
+use crate::{Act, ActList, Blind, Far, FarList, Heuristic, Task};
 use mp_list::{Copied, List, OutOfMemory};
 use mp_sets::{Agent, Bits, FactList};
 use std::alloc::Global;
@@ -48,65 +46,45 @@ fn drop_it(alloc: Global) -> Result<Act, OutOfMemory>
     })
 }
 
-fn lift(alloc: Global) -> Result<Act, OutOfMemory>
-    ensures { IfOk result (ActFits 2 1) }
+fn acts(alloc: Global) -> Result<ActList, OutOfMemory>
+    ensures { IfOk result (λ acts. (length acts ≡ 2) × All (ActFits 2 2) acts) }
 {
-    Ok(Act {
-        pre_pub: one(alloc, 1)?,
-        pre_priv: FactList::new(alloc),
-        add_pub: FactList::new(alloc),
-        add_priv: one(alloc, 0)?,
-        del_pub: one(alloc, 1)?,
-        del_priv: FactList::new(alloc),
+    let mut acts = ActList::new(alloc);
+    acts.push(walk(alloc)?)?;
+    acts.push(drop_it(alloc)?)?;
+    Ok(acts)
+}
+
+fn lifted(alloc: Global, by: Agent) -> Result<FarList, OutOfMemory>
+    requires { by ≡ 2 }
+    ensures { IfOk result (λ far. (length far ≡ 1) × All (FarFits 2 2) far) }
+{
+    let mut far = FarList::new(alloc);
+    far.push(Far {
+        by,
+        pre: one(alloc, 1)?,
+        add: FactList::new(alloc),
+        del: one(alloc, 1)?,
         cost: 1,
-    })
+    })?;
+    Ok(far)
 }
 
-fn lay(alloc: Global) -> Result<Act, OutOfMemory>
-    ensures { IfOk result (ActFits 2 1) }
+fn met(alloc: Global) -> Result<List<bool>, OutOfMemory>
+    ensures { IfOk result (λ met. length met ≡ 2) }
 {
-    Ok(Act {
-        pre_pub: FactList::new(alloc),
-        pre_priv: one(alloc, 0)?,
-        add_pub: one(alloc, 0)?,
-        add_priv: FactList::new(alloc),
-        del_pub: FactList::new(alloc),
-        del_priv: FactList::new(alloc),
-        cost: 1,
-    })
+    let mut met = List::new(alloc);
+    met.push(true)?;
+    met.push(true)?;
+    Ok(met)
 }
 
-/// The public part of an action with public preconditions, adds and deletes alone.
-fn part(pre: FactList, add: FactList, del: FactList) -> Far
-    requires pre_below { All (λ x. x < 2) pre }
-    requires add_below { All (λ x. x < 2) add }
-    requires del_below { All (λ x. x < 2) del }
-    ensures { FarFits 2 result }
-{
-    Far {
-        pre,
-        add,
-        del,
-        cost: 1,
-    }
-}
-
-fn two<T: Drop>(alloc: Global, first: T, second: T) -> Result<List<T>, OutOfMemory>
-    ensures { IfOk result (λ list. list ≡ first ∷ second ∷ []) }
-{
-    let mut list = List::new(alloc);
-    list.push(first)?;
-    list.push(second)?;
-    Ok(list)
-}
-
-fn left(alloc: Global, me: Agent) -> Result<Task, OutOfMemory>
-    requires { me ≡ 1 }
+fn left(alloc: Global, me: Agent, other: Agent) -> Result<Task, OutOfMemory>
+    requires me { me ≡ 1 }
+    requires other { other ≡ 2 }
     ensures { IfOk result (λ task. length task.acts ≡ 2) }
 {
-    let empty = FactList::new(alloc);
-    let lift = part(one(alloc, 1)?, FactList::new(alloc), one(alloc, 1)?);
-    let lay = part(FactList::new(alloc), one(alloc, 0)?, FactList::new(alloc));
+    let goal_priv = FactList::new(alloc);
     Ok(Task {
         me,
         agents: 2,
@@ -115,47 +93,25 @@ fn left(alloc: Global, me: Agent) -> Result<Task, OutOfMemory>
         start_pub: FactList::new(alloc),
         start_priv: one(alloc, 0)?,
         goal_pub: one(alloc, 0)?,
-        goal_priv: empty,
-        acts: two(alloc, walk(alloc)?, drop_it(alloc)?)?,
-        far: two(alloc, lift, lay)?,
-        met: two(alloc, true, true)?,
+        goal_priv,
+        acts: acts(alloc)?,
+        far: lifted(alloc, other)?,
+        met: met(alloc)?,
     })
 }
 
-fn right(alloc: Global, me: Agent) -> Result<Task, OutOfMemory>
-    requires { me ≡ 2 }
-    ensures { IfOk result (λ task. length task.acts ≡ 2) }
-{
-    let mut far = FarList::new(alloc);
-    far.push(part(FactList::new(alloc), one(alloc, 1)?, FactList::new(alloc)))?;
-    Ok(Task {
-        me,
-        agents: 2,
-        publics: 2,
-        privates: 1,
-        start_pub: FactList::new(alloc),
-        start_priv: FactList::new(alloc),
-        goal_pub: one(alloc, 0)?,
-        goal_priv: FactList::new(alloc),
-        acts: two(alloc, lift(alloc)?, lay(alloc)?)?,
-        far,
-        met: two(alloc, true, true)?,
-    })
-}
-
-fn check_public(rt: &impl Abort, task: &Task, first: bool, second: bool)
+/// Which of the actions are public.
+fn check_task(rt: &impl Abort, task: &Task, public: &[bool; 2])
     requires { length task.now.acts ≡ 2 }
 {
-    assert_eq!(rt; task.is_public(0), first);
-    assert_eq!(rt; task.is_public(1), second);
+    for action in 0..2 {
+        assert_eq!(rt; task.is_public(action), public[action as usize]);
+    }
 }
 
-fn check_copy(rt: &impl Abort, task: &Task) -> Result<(), OutOfMemory> {
-    let same = task.copy()?;
-    assert_eq!(rt; same.acts.len(), task.acts.len());
-    assert_eq!(rt; same.far.len(), task.far.len());
-    assert_eq!(rt; same.start_priv.as_slice(), task.start_priv.as_slice());
-    Ok(())
+fn check_part(rt: &impl Abort, part: &Far, other: Agent) {
+    assert_eq!(rt; part.by, other);
+    assert_eq!(rt; part.pre.get(0).copied(), Some(1));
 }
 
 fn check_blind(rt: &impl Abort, alloc: Global, task: &Task) -> Result<(), OutOfMemory> {
@@ -168,13 +124,12 @@ fn check_blind(rt: &impl Abort, alloc: Global, task: &Task) -> Result<(), OutOfM
 
 #[test]
 fn a_team_of_two(rt: HostRuntime) -> Result<(), Fail> {
-    let one = Agent::new(1).ok_or("agent 1")?;
-    let two = Agent::new(2).ok_or("agent 2")?;
-    let left = left(rt.alloc(), one)?;
-    let right = right(rt.alloc(), two)?;
-    check_public(&rt, &left, false, true);
-    check_public(&rt, &right, true, true);
-    check_copy(&rt, &left)?;
-    check_blind(&rt, rt.alloc(), &right)?;
+    let me = Agent::first();
+    let other = Agent::new(2).ok_or("agent 2")?;
+    let task = left(rt.alloc(), me, other)?;
+    let copy = task.copy()?;
+    check_task(&rt, &copy, &[false, true]);
+    check_part(&rt, copy.far.get(0).ok_or("a part")?, other);
+    check_blind(&rt, rt.alloc(), &copy)?;
     Ok(())
 }
