@@ -5,6 +5,7 @@ use Rattle.std.proofs.lemmas.List.Elements.{All-cons}
 use Rattle.std.proofs.lemmas.List.Kept.{AllPairs-cons}
 use Rattle.std.specs.FinSet as set
 use Rattle.std.specs.List.{Contains, AllPairs}
+use Rattle.mp_list.proofs.Members.{contains_head, contains_tail, contains_cases, contains_one}
 use Rattle.mp_runs.specs.Run.{run}
 use Rattle.mp_runs.specs.System.{IsPlanFrom, plan_cost}
 use Rattle.mp_sets.proofs.NumbersLemmas.{contains-after}
@@ -18,7 +19,7 @@ use Rattle.mp_task.specs.Plan.{TaskSolves, task_cost}
 use Rattle.mp_task.specs.Projected.{projected_state}
 use Rattle.mp_task.specs.Seen.{seen_system}
 use Rattle.mp_task.proofs.Disagreeing.{has_part, is_due, doubled_part, parts_rise}
-use Rattle.mp_task.proofs.FarLists.{parts_in, parts_of_others, others_are_exact, Contains-first, Contains-later, only_one, first_or_later}
+use Rattle.mp_task.proofs.FarLists.{parts_in, parts_of_others, others_are_exact}
 
 pub careful_solves : TaskSolves (two (lifted ∷ laid ∷ [])) careful
 unfolding run
@@ -117,8 +118,8 @@ two_agree = record {
   team = All-cons (FitsTeam team_of_two) left_one (right_one ∷ []) left_of_two (All-cons (FitsTeam team_of_two) right_one [] right_of_two (no_items (FitsTeam team_of_two)));
   alike = alike_to_first team_of_two left_one (λ t here.
       ⊎_elim (λ e. same_as left_one t left_one e (record { publics = refl; start_pub = refl; goal_pub = refl }))
-      (λ later. same_as right_one t left_one (only_one right_one t later) (record { publics = refl; start_pub = refl; goal_pub = refl }))
-      (first_or_later left_one t (right_one ∷ []) here));
+      (λ later. same_as right_one t left_one (sym (contains_one right_one t later)) (record { publics = refl; start_pub = refl; goal_pub = refl }))
+      (contains_cases left_one (right_one ∷ []) t here));
 }
 
 -- the team of three
@@ -187,8 +188,8 @@ three_agree =
           (All-cons (FitsTeam team_of_three) bell_of_three [] bell_fits_three (no_items (FitsTeam team_of_three))));
       alike = alike_to_first team_of_three left_of_three (λ t here.
           ⊎_elim (λ e. same_as left_of_three t left_of_three e same)
-          (λ later. ⊎_elim (λ e. same_as right_of_three t left_of_three e right_same) (λ last. same_as bell_of_three t left_of_three (only_one bell_of_three t last) bell_same) (first_or_later right_of_three t (bell_of_three ∷ []) later))
-          (first_or_later left_of_three t (right_of_three ∷ bell_of_three ∷ []) here));
+          (λ later. ⊎_elim (λ e. same_as right_of_three t left_of_three e right_same) (λ last. same_as bell_of_three t left_of_three (sym (contains_one bell_of_three t last)) bell_same) (contains_cases right_of_three (bell_of_three ∷ []) t later))
+          (contains_cases left_of_three (right_of_three ∷ bell_of_three ∷ []) t here));
     }
 
 -- Where the left one's parts are others, the tasks do not agree.
@@ -212,13 +213,13 @@ three_have far p agree =
 
 -- a part that is none of some
 not_one : (p q : Far) → q ≢ p → Contains (q ∷ []) p → ⊥
-not_one p q ne here = ne (only_one q p here)
+not_one p q ne here = ne (sym (contains_one q p here))
 
 not_next : (p q : Far) (ps : List Far) → q ≢ p → (Contains ps p → ⊥) → Contains (q ∷ ps) p → ⊥
-not_next p q ps ne none here = ⊎_elim ne none (first_or_later q p ps here)
+not_next p q ps ne none here = ⊎_elim ne none (contains_cases q ps p here)
 
 pub two_without_one : Agree (two (laid ∷ [])) → ⊥
-two_without_one agree = not_one lifted laid (λ e. lifted-laid (sym e)) ((two_have (laid ∷ []) lifted agree).0 (Contains-first lifted (laid ∷ [])))
+two_without_one agree = not_one lifted laid (λ e. lifted-laid (sym e)) ((two_have (laid ∷ []) lifted agree).0 (contains_head lifted (laid ∷ [])))
 
 pub two_with_one_twice : Agree (two (lifted ∷ laid ∷ laid ∷ [])) → ⊥
 two_with_one_twice = doubled_part (two (lifted ∷ laid ∷ laid ∷ [])) (left 2 (true ∷ true ∷ []) (lifted ∷ laid ∷ laid ∷ [])) (lifted ∷ []) [] [] laid (left_in_two (lifted ∷ laid ∷ laid ∷ [])) refl
@@ -226,12 +227,12 @@ two_with_one_twice = doubled_part (two (lifted ∷ laid ∷ laid ∷ [])) (left 
 pub two_with_another_agent : Agree (two (record lifted { by = 1 } ∷ laid ∷ [])) → ⊥
 two_with_another_agent agree =
     let p : Far = record lifted { by = 1 } in
-    not_next p lifted (laid ∷ []) (by_differs lifted p (λ e. omega (arith, e))) (not_one p laid (by_differs laid p (λ e. omega (arith, e)))) ((two_have (p ∷ laid ∷ []) p agree).1 (Contains-first p (laid ∷ [])))
+    not_next p lifted (laid ∷ []) (by_differs lifted p (λ e. omega (arith, e))) (not_one p laid (by_differs laid p (λ e. omega (arith, e)))) ((two_have (p ∷ laid ∷ []) p agree).1 (contains_head p (laid ∷ [])))
 
 pub three_without_one : Agree (three (lifted ∷ laid ∷ [])) → ⊥
 three_without_one agree =
     not_next rung lifted (laid ∷ []) (by_differs lifted rung (λ e. omega (arith, e))) (not_one rung laid (by_differs laid rung (λ e. omega (arith, e))))
-    ((three_have (lifted ∷ laid ∷ []) rung agree).0 (Contains-later lifted rung (laid ∷ rung ∷ []) (Contains-later laid rung (rung ∷ []) (Contains-first rung []))))
+    ((three_have (lifted ∷ laid ∷ []) rung agree).0 (contains_tail lifted (laid ∷ rung ∷ []) rung (contains_tail laid (rung ∷ []) rung (contains_head rung []))))
 
 pub three_with_one_twice : Agree (three (lifted ∷ laid ∷ lifted ∷ rung ∷ [])) → ⊥
 three_with_one_twice = doubled_part (three (lifted ∷ laid ∷ lifted ∷ rung ∷ [])) (left 3 (true ∷ true ∷ false ∷ []) (lifted ∷ laid ∷ lifted ∷ rung ∷ [])) [] (laid ∷ []) (rung ∷ []) lifted (left_in_three (lifted ∷ laid ∷ lifted ∷ rung ∷ [])) refl
@@ -241,7 +242,7 @@ three_with_another_agent agree =
     let p : Far = record laid { by = 3 } in
     not_next p lifted (laid ∷ rung ∷ []) (by_differs lifted p (λ e. omega (arith, e)))
     (not_next p laid (rung ∷ []) (by_differs laid p (λ e. omega (arith, e))) (not_one p rung (λ e. let same = ap (λ q. length q.pre) e in omega arith)))
-    ((three_have (lifted ∷ p ∷ rung ∷ []) p agree).1 (Contains-later lifted p (p ∷ rung ∷ []) (Contains-first p (rung ∷ []))))
+    ((three_have (lifted ∷ p ∷ rung ∷ []) p agree).1 (contains_tail lifted (p ∷ rung ∷ []) p (contains_head p (rung ∷ []))))
 
 -- nor where the agents do not rise, or a delete is left that is an add too
 pub three_with_agents_falling : Agree (three (rung ∷ lifted ∷ laid ∷ [])) → ⊥
@@ -252,4 +253,4 @@ three_with_an_added_delete agree =
     let p : Far = record rung { del = 0 ∷ 1 ∷ [] } in
     not_next p lifted (laid ∷ rung ∷ []) (by_differs lifted p (λ e. omega (arith, e)))
     (not_next p laid (rung ∷ []) (by_differs laid p (λ e. omega (arith, e))) (not_one p rung (λ e. let same = ap (λ q. length q.del) e in omega arith)))
-    ((three_have (lifted ∷ laid ∷ p ∷ []) p agree).1 (Contains-later lifted p (laid ∷ p ∷ []) (Contains-later laid p (p ∷ []) (Contains-first p []))))
+    ((three_have (lifted ∷ laid ∷ p ∷ []) p agree).1 (contains_tail lifted (laid ∷ p ∷ []) p (contains_tail laid (p ∷ []) p (contains_head p []))))

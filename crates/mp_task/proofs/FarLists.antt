@@ -4,26 +4,12 @@ use Rattle.std.proofs.lemmas.Bool.{cases_Bool, cond-true, cond-false, eqb-true, 
 use Rattle.std.proofs.lemmas.List.Elements.{Contains-append_left, Contains-append_right, Contains-append_cases}
 use Rattle.std.specs.List.{Contains, filter, flat_map}
 use Rattle.std.specs.Prelude.{◌↔◌}
+use Rattle.mp_list.proofs.Members.{contains_head, contains_tail, contains_cases, no_member}
 use Rattle.mp_task.specs.declared.act.Act.{Act}
 use Rattle.mp_task.specs.declared.act.Far.{Far}
 use Rattle.mp_task.specs.AgentTask.{AgentTask}
 use Rattle.mp_task.specs.Agree.{IsFarPart}
 use Rattle.mp_task.specs.Public.{is_public, part_of}
-
-none_in_nothing : {X : Type 0} (x : X) → Contains [] x → ⊥
-none_in_nothing x (k, within, is) = omega arith
-
-pub Contains-first : {X : Type 0} (x : X) (xs : List X) → Contains (x ∷ xs) x
-Contains-first x xs = (0, omega arith, refl)
-
-pub Contains-later : {X : Type 0} (y x : X) (xs : List X) → Contains xs x → Contains (y ∷ xs) x
-Contains-later y x xs here = Contains-append_right (y ∷ []) xs x here
-
-pub only_one : {X : Type 0} (y x : X) → Contains (y ∷ []) x → y ≡ x
-only_one y x (k, within, is) = let e : k ≡ 0 = omega arith in ap (λ n. get_or (y ∷ []) n x) (sym e) ∙ is
-
-pub first_or_later : {X : Type 0} (y x : X) (xs : List X) → Contains (y ∷ xs) x → (y ≡ x) ⊎ Contains xs x
-first_or_later y x xs here = ⊎_elim (λ now. inl (only_one y x now)) (λ later. inr later) (Contains-append_cases (y ∷ []) xs x here)
 
 -- the public part of a public action of an agent
 record IsPartOf (agent : ℕ) (acts : List Act) (part : Far) : Type 0 where
@@ -38,27 +24,27 @@ parts_in agent acts = map (part_of agent) (filter is_public acts)
 
 parts_sound : (agent : ℕ) (acts : List Act) (part : Far) → Contains (parts_in agent acts) part → IsPartOf agent acts part
 unfolding parts_in
-parts_sound agent [] part here = absurd (none_in_nothing part here)
+parts_sound agent [] part here = absurd (no_member part here)
 parts_sound agent (a ∷ acts) part here = by (is_public a) refl here (parts_sound agent acts part)
   where
     later : IsPartOf agent acts part → IsPartOf agent (a ∷ acts) part
-    later found = record { act = found.act; own = Contains-later a found.act acts found.own; public = found.public; is = found.is }
+    later found = record { act = found.act; own = contains_tail a acts found.act found.own; public = found.public; is = found.is }
 
     by : (b : Bool) → is_public a ≡ b → Contains (map (part_of agent) (cond b (a ∷ filter is_public acts) (filter is_public acts))) part → (Contains (map (part_of agent) (filter is_public acts)) part → IsPartOf agent acts part) → IsPartOf agent (a ∷ acts) part
     by true public here rest =
-        ⊎_elim (λ e. record { act = a; own = Contains-first a acts; public = public; is = sym e }) (λ there. later (rest there))
-        (first_or_later (part_of agent a) part (map (part_of agent) (filter is_public acts)) here)
+        ⊎_elim (λ e. record { act = a; own = contains_head a acts; public = public; is = sym e }) (λ there. later (rest there))
+        (contains_cases (part_of agent a) (map (part_of agent) (filter is_public acts)) part here)
     by false hidden here rest = later (rest here)
 
 parts_complete : (agent : ℕ) (acts : List Act) (act : Act) → Contains acts act → is_public act ≡ true → Contains (parts_in agent acts) (part_of agent act)
 unfolding parts_in
-parts_complete agent [] act here public = absurd (none_in_nothing act here)
-parts_complete agent (a ∷ acts) act here public = by (is_public a) refl (parts_complete agent acts act) (first_or_later a act acts here)
+parts_complete agent [] act here public = absurd (no_member act here)
+parts_complete agent (a ∷ acts) act here public = by (is_public a) refl (parts_complete agent acts act) (contains_cases a acts act here)
   where
     by : (b : Bool) → is_public a ≡ b → (Contains acts act → is_public act ≡ true → Contains (map (part_of agent) (filter is_public acts)) (part_of agent act)) → (a ≡ act) ⊎ Contains acts act → Contains (map (part_of agent) (cond b (a ∷ filter is_public acts) (filter is_public acts))) (part_of agent act)
     by true shown rest (inl e) =
-        subst (Contains (part_of agent a ∷ map (part_of agent) (filter is_public acts))) (ap (part_of agent) e) (Contains-first (part_of agent a) _)
-    by true shown rest (inr there) = Contains-later (part_of agent a) _ _ (rest there public)
+        subst (Contains (part_of agent a ∷ map (part_of agent) (filter is_public acts))) (ap (part_of agent) e) (contains_head (part_of agent a) _)
+    by true shown rest (inr there) = contains_tail (part_of agent a) _ _ (rest there public)
     by false hidden rest (inl e) = absurd (false≢true (sym hidden ∙ ap is_public e ∙ public))
     by false hidden rest (inr there) = rest there public
 
@@ -69,7 +55,7 @@ parts_of_others me tasks = flat_map (λ u. cond (eqb u.me me) [] (parts_in u.me 
 later_agent : (me : ℕ) (u : AgentTask) (tasks : List AgentTask) (part : Far) → IsFarPart tasks me part → IsFarPart (u ∷ tasks) me part
 later_agent me u tasks part found = record {
   other = found.other;
-  in_team = Contains-later u found.other tasks found.in_team;
+  in_team = contains_tail u tasks found.other found.in_team;
   another = found.another;
   act = found.act;
   own = found.own;
@@ -79,18 +65,18 @@ later_agent me u tasks part found = record {
 
 others_sound : (me : ℕ) (tasks : List AgentTask) (part : Far) → Contains (parts_of_others me tasks) part → IsFarPart tasks me part
 unfolding parts_of_others
-others_sound me [] part here = absurd (none_in_nothing part here)
+others_sound me [] part here = absurd (no_member part here)
 others_sound me (u ∷ tasks) part here =
     ⊎_elim (λ now. by (eqb u.me me) refl now) (λ later. later_agent me u tasks part (others_sound me tasks part later))
     (Contains-append_cases (cond (eqb u.me me) [] (parts_in u.me u.acts)) _ part here)
   where
     by : (b : Bool) → eqb u.me me ≡ b → Contains (cond b [] (parts_in u.me u.acts)) part → IsFarPart (u ∷ tasks) me part
-    by true mine now = absurd (none_in_nothing part now)
+    by true mine now = absurd (no_member part now)
     by false other now =
         let found = parts_sound u.me u.acts part now in
         record {
           other = u;
-          in_team = Contains-first u tasks;
+          in_team = contains_head u tasks;
           another = eqb-false u.me me other;
           act = found.act;
           own = found.own;
@@ -100,11 +86,11 @@ others_sound me (u ∷ tasks) part here =
 
 others_complete : (me : ℕ) (tasks : List AgentTask) (u : AgentTask) (act : Act) → Contains tasks u → u.me ≢ me → Contains u.acts act → is_public act ≡ true → Contains (parts_of_others me tasks) (part_of u.me act)
 unfolding parts_of_others
-others_complete me [] u act here other own public = absurd (none_in_nothing u here)
+others_complete me [] u act here other own public = absurd (no_member u here)
 others_complete me (v ∷ tasks) u act here other own public =
     let rest = others_complete me tasks u act in
     ⊎_elim (λ e. Contains-append_left (cond (eqb v.me me) [] (parts_in v.me v.acts)) _ _ (now e)) (λ later. Contains-append_right (cond (eqb v.me me) [] (parts_in v.me v.acts)) _ _ (rest later other own public))
-    (first_or_later v u tasks here)
+    (contains_cases v tasks u here)
   where
     now : v ≡ u → Contains (cond (eqb v.me me) [] (parts_in v.me v.acts)) (part_of u.me act)
     now e =

@@ -1,5 +1,6 @@
 -- The projected state against the two sets that it is made of.
 use Rattle.std.proofs.Common.{◌≡◌, ℕ, suc, ◌+◌, ◌-◌, ◌<◌, ◌≤◌, Bool, true, false, cond, not, ◌&&◌, ◌||◌, ltb, eqb, List, [], ◌∷◌, map, All, refl, sym, ap, ◌∙◌, ⊎_elim, arith}
+use Rattle.std.proofs.Math.Bool.{or-false}
 use Rattle.std.proofs.lemmas.Bool.{lt-ltb, le-ltb, ne_eqb, cases_lt}
 use Rattle.std.proofs.lemmas.Bool.Decides.{nat_tests}
 use Rattle.std.proofs.lemmas.List.Folds.{list_all-append, list_any-append, list_all-map, list_any_none}
@@ -22,20 +23,6 @@ list_any-same p q (x ∷ xs) same = λ i. same x i || list_any-same p q xs same 
 list_any-map : (p : ℕ → Bool) (h : ℕ → ℕ) (xs : List ℕ) → list_any p (map h xs) ≡ list_any (λ x. p (h x)) xs
 list_any-map p h [] = refl
 list_any-map p h (x ∷ xs) = ap (λ b. p (h x) || b) (list_any-map p h xs)
-
-list_any-filter : (f : ℕ → Bool) (x : ℕ) (xs : List ℕ) → list_any (λ y. eqb y x) (filter f xs) ≡ (list_any (λ y. eqb y x) xs && f x)
-list_any-filter f x [] = refl
-list_any-filter f x (y ∷ ys) =
-    elim (f y) as (λ b. f y ≡ b → list_any (λ z. eqb z x) (cond b (y ∷ filter f ys) (filter f ys)) ≡ ((eqb y x || list_any (λ z. eqb z x) ys) && f x)) [
-      | true ↦ λ e. ap (λ b. eqb y x || b) (list_any-filter f x ys) ∙ kept y x f (list_any (λ z. eqb z x) ys) e
-      | false ↦ λ e. list_any-filter f x ys ∙ left_out y x f (list_any (λ z. eqb z x) ys) e
-    ] refl
-  where
-    kept : (y x : ℕ) (f : ℕ → Bool) (b : Bool) → f y ≡ true → (eqb y x || (b && f x)) ≡ ((eqb y x || b) && f x)
-    kept y x f b e = grind (arith, nat_tests)
-
-    left_out : (y x : ℕ) (f : ℕ → Bool) (b : Bool) → f y ≡ false → (b && f x) ≡ ((eqb y x || b) && f x)
-    left_out y x f b e = grind (arith, nat_tests)
 
 module _ (t : AgentTask) (p q : Numbers) where
   abbrev state : Numbers
@@ -72,11 +59,7 @@ public_among publics x xs ys h =
     list_any-append (λ y. eqb y x) xs (map (λ k. publics + k) ys)
     ∙ ap (λ b. list_any (λ y. eqb y x) xs || b)
     (list_any-map (λ y. eqb y x) (λ k. publics + k) ys ∙ list_any_none (λ k. eqb (publics + k) x) ys (λ k d lt. ne_eqb _ x (λ e. omega arith)))
-    ∙ or_false (list_any (λ y. eqb y x) xs)
-  where
-    or_false : (b : Bool) → (b || false) ≡ b
-    or_false true = refl
-    or_false false = refl
+    ∙ or-false (list_any (λ y. eqb y x) xs)
 
 private_among : (publics x : ℕ) (xs ys : List ℕ) → publics ≤ x → All (λ y. y < publics) xs → list_any (λ y. eqb y x) (facts_of publics xs ys) ≡ list_any (λ k. eqb k (x - publics)) ys
 private_among publics x xs ys h below =
@@ -111,18 +94,3 @@ projected_state-after t p q dp ap_ dq aq dels adds own =
         inner true c d a h = refl
         inner false c d true h = h refl
         inner false c d false h = refl
-
--- deletes that are adds too may be left out
-pub after-without_adds : (s : Numbers) (del add : List ℕ) → after s (filter (λ x. not (list_any (λ y. eqb y x) add)) del) add ≡ after s del add
-after-without_adds s del add =
-    same_numbers _ _ (λ x.
-    contains-after s _ add x
-    ∙ ap (λ b. (set.contains s x && not b) || list_any (λ y. eqb y x) add) (list_any-filter (λ z. not (list_any (λ y. eqb y z) add)) x del)
-    ∙ same (set.contains s x) (list_any (λ y. eqb y x) del) (list_any (λ y. eqb y x) add)
-    ∙ sym (contains-after s del add x))
-  where
-    same : (c d a : Bool) → ((c && not (d && not a)) || a) ≡ ((c && not d) || a)
-    same true true true = refl
-    same true true false = refl
-    same true false a = refl
-    same false d a = refl

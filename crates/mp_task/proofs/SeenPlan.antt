@@ -17,7 +17,7 @@ use Rattle.mp_runs.proofs.Costs.{plan_cost-one, smaller_costs}
 use Rattle.mp_runs.proofs.Runs.{run-none, run-one}
 use Rattle.mp_runs.proofs.Simulations.{IsAnsweringPlan, simulated_plan}
 use Rattle.mp_sets.specs.Numbers.{Numbers, holds, after}
-use Rattle.mp_sets.proofs.NumbersLemmas.{after-none}
+use Rattle.mp_sets.proofs.NumbersLemmas.{after-none, after-without_adds}
 use Rattle.mp_task.specs.declared.act.Act.{Act}
 use Rattle.mp_task.specs.declared.act.Far.{Far}
 use Rattle.mp_task.specs.AgentTask.{AgentTask}
@@ -31,7 +31,7 @@ use Rattle.mp_task.specs.Seen.{seen_system, seen_state, IsSeenAs}
 use Rattle.mp_task.specs.Seen.IsSeenAs.{as_it_is, as_part, as_nothing}
 use Rattle.mp_task.specs.Strips.{Operator, Problem, after_operator, strips_system}
 use Rattle.mp_task.proofs.Agreeing.{Contains-slice_get, IsStepOf, number_at, step_parts}
-use Rattle.mp_task.proofs.ProjectedState.{holds-projected_state, projected_state-after, after-without_adds}
+use Rattle.mp_task.proofs.ProjectedState.{holds-projected_state, projected_state-after}
 
 -- operators of the projected problem by their numbers
 own_at : (t : AgentTask) (k : ℕ) (act : Act) → slice_get t.acts k ≡ Some act → slice_get (projected t).operators k ≡ Some (own_operator t.publics act)
