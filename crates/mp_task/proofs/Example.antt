@@ -1,6 +1,6 @@
 -- The worked teams: which plans solve and what they cost, that the tasks agree, and that they no longer do where a part
 -- is missing, doubled, or names another agent.
-use Rattle.std.proofs.Common.{◌≡◌, ◌≢◌, ℕ, zero, suc, ◌<◌, ◌≤◌, true, false, List, [], ◌∷◌, length, get_or, All, refl, sym, ap, ◌∙◌, ⊎_elim, arith}
+use Rattle.std.proofs.Common.{◌≡◌, ◌≢◌, ◌≤◌, true, false, List, [], ◌∷◌, length, All, refl, sym, ap, ◌∙◌, ⊎_elim, arith}
 use Rattle.std.proofs.lemmas.List.Elements.{All-cons}
 use Rattle.std.proofs.lemmas.List.Kept.{AllPairs-cons}
 use Rattle.std.specs.FinSet as set
@@ -12,8 +12,8 @@ use Rattle.mp_sets.proofs.NumbersLemmas.{contains-after}
 use Rattle.mp_sets.proofs.SetLemmas.{contains-numbers_below}
 use Rattle.mp_task.specs.declared.act.Far.{Far}
 use Rattle.mp_task.specs.AgentTask.{AgentTask}
-use Rattle.mp_task.specs.Agree.{Agree, FitsTeam, IsFarList, SayAlike}
-use Rattle.mp_task.specs.Examples.{lift, lay, dropped, lifted, laid, rung, left, right, bell, two, three, careful, hasty}
+use Rattle.mp_task.specs.Agree.{Agree, FitsTeam, SayAlike}
+use Rattle.mp_task.specs.Examples.{dropped, lifted, laid, rung, left, right, bell, two, three, careful, hasty}
 use Rattle.mp_task.specs.Met.{met_at_start}
 use Rattle.mp_task.specs.Plan.{TaskSolves, task_cost}
 use Rattle.mp_task.specs.Projected.{projected_state}

@@ -1,11 +1,10 @@
 -- Joint states: the start is one, steps lead to others, and what one agent sees of the start.
-use Rattle.std.proofs.Common.{◌≡◌, ℕ, suc, ◌-◌, ◌<◌, cond, List, length, map, get_or, Option, Some, None, sym, ap, ◌∙◌, subst, arith}
+use Rattle.std.proofs.Common.{◌≡◌, ◌-◌, cond, List, map, get_or, Some, None, ap, ◌∙◌, subst, arith}
 use Rattle.std.proofs.lemmas.List.{get_or-map, length-map, length-set}
 use Rattle.std.proofs.lemmas.Option.{cond_some, option_and_then_some}
 use Rattle.std.specs.FinSet as set
 use Rattle.std.specs.List.{Contains}
 use Rattle.mp_sets.specs.Numbers.{Numbers}
-use Rattle.mp_task.specs.declared.act.Act.{Act}
 use Rattle.mp_task.specs.AgentTask.{AgentTask}
 use Rattle.mp_task.specs.Agree.{Agree}
 use Rattle.mp_task.specs.Plan.{JointState, IsJointState, TaskStep, act_of, applies, after_act, after_step, private_of, joint_start}

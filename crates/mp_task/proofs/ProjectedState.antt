@@ -4,7 +4,7 @@ use Rattle.std.proofs.Math.Bool.{or-false}
 use Rattle.std.proofs.lemmas.Bool.{lt-ltb, le-ltb, ne_eqb, cases_lt}
 use Rattle.std.proofs.lemmas.Bool.Decides.{nat_tests}
 use Rattle.std.proofs.lemmas.List.Folds.{list_all-append, list_any-append, list_all-map, list_any_none}
-use Rattle.std.specs.List.{filter, list_all, list_any}
+use Rattle.std.specs.List.{list_all, list_any}
 use Rattle.std.specs.FinSet as set
 use Rattle.mp_sets.specs.Numbers.{Numbers, holds, after}
 use Rattle.mp_sets.proofs.SetLemmas.{contains-numbers_below, contains_at, same_numbers}

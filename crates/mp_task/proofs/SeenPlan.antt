@@ -1,9 +1,9 @@
 -- A plan of the team is, seen by one agent, a plan of its projected problem that costs no more: its own actions stay,
 -- of the others' public actions the public parts stay, and their private actions go.
-use Rattle.std.proofs.Common.{◌≡◌, ◌≢◌, ℕ, suc, ◌+◌, ◌-◌, ◌<◌, ◌≤◌, Bool, true, false, cond, not, ◌&&◌, List, [], ◌∷◌, ◌++◌, append-nil, length, map, get_or, All, Option, Some, None, refl, sym, ap, ◌∙◌, subst, ⊎_elim, zero-le, arith}
+use Rattle.std.proofs.Common.{◌≡◌, ◌≢◌, ℕ, ◌+◌, ◌-◌, ◌<◌, ◌≤◌, true, false, cond, not, ◌&&◌, List, [], ◌∷◌, ◌++◌, append-nil, length, map, get_or, All, Some, None, refl, sym, ap, ◌∙◌, subst, ⊎_elim, zero-le, arith}
 use Rattle.std.proofs.Math.Bool.{and-true}
 use Rattle.std.proofs.Math.ListN.{set as set_at}
-use Rattle.std.proofs.lemmas.Bool.{and_parts, and_from, cases_Bool, cases_eq, eqb-true, not-false}
+use Rattle.std.proofs.lemmas.Bool.{and_parts, cases_Bool, cases_eq, eqb-true, not-false}
 use Rattle.std.proofs.lemmas.List.{get_or_append_left, get_or-append-add, get_or_default, get_or-map, get_or-set_same, get_or-set_other, length-append, length-map, length-set, nil_from_length}
 use Rattle.std.proofs.lemmas.List.Elements.{All-contains}
 use Rattle.std.proofs.lemmas.List.Sums.{AllPass-from_list_all}
@@ -11,8 +11,7 @@ use Rattle.std.proofs.lemmas.Option.{cond_some, option_and_then_some, slice_get-
 use Rattle.std.specs.FinSet as set
 use Rattle.std.specs.List.{Contains, slice_get}
 use Rattle.std.specs.Option.{option_and_then, option_map_or}
-use Rattle.mp_runs.specs.Simulation.{StandsForAll, IsAnswer, HasAnswer, Simulates}
-use Rattle.mp_runs.specs.System.{System, state_after, IsPlanFrom, plan_cost}
+use Rattle.mp_runs.specs.Simulation.{StandsForAll, HasAnswer, Simulates}
 use Rattle.mp_runs.proofs.Costs.{plan_cost-one, smaller_costs}
 use Rattle.mp_runs.proofs.Runs.{run-none, run-one}
 use Rattle.mp_runs.proofs.Simulations.{IsAnsweringPlan, simulated_plan}
@@ -26,10 +25,10 @@ use Rattle.mp_task.specs.Limits.{ActFits, IsWithinLimits}
 use Rattle.mp_task.specs.Met.{is_met}
 use Rattle.mp_task.specs.Plan.{JointState, IsJointState, TaskStep, SolvesFrom, act_of, private_of, applies, after_act, after_step, step_cost, goals_hold, team_system, task_cost}
 use Rattle.mp_task.specs.Projected.{own_operator, far_operator, projected, projected_state}
-use Rattle.mp_task.specs.Public.{is_public, is_private, part_of}
+use Rattle.mp_task.specs.Public.{is_public, part_of}
 use Rattle.mp_task.specs.Seen.{seen_system, seen_state, IsSeenAs}
 use Rattle.mp_task.specs.Seen.IsSeenAs.{as_it_is, as_part, as_nothing}
-use Rattle.mp_task.specs.Strips.{Operator, Problem, after_operator, strips_system}
+use Rattle.mp_task.specs.Strips.{Operator, after_operator}
 use Rattle.mp_task.proofs.Agreeing.{Contains-slice_get, IsStepOf, number_at, step_parts}
 use Rattle.mp_task.proofs.ProjectedState.{holds-projected_state, projected_state-after}
 
@@ -59,14 +58,16 @@ by_operator : (t : AgentTask) (Represents : Numbers → JointState → Type 0) (
 by_operator t Represents StandFor s reached k o stand here may represents =
     let p = seen_state t s in
     let taken : (seen_system t).after p k ≡ Some (after p o.del o.add) = ap (option_and_then (after_operator p)) here ∙ ap (λ b. cond b (Some (after p o.del o.add)) None) may in
-    let cost : (seen_system t).cost k ≡ o.cost = ap (λ m. option_map_or (λ (w : Operator). w.cost) m 0) here in
-    (k ∷ [], record {
-      stand = stand;
-      end = after p o.del o.add;
-      runs = run-one (seen_system t).after p k ∙ taken;
-      represents = represents;
-      fits = omega (arith, cost, plan_cost-one (seen_system t) k);
-    })
+    let cost : (seen_system t).cost k ≡ o.cost = ap (λ m. option_map_or (λ (w : Operator). w.cost) m 0) here in (
+      k ∷ [],
+      record {
+        stand = stand;
+        end = after p o.del o.add;
+        runs = run-one (seen_system t).after p k ∙ taken;
+        represents = represents;
+        fits = omega (arith, cost, plan_cost-one (seen_system t) k);
+      },
+    )
 
 no_numbers : (n : ℕ) → All (λ k. k < n) []
 no_numbers n = λ k d h. absurd (omega arith)
@@ -117,11 +118,10 @@ module _ (tasks : List AgentTask) (agree : Agree tasks) (limits : All IsWithinLi
       by_operator t Sees (IsSeenAs tasks t step) s (after_act s step.agent act) step.action (own_operator t.publics act)
       (as_it_is mine refl)
       (own_at t step.action act own_act)
-      (holds-projected_state t s.publics q act.pre_pub act.pre_priv fits.pre_pub fits.pre_priv ∙ ap (λ a. applies act s.publics (private_of s a)) (sym mine) ∙ may)
-      (
+      (holds-projected_state t s.publics q act.pre_pub act.pre_priv fits.pre_pub fits.pre_priv ∙ ap (λ a. applies act s.publics (private_of s a)) (sym mine) ∙ may) (
         length-set s.privates (step.agent - 1) _ ∙ joint,
         sym (projected_state-after t s.publics q act.del_pub act.add_pub act.del_priv act.add_priv fits.del_pub fits.add_pub fits.add_priv)
-        ∙ ap (projected_state t (after s.publics act.del_pub act.add_pub)) (sym moved),
+            ∙ ap (projected_state t (after s.publics act.del_pub act.add_pub)) (sym moved),
       )
 
   -- an action of another agent leaves this agent's private facts
@@ -168,8 +168,7 @@ module _ (tasks : List AgentTask) (agree : Agree tasks) (limits : All IsWithinLi
       (ap (holds seen) (sym (append-nil act.pre_pub))
       ∙ holds-projected_state t s.publics q act.pre_pub [] fits.pre_pub (no_numbers t.privates)
       ∙ and-true (holds s.publics act.pre_pub)
-      ∙ (and_parts _ _ may).0)
-      (
+      ∙ (and_parts _ _ may).0) (
         length-set s.privates (step.agent - 1) _ ∙ joint,
         after-without_adds seen act.del_pub act.add_pub ∙ sym (moved_by_part s step act fits other of),
       )
@@ -184,17 +183,19 @@ module _ (tasks : List AgentTask) (agree : Agree tasks) (limits : All IsWithinLi
   hidden_step : (s : JointState) (step : TaskStep) (act : Act) → IsJointState tasks s → step.agent ≢ t.me → act_of tasks step ≡ Some act → IsStepOf tasks step act → is_public act ≡ false → Answered s (after_act s step.agent act) step act.cost
   hidden_step s step act joint other is of hidden =
       let none = private_act act hidden in
-      let same : after s.publics act.del_pub act.add_pub ≡ s.publics = (λ i. after s.publics (none.del i) (none.add i)) ∙ after-none s.publics in
-      ([], record {
-        stand = as_nothing act other is (ap not hidden) refl;
-        end = seen_state t s;
-        runs = run-none (seen_system t).after (seen_state t s);
-        represents = (
-          length-set s.privates (step.agent - 1) _ ∙ joint,
-          sym ((λ i. projected_state t (same i) (private_stays s step act other of i))),
-        );
-        fits = zero-le;
-      })
+      let same : after s.publics act.del_pub act.add_pub ≡ s.publics = (λ i. after s.publics (none.del i) (none.add i)) ∙ after-none s.publics in (
+        [],
+        record {
+          stand = as_nothing act other is (ap not hidden) refl;
+          end = seen_state t s;
+          runs = run-none (seen_system t).after (seen_state t s);
+          represents = (
+            length-set s.privates (step.agent - 1) _ ∙ joint,
+            sym ((λ i. projected_state t (same i) (private_stays s step act other of i))),
+          );
+          fits = zero-le;
+        },
+      )
 
   by_act : (s : JointState) (step : TaskStep) (act : Act) → IsJointState tasks s → act_of tasks step ≡ Some act → applies act s.publics (private_of s step.agent) ≡ true → Answered s (after_act s step.agent act) step act.cost
   by_act s step act joint is may =

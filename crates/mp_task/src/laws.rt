@@ -8,8 +8,16 @@ ghost use Rattle.mp_runs.specs.System.{IsPlanFrom, plan_cost};
 ghost use Rattle.mp_task.specs.AgentTask.{AgentTask};
 ghost use Rattle.mp_task.specs.Agree.{Agree};
 ghost use Rattle.mp_task.specs.Limits.{IsWithinLimits};
-ghost use Rattle.mp_task.specs.Plan.{JointState, IsJointState, TaskStep, SolvesFrom, after_step, joint_start,
-    private_of, task_cost};
+ghost use Rattle.mp_task.specs.Plan.{
+  JointState,
+  IsJointState,
+  TaskStep,
+  SolvesFrom,
+  after_step,
+  joint_start,
+  private_of,
+  task_cost,
+};
 ghost use Rattle.mp_task.specs.Projected.{projected_state};
 ghost use Rattle.mp_task.specs.Seen.{seen_system, seen_state, IsSeenAs};
 
@@ -23,7 +31,7 @@ pub fn steps_lead_to_joint_states()
         → IsJointState tasks s → after_step tasks s step ≡ Some reached → IsJointState tasks reached }
     ensures seen { (tasks : List AgentTask) (t : AgentTask) → Agree tasks → Contains tasks t
         → seen_state t (joint_start tasks)
-            ≡ projected_state t (set.from_list t.start_pub) (set.from_list t.start_priv) }
+        ≡ projected_state t (set.from_list t.start_pub) (set.from_list t.start_priv) }
 {}
 
 /// A plan that solves from a joint state is, seen by one agent, a plan of its projected problem from the state that it
@@ -33,8 +41,8 @@ pub fn plans_are_seen_as_plans()
         → Agree tasks → All IsWithinLimits tasks → Contains tasks t → IsJointState tasks s
         → SolvesFrom tasks s plan
         → (seen : List ℕ) × StandsForAll (IsSeenAs tasks t) plan seen
-            × IsPlanFrom (seen_system t) (seen_state t s) seen
-            × (plan_cost (seen_system t) seen ≤ task_cost tasks plan) }
+        × IsPlanFrom (seen_system t) (seen_state t s) seen
+        × (plan_cost (seen_system t) seen ≤ task_cost tasks plan) }
 {}
 
 /// Of each heuristic: its value of the state that an agent sees of a joint state is below 2^50, is not none where a

@@ -16,8 +16,8 @@ pub type TaskList = List<Task>;
 
 /// What one agent knows of the united problem, without names: its own facts and actions by numbers, and the
 /// public parts of the others' actions. It keeps to the limits of the program: at most 16 agents, 1,048,560
-/// public and 65,535 private facts, 200,000 own actions and 3,000,000 parts, each of a cost of at most
-/// 16,000,000.
+/// public and 65,535 private facts, 200,000 own actions and 3,000,000 parts of agents of the team, each of a cost
+/// of at most 16,000,000.
 #[derive(Drop)]
 pub struct Task {
     /// The agent whose task it is.
