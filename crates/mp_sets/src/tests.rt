@@ -1,11 +1,12 @@
-//! Sets of several sizes against plain lists.
+//! Sets of several sizes against plain lists, and sets as keys of maps.
 
-ghost use Rattle.std.specs.Prelude.{◌≡◌, ◌<◌, All, IfOk};
+ghost use Rattle.std.specs.Prelude.{◌≡◌, ◌≢◌, ◌<◌, All, IfOk, Some, None};
 
 use crate::{Agent, Bits, FactList, Tag, Tags};
 use mp_list::{Copied, OutOfMemory};
 use std::alloc::Global;
-use std::process::Abort;
+use std::cmp::Ordering;
+use std::collections::{BTreeMap, HashMap};
 use std::test::Fail;
 
 /// The numbers below a size that a step divides.
@@ -22,59 +23,169 @@ fn multiples(alloc: Global, size: u32, step: u32) -> Result<FactList, OutOfMemor
     Ok(list)
 }
 
-fn set_of(alloc: Global, size: u32, list: &FactList) -> Result<Bits, OutOfMemory>
-    requires { All (λ x. x < size) list.now }
-    ensures { IfOk result (λ made. made.size ≡ size) }
-{
-    let mut set = Bits::new(alloc, size)?;
-    set.apply(&FactList::new(alloc), list);
-    Ok(set)
+/// Whether a number is in a third list, or in the first and not in the second.
+fn is_after(x: u32, list: &[u32], del: &[u32], add: &[u32]) -> bool {
+    add.contains(&x) || (list.contains(&x) && !del.contains(&x))
 }
 
-fn check_size(rt: &impl Abort, alloc: Global, size: u32, sevens: usize) -> Result<(), OutOfMemory> {
-    let list = multiples(alloc, size, 7)?;
-    let mut set = set_of(alloc, size, &list)?;
-    let half = set_of(alloc, size, &multiples(alloc, size, 14)?)?;
-    assert_eq!(rt; list.len(), sevens, "size {size}");
-    assert_eq!(rt; set.list()?.as_slice(), list.as_slice(), "size {size}");
-    assert!(rt; set.holds(&list), "size {size}");
-    assert!(rt; half.is_subset(&set), "size {size}");
-    assert_eq!(rt; set.is_subset(&half), size <= 7, "size {size}");
-    assert_eq!(rt; set.equal(&half), size <= 7, "size {size}");
-    assert!(rt; set.equal(&set.copy()?), "size {size}");
-    let threes = multiples(alloc, size, 3)?;
-    set.apply(&multiples(alloc, size, 14)?, &threes);
+fn plain_after(
+    alloc: Global,
+    size: u32,
+    list: &[u32],
+    del: &[u32],
+    add: &[u32],
+) -> Result<FactList, OutOfMemory> {
+    let mut after = FactList::new(alloc);
     for x in 0..size {
-        assert_eq!(rt; set.contains(x), x % 3 == 0 || x % 14 == 7, "{x} of {size}");
+        if is_after(x, list, del, add) {
+            after.push(x)?;
+        }
     }
-    assert_eq!(rt; set.holds(&list), size <= 14, "size {size}");
-    Ok(())
+    Ok(after)
 }
 
-fn check_ends(rt: &impl Abort, alloc: Global, size: u32) -> Result<(), OutOfMemory>
-    requires { 0 < size }
+fn plain_subset(list: &[u32], other: &[u32]) -> bool {
+    for x in list {
+        if !other.contains(x) {
+            return false;
+        }
+    }
+    true
+}
+
+fn plain_least(list: &[u32], from: u32) -> Option<u32> {
+    for x in list {
+        if *x >= from {
+            return Some(*x);
+        }
+    }
+    None
+}
+
+/// Compares two lists from their last numbers on, as the binary numbers with these ones are compared.
+fn plain_cmp(list: &[u32], other: &[u32]) -> Ordering {
+    list.iter().rev().cmp(other.iter().rev())
+}
+
+/// Whether what is asked of two sets is what their lists answer.
+fn tests_agree(a: &Bits, b: &Bits, list: &FactList, other: &FactList) -> bool
+    requires size { a.now.size ≡ b.now.size }
+    requires below { All (λ x. x < a.now.size) other.now }
 {
-    let last = size - 1;
-    let mut set = Bits::new(alloc, size)?;
-    set.insert(last);
-    set.insert(0);
-    assert_eq!(rt; set.contains(0), true, "size {size}");
-    assert_eq!(rt; set.contains(last), true, "size {size}");
-    set.remove(0);
-    assert_eq!(rt; set.contains(last), size > 1, "size {size}");
-    assert_eq!(rt; set.list()?.len() == 1, size > 1, "size {size}");
-    Ok(())
+    let (xs, ys) = (list.as_slice(), other.as_slice());
+    let same = xs == ys;
+    a.holds(other) == plain_subset(ys, xs)
+        && a.is_subset(b) == plain_subset(xs, ys)
+        && a.equal(b) == same
+        && (a == b) == same
+        && a.cmp(b) == plain_cmp(xs, ys)
+}
+
+/// Whether the least member from each number on is that of the list.
+fn members_agree(set: &Bits, list: &FactList) -> bool {
+    for from in 0..set.size() {
+        if set.least_from(from) != plain_least(list.as_slice(), from) {
+            return false;
+        }
+    }
+    set.least_from(set.size()).is_none()
+}
+
+/// Whether a set is that of a list, and stays so in copies.
+fn copies_agree(alloc: Global, set: &Bits, list: &FactList) -> Result<bool, OutOfMemory> {
+    let mut copy = Bits::new(alloc, set.size())?;
+    copy.copy_from(set);
+    let copied = copy.list()?;
+    Ok(set.list()? == *list && copied == *list && set.copy()? == copy)
+}
+
+/// Whether deletes and adds leave what they leave of the list.
+fn apply_agrees(
+    alloc: Global,
+    set: &Bits,
+    list: &FactList,
+    del: &FactList,
+    add: &FactList,
+) -> Result<bool, OutOfMemory>
+    requires del { All (λ x. x < set.now.size) del.now }
+    requires add { All (λ x. x < set.now.size) add.now }
+{
+    let mut after = set.copy()?;
+    after.apply(del, add);
+    let (list, del, add) = (list.as_slice(), del.as_slice(), add.as_slice());
+    let expected = plain_after(alloc, set.size(), list, del, add)?;
+    Ok(after.list()? == expected)
+}
+
+/// Whether all calls agree with plain lists: at the multiples of two numbers below a size, and of 3 as adds.
+fn all_agree(alloc: Global, size: u32, step: u32, other_step: u32) -> Result<bool, OutOfMemory>
+    requires { (0 < step) × (0 < other_step) }
+{
+    let list = multiples(alloc, size, step)?;
+    let other = multiples(alloc, size, other_step)?;
+    let a = Bits::from_list(alloc, size, &list)?;
+    let b = Bits::from_list(alloc, size, &other)?;
+    Ok(
+        tests_agree(&a, &b, &list, &other)
+            && members_agree(&a, &list)
+            && copies_agree(alloc, &a, &list)?
+            && apply_agrees(alloc, &a, &list, &other, &multiples(alloc, size, 3)?)?,
+    )
 }
 
 #[test]
 fn sets_are_their_lists(rt: HostRuntime) -> Result<(), Fail> {
-    let table = [(0, 0), (1, 1), (63, 9), (64, 10), (65, 10), (1000, 143)];
-    for (size, sevens) in table {
-        check_size(&rt, rt.alloc(), size, sevens)?;
-        if size > 0 {
-            check_ends(&rt, rt.alloc(), size)?;
+    let sizes = [0, 1, 63, 64, 65, 511, 512, 513, 1000];
+    let steps = [(7, 14), (14, 7), (7, 7), (64, 1), (1000, 63)];
+    for size in sizes {
+        for (step, other) in steps {
+            let agree = all_agree(rt.alloc(), size, step, other)?;
+            assert!(rt; agree, "size {size}, multiples of {step} and {other}");
         }
     }
+    Ok(())
+}
+
+/// What a map finds by an equal set where a number was kept at a set.
+fn found_by_equal(
+    alloc: Global,
+    key: Bits,
+    equal: &Bits,
+    number: u64,
+) -> Result<(Option<u64>, Option<u64>), OutOfMemory>
+    requires { key ≡ equal.now }
+    ensures { IfOk result (λ found. found ≡ (Some number, Some number)) }
+{
+    let mut hashed: HashMap<Bits, u64> = HashMap::new(alloc);
+    let mut ordered: BTreeMap<Bits, u64> = BTreeMap::new(alloc);
+    ordered.insert(key.copy()?, number)?;
+    hashed.insert(key, number)?;
+    Ok((hashed.get(equal).copied(), ordered.get(equal).copied()))
+}
+
+/// What a map finds by another set.
+fn found_by_other(
+    alloc: Global,
+    key: Bits,
+    other: &Bits,
+) -> Result<(Option<u64>, Option<u64>), OutOfMemory>
+    requires { key ≢ other.now }
+    ensures { IfOk result (λ found. found ≡ (None, None)) }
+{
+    let mut hashed: HashMap<Bits, u64> = HashMap::new(alloc);
+    let mut ordered: BTreeMap<Bits, u64> = BTreeMap::new(alloc);
+    ordered.insert(key.copy()?, 1)?;
+    hashed.insert(key, 1)?;
+    Ok((hashed.get(other).copied(), ordered.get(other).copied()))
+}
+
+#[test]
+fn sets_as_keys(rt: HostRuntime) -> Result<(), Fail> {
+    let alloc = rt.alloc();
+    let mut key = Bits::new(alloc, 65)?;
+    key.insert(64);
+    let equal = key.copy()?;
+    assert_eq!(rt; found_by_equal(alloc, key, &equal, 5)?, (Some(5), Some(5)));
     Ok(())
 }
 
@@ -83,18 +194,20 @@ fn agents_and_tags(rt: HostRuntime) -> Result<(), Fail> {
     for (number, valid) in [(0, false), (1, true), (16, true), (17, false)] {
         assert_eq!(rt; Agent::new(number).is_some(), valid, "agent {number}");
     }
-    let mut tags = Tags::new(rt.alloc());
-    tags.push(Tag {
-        token: 4,
-        met: true,
-    })?;
-    assert_eq!(rt;
-        tags.copy()?.as_slice(),
-        [Tag {
+    let (met, unmet) = (
+        Tag {
             token: 4,
-            met: true
-        }]
-        .as_slice()
+            met: true,
+        },
+        Tag {
+            token: 4,
+            met: false,
+        },
     );
+    let mut tags = Tags::new(rt.alloc());
+    tags.push(met)?;
+    let copy = tags.copy()?;
+    tags.push(unmet)?;
+    assert!(rt; unmet < met && copy < tags && copy.as_slice() == [met].as_slice());
     Ok(())
 }
