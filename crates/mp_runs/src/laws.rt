@@ -10,7 +10,8 @@ ghost use Rattle.mp_runs.specs.System.{System, IsPlanFrom, plan_cost};
 /// list is legal.
 pub fn runs_of_appended_lists<S, E>()
     ensures appended { (step : S → E → Option S) (s : S) (before events : List E)
-        → run step s (before ++ events) ≡ option_and_then (λ t. run step t events) (run step s before) }
+        → run step s (before ++ events)
+        ≡ option_and_then (λ t. run step t events) (run step s before) }
     ensures front { (step : S → E → Option S) (s : S) (before events : List E)
         → IsLegal step s (before ++ events) → IsLegal step s before }
 {}
@@ -39,13 +40,17 @@ pub fn costs_of_appended_plans<S, A>()
 /// from which that one starts: the actions that stand for the plan's actions, one after another. It costs as much
 /// where each action's do, and at most as much where each action's do.
 pub fn simulations_keep_plans<S, A, T, B>()
-    ensures equal { (second : System T B) (first : System S A) (represents : T → S → Bool) (images : A → List B)
-        → Simulates second first (λ t s. IsTrue (represents t s)) (λ a bs. bs ≡ images a) (λ c d. c ≡ d)
+    ensures equal { (second : System T B) (first : System S A)
+        (represents : T → S → Bool) (images : A → List B)
+        → Simulates second first
+        (λ t s. IsTrue (represents t s)) (λ a bs. bs ≡ images a) (λ c d. c ≡ d)
         → (plan : List A) (t : T) (s : S) → IsTrue (represents t s) → IsPlanFrom first s plan
         → IsPlanFrom second t (flat_map images plan)
         × (plan_cost second (flat_map images plan) ≡ plan_cost first plan) }
-    ensures at_most { (second : System T B) (first : System S A) (represents : T → S → Bool) (images : A → List B)
-        → Simulates second first (λ t s. IsTrue (represents t s)) (λ a bs. bs ≡ images a) (λ c d. c ≤ d)
+    ensures at_most { (second : System T B) (first : System S A)
+        (represents : T → S → Bool) (images : A → List B)
+        → Simulates second first
+        (λ t s. IsTrue (represents t s)) (λ a bs. bs ≡ images a) (λ c d. c ≤ d)
         → (plan : List A) (t : T) (s : S) → IsTrue (represents t s) → IsPlanFrom first s plan
         → IsPlanFrom second t (flat_map images plan)
         × (plan_cost second (flat_map images plan) ≤ plan_cost first plan) }

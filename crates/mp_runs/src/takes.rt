@@ -18,7 +18,8 @@ pub trait Takes<E> {
 pub fn take_front<S: Takes<E>, E>(state: &mut S, events: &[E]) -> usize
     ensures reached { run S.step state.old (take result events.now) ≡ Some state.new }
     ensures front { result ≤ length events.now }
-    ensures stopped { result < length events.now → run S.step state.old (take (result + 1) events.now) ≡ None }
+    ensures stopped { result < length events.now
+        → run S.step state.old (take (result + 1) events.now) ≡ None }
 {
     let mut taken = 0;
     for event in events {

@@ -17,8 +17,9 @@ pub record IsFarPart (tasks : List AgentTask) (me : ℕ) (part : Far) : Type 0 w
   pub public : IsTrue (is_public act)
   pub is : part ≡ part_of other.me act
 
--- The list of the others' parts: the public parts of all public actions of the other agents and nothing else, none
--- twice, and agent by agent in rising order. The order among one agent's parts is left open.
+-- The list of the others' parts: the public parts of all public actions of the other agents and
+-- nothing else, none twice, and agent by agent in rising order. The order among one agent's parts
+-- is left open.
 pub record IsFarList (tasks : List AgentTask) (me : ℕ) (far : List Far) : Type 0 where
   pub exact : (part : Far) → Contains far part ↔ IsFarPart tasks me part
   pub once : AllPairs (λ a b. a ≢ b) far
@@ -36,8 +37,8 @@ pub record SayAlike (t u : AgentTask) : Type 0 where
   pub start_pub : t.start_pub ≡ u.start_pub
   pub goal_pub : t.goal_pub ≡ u.goal_pub
 
--- Tasks agree where they are those of the agents from 1 on in their order, each fits the team, and all say
--- the same of the public facts.
+-- Tasks agree where they are those of the agents from 1 on in their order, each fits the team, and
+-- all say the same of the public facts.
 pub record Agree (tasks : List AgentTask) : Type 0 where
   pub numbered : map (λ t. t.me) tasks ≡ range_with_len 1 (length tasks)
   pub team : All (FitsTeam tasks) tasks

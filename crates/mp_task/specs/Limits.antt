@@ -18,7 +18,8 @@ pub record ActFits (publics privates : ℕ) (act : Act) : Type 0 where
   pub del_priv : AllLess privates act.del_priv
   pub cost : act.cost ≤ 16000000
 
--- the part of an action names an agent of the team and facts that there are, and costs at most 16,000,000
+-- the part of an action names an agent of the team and facts that there are, and costs at most
+-- 16,000,000
 pub record FarFits (agents publics : ℕ) (part : Far) : Type 0 where
   pub from_1 : 1 ≤ part.by
   pub in_team : part.by ≤ agents

@@ -9,7 +9,8 @@ use Rattle.mp_task.specs.declared.act.Act.{Act}
 use Rattle.mp_task.specs.AgentTask.{AgentTask}
 use Rattle.mp_task.specs.Met.{is_met}
 
--- a joint state: which public facts are true, and for each agent in their order which of its private facts are
+-- a joint state: which public facts are true, and for each agent in their order which of its
+-- private facts are
 pub record JointState : Type 0 where
   pub publics : Numbers
   pub privates : List Numbers
@@ -40,18 +41,23 @@ private_of s agent = slice_index_or s.privates (agent - 1) set.empty
 abbrev pub applies : Act → Numbers → Numbers → Bool
 applies act publics privates = holds publics act.pre_pub && holds privates act.pre_priv
 
--- The state after an action of an agent: the public facts and the agent's own private ones are without the
--- deletes and with the adds, and the others' private facts are as they were.
+-- The state after an action of an agent: the public facts and the agent's own private ones are
+-- without the deletes and with the adds, and the others' private facts are as they were.
 abbrev pub after_act : JointState → ℕ → Act → JointState
 after_act s agent act = record {
   publics = after s.publics act.del_pub act.add_pub;
   privates = slice_set s.privates (agent - 1) (after (private_of s agent) act.del_priv act.add_priv);
 }
 
--- the state after a step: none where the step stands for no action, or the action may not be applied
+abbrev pub after_if_applies : JointState → ℕ → Act → Option JointState
+after_if_applies s agent act =
+    if applies act s.publics (private_of s agent) then Some (after_act s agent act) else None
+
+-- the state after a step: none where the step stands for no action, or the action may not be
+-- applied
 abbrev pub after_step : List AgentTask → JointState → TaskStep → Option JointState
 after_step tasks s step =
-    option_and_then (λ act. if applies act s.publics (private_of s step.agent) then Some (after_act s step.agent act) else None) (act_of tasks step)
+    option_and_then (after_if_applies s step.agent) (act_of tasks step)
 
 -- what the action costs that a step stands for
 abbrev pub step_cost : List AgentTask → TaskStep → ℕ
@@ -59,11 +65,16 @@ step_cost tasks step = option_map_or (λ act. act.cost) (act_of tasks step) 0
 
 -- whether the goals of all agents are true: the public ones, and each agent's private ones
 abbrev pub goals_hold : List AgentTask → JointState → Bool
-goals_hold tasks s = list_all (λ t. holds s.publics t.goal_pub && is_met t (private_of s t.me)) tasks
+goals_hold tasks s =
+    list_all (λ t. holds s.publics t.goal_pub && is_met t (private_of s t.me)) tasks
 
 -- the team as a transition system
 abbrev pub team_system : List AgentTask → System JointState TaskStep
-team_system tasks = record { after = after_step tasks; cost = step_cost tasks; is_goal = goals_hold tasks }
+team_system tasks = record {
+  after = after_step tasks;
+  cost = step_cost tasks;
+  is_goal = goals_hold tasks;
+}
 
 -- the public facts that are true at the start, of which all tasks say the same
 abbrev pub public_start : List AgentTask → Numbers
@@ -71,9 +82,13 @@ public_start [] = set.empty
 public_start (t ∷ ts) = set.from_list t.start_pub
 
 abbrev pub joint_start : List AgentTask → JointState
-joint_start tasks = record { publics = public_start tasks; privates = map (λ t. set.from_list t.start_priv) tasks }
+joint_start tasks = record {
+  publics = public_start tasks;
+  privates = map (λ t. set.from_list t.start_priv) tasks;
+}
 
--- A plan from a joint state solves where each step may be applied in its turn and all goals are true at the end.
+-- A plan from a joint state solves where each step may be applied in its turn and all goals are
+-- true at the end.
 abbrev pub SolvesFrom : List AgentTask → JointState → List TaskStep → Type 0
 SolvesFrom tasks s plan = IsPlanFrom (team_system tasks) s plan
 

@@ -1,5 +1,5 @@
--- The projected problem of an agent (Nissim and Brafman, MAD-A*): its own actions, and of the other agents'
--- public actions what the team sees of them.
+-- The projected problem of an agent (Nissim and Brafman, MAD-A*): its own actions, and of the other
+-- agents' public actions what the team sees of them.
 use Rattle.std.specs.Prelude.{ℕ, ◌+◌, ◌-◌, nat_lt, List, ◌++◌, map, if◌then◌else◌}
 use Rattle.std.specs.FinSet as set
 use Rattle.mp_sets.specs.Numbers.{Numbers, numbers_below}
@@ -8,7 +8,8 @@ use Rattle.mp_task.specs.declared.act.Far.{Far}
 use Rattle.mp_task.specs.AgentTask.{AgentTask}
 use Rattle.mp_task.specs.Strips.{Operator, Problem}
 
--- Public facts keep their numbers, and private fact k is fact P + k, where P is the number of public facts.
+-- Public facts keep their numbers, and private fact k is fact P + k, where P is the number of
+-- public facts.
 abbrev pub facts_of : ℕ → List ℕ → List ℕ → List ℕ
 facts_of publics pub_facts priv_facts = pub_facts ++ map (λ k. publics + k) priv_facts
 
@@ -34,4 +35,5 @@ projected t = record {
 -- a set of public facts and one of the agent's private facts as one state
 abbrev pub projected_state : AgentTask → Numbers → Numbers → Numbers
 projected_state t publics privates =
-    numbers_below (t.publics + t.privates) (λ x. if nat_lt x t.publics then set.contains publics x else set.contains privates (x - t.publics))
+    numbers_below (t.publics + t.privates) (λ x.
+    if nat_lt x t.publics then set.contains publics x else set.contains privates (x - t.publics))

@@ -1,4 +1,5 @@
--- Which actions are public and which are private (MA-STRIPS), and what the team sees of the public ones.
+-- Which actions are public and which are private (MA-STRIPS), and what the team sees of the public
+-- ones.
 use Rattle.std.specs.Prelude.{ℕ, Bool, not, ◌&&◌, ◌==◌, List, length}
 use Rattle.std.specs.List.{list_any, filter}
 use Rattle.mp_task.specs.declared.act.Act.{Act}

@@ -17,9 +17,28 @@ seen_system t = strips_system (projected t)
 abbrev pub seen_state : AgentTask → JointState → Numbers
 seen_state t s = projected_state t s.publics (private_of s t.me)
 
--- What an agent sees of a step: its own action as it is, of another agent's public action the public part, and of
--- another agent's private action nothing. The parts follow the own actions in the projected problem.
-pub data IsSeenAs (tasks : List AgentTask) (t : AgentTask) (step : TaskStep) (seen : List ℕ) : Type 0 where
+-- What an agent sees of a step: its own action as it is, of another agent's public action the
+-- public part, and of another agent's private action nothing. The parts follow the own actions in
+-- the projected problem.
+pub data IsSeenAs
+    (tasks : List AgentTask)
+    (t : AgentTask)
+    (step : TaskStep)
+    (seen : List ℕ)
+    : Type 0 where
   as_it_is : step.agent ≡ t.me → seen ≡ step.action ∷ [] → IsSeenAs tasks t step seen
-  as_part : (act : Act) (k : ℕ) → step.agent ≢ t.me → act_of tasks step ≡ Some act → IsTrue (is_public act) → slice_get t.far k ≡ Some (part_of step.agent act) → seen ≡ (length t.acts + k) ∷ [] → IsSeenAs tasks t step seen
-  as_nothing : (act : Act) → step.agent ≢ t.me → act_of tasks step ≡ Some act → IsTrue (is_private act) → seen ≡ [] → IsSeenAs tasks t step seen
+  as_part :
+      (act : Act) (k : ℕ)
+      → step.agent ≢ t.me
+      → act_of tasks step ≡ Some act
+      → IsTrue (is_public act)
+      → slice_get t.far k ≡ Some (part_of step.agent act)
+      → seen ≡ (length t.acts + k) ∷ []
+      → IsSeenAs tasks t step seen
+  as_nothing :
+      (act : Act)
+      → step.agent ≢ t.me
+      → act_of tasks step ≡ Some act
+      → IsTrue (is_private act)
+      → seen ≡ []
+      → IsSeenAs tasks t step seen

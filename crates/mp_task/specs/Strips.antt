@@ -21,7 +21,8 @@ pub record Problem : Type 0 where
 abbrev pub after_operator : Numbers → Operator → Option Numbers
 after_operator s o = if holds s o.pre then Some (after s o.del o.add) else None
 
--- The problem as a transition system, whose actions are the numbers of operators: all goals are true in a goal state.
+-- The problem as a transition system, whose actions are the numbers of operators: all goals are
+-- true in a goal state.
 abbrev pub strips_system : Problem → System Numbers ℕ
 strips_system problem = record {
   after = λ s k. option_and_then (after_operator s) (slice_get problem.operators k);

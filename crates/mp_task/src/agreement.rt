@@ -16,14 +16,16 @@ pub fn far_lists_are_exact()
         → Contains tasks t → Contains tasks u → u.me ≢ t.me
         → Contains u.acts act → IsTrue (is_public act) → (Contains t.far (part_of u.me act) → ⊥)
         → Agree tasks → ⊥ }
-    ensures doubled { (tasks : List AgentTask) (t : AgentTask) (before between later : List Part) (p : Part)
+    ensures doubled { (tasks : List AgentTask) (t : AgentTask)
+        (before between later : List Part) (p : Part)
         → Contains tasks t → t.far ≡ before ++ p ∷ (between ++ p ∷ later)
         → Agree tasks → ⊥ }
     ensures by_another { (tasks : List AgentTask) (t u : AgentTask) (p : Part)
         → Contains tasks t → Contains tasks u → Contains t.far p → p.by ≡ u.me
         → ((act : Act) → Contains u.acts act → IsTrue (is_public act) → p ≢ part_of u.me act)
         → Agree tasks → ⊥ }
-    ensures falling { (tasks : List AgentTask) (t : AgentTask) (before between later : List Part) (p q : Part)
+    ensures falling { (tasks : List AgentTask) (t : AgentTask)
+        (before between later : List Part) (p q : Part)
         → Contains tasks t → t.far ≡ before ++ p ∷ (between ++ q ∷ later) → q.by < p.by
         → Agree tasks → ⊥ }
 {}

@@ -45,11 +45,13 @@ pub trait Heuristic: Sized + Drop {
     /// It is none only where the projected problem has no plan from there.
     ghost dead: { (task : AgentTask) (publics privates : Numbers) → IsWithinLimits task
         → value task publics privates ≡ None
-        → (plan : List ℕ) → ¬ IsPlanFrom (seen_system task) (projected_state task publics privates) plan };
+        → (plan : List ℕ)
+        → ¬ IsPlanFrom (seen_system task) (projected_state task publics privates) plan };
 
     /// Otherwise it is at most the cost of each plan of the projected problem from there.
     ghost admissible: { (task : AgentTask) (publics privates : Numbers) → IsWithinLimits task
-        → (plan : List ℕ) → IsPlanFrom (seen_system task) (projected_state task publics privates) plan
+        → (plan : List ℕ)
+        → IsPlanFrom (seen_system task) (projected_state task publics privates) plan
         → IfSome (value task publics privates) (λ h. h ≤ plan_cost (seen_system task) plan) };
 }
 

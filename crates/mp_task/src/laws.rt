@@ -28,7 +28,8 @@ use crate::heuristic::Heuristic;
 pub fn steps_lead_to_joint_states()
     ensures start { (tasks : List AgentTask) → IsJointState tasks (joint_start tasks) }
     ensures steps { (tasks : List AgentTask) (s reached : JointState) (step : TaskStep)
-        → IsJointState tasks s → after_step tasks s step ≡ Some reached → IsJointState tasks reached }
+        → IsJointState tasks s → after_step tasks s step ≡ Some reached
+        → IsJointState tasks reached }
     ensures seen { (tasks : List AgentTask) (t : AgentTask) → Agree tasks → Contains tasks t
         → seen_state t (joint_start tasks)
         ≡ projected_state t (set.from_list t.start_pub) (set.from_list t.start_priv) }
@@ -54,7 +55,8 @@ pub fn values_are_bounds_for_the_team<H: Heuristic>()
     ensures alive { (tasks : List AgentTask) (t : AgentTask) (s : JointState) (plan : List TaskStep)
         → Agree tasks → All IsWithinLimits tasks → Contains tasks t → IsJointState tasks s
         → SolvesFrom tasks s plan → IsSome (H.value t s.publics (private_of s t.me)) }
-    ensures admissible { (tasks : List AgentTask) (t : AgentTask) (s : JointState) (plan : List TaskStep)
+    ensures admissible { (tasks : List AgentTask) (t : AgentTask) (s : JointState)
+        (plan : List TaskStep)
         → Agree tasks → All IsWithinLimits tasks → Contains tasks t → IsJointState tasks s
         → SolvesFrom tasks s plan
         → IfSome (H.value t s.publics (private_of s t.me)) (λ h. h ≤ task_cost tasks plan) }
