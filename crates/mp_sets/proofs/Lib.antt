@@ -10,3 +10,5 @@ pub mod FirstBitLemmas
 pub mod DigitLemmas
 -- comparisons
 pub mod ComparedLemmas
+-- eight words at a time
+pub mod LaneLemmas

@@ -142,11 +142,11 @@ module _ (xs ys : List ℕ) (k : ℕ) where
   pub same_word_bits : get_or xs k 0 ≡ get_or ys k 0 → (q : ℕ) → q / 64 ≡ k → has_bit xs q ≡ has_bit ys q
   same_word_bits same q e = bit_of_word xs k q e ∙ ap (λ w. eqb (bit_at w (q % 64)) 1) same ∙ sym (bit_of_word ys k q e)
 
-  pub same_word : get_or xs k 0 < 2 ^ 64 → get_or ys k 0 < 2 ^ 64 → ((q : ℕ) → has_bit xs q ≡ has_bit ys q) → get_or xs k 0 ≡ get_or ys k 0
+  pub same_word : get_or xs k 0 < 2 ^ 64 → get_or ys k 0 < 2 ^ 64 → ((q : ℕ) → q / 64 ≡ k → has_bit xs q ≡ has_bit ys q) → get_or xs k 0 ≡ get_or ys k 0
   same_word x_fits y_fits same =
       same_from_bits_below 64 (get_or xs k 0) (get_or ys k 0) x_fits y_fits (λ i small.
       same_tests _ _ (bit_at-lt (get_or xs k 0) i) (bit_at-lt (get_or ys k 0) i)
-      (sym (has_bit-at xs k i small) ∙ same (64 * k + i) ∙ has_bit-at ys k i small))
+      (sym (has_bit-at xs k i small) ∙ same (64 * k + i) (omega arith) ∙ has_bit-at ys k i small))
 
   -- no bit of the one word is left where those of the other are cleared
   pub word_within : get_or ys k 0 < 2 ^ 64 → bit_and (get_or xs k 0) (bit_not w64 (get_or ys k 0)) ≡ 0 → (q : ℕ) → q / 64 ≡ k → has_bit xs q ≡ true → has_bit ys q ≡ true
@@ -158,14 +158,14 @@ module _ (xs ys : List ℕ) (k : ℕ) where
       ∙ sym (bit_at_and (get_or xs k 0) (bit_not w64 (get_or ys k 0)) i) ∙ ap (λ w. bit_at w i) none ∙ bit_at-zero i in
       bit_of_word ys k q e ∙ eq-eqb _ 1 (omega (arith, bit_at-lt (get_or ys k 0) i))
 
-  pub within_word : get_or xs k 0 < 2 ^ 64 → get_or ys k 0 < 2 ^ 64 → ((q : ℕ) → has_bit xs q ≡ true → has_bit ys q ≡ true) → bit_and (get_or xs k 0) (bit_not w64 (get_or ys k 0)) ≡ 0
+  pub within_word : get_or xs k 0 < 2 ^ 64 → get_or ys k 0 < 2 ^ 64 → ((q : ℕ) → q / 64 ≡ k → has_bit xs q ≡ true → has_bit ys q ≡ true) → bit_and (get_or xs k 0) (bit_not w64 (get_or ys k 0)) ≡ 0
   within_word x_fits y_fits within =
       same_from_bits_below 64 _ 0 (omega (arith, and_le_l (get_or xs k 0) (bit_not w64 (get_or ys k 0)))) (omega arith) (λ i small.
       bit_at_and (get_or xs k 0) (bit_not w64 (get_or ys k 0)) i
       ∙ ap (min (bit_at (get_or xs k 0) i)) (bit_at_not w64 (get_or ys k 0) i y_fits small)
       ∙ (elim (cases_eq (bit_at (get_or xs k 0) i) 1) [
         | inl one ↦
-            let there : bit_at (get_or ys k 0) i ≡ 1 = eqb-true _ 1 (sym (has_bit-at ys k i small) ∙ within (64 * k + i) (has_bit-at xs k i small ∙ eq-eqb _ 1 one)) in
+            let there : bit_at (get_or ys k 0) i ≡ 1 = eqb-true _ 1 (sym (has_bit-at ys k i small) ∙ within (64 * k + i) (omega arith) (has_bit-at xs k i small ∙ eq-eqb _ 1 one)) in
             omega arith
         | inr other ↦ omega (arith, bit_at-lt (get_or xs k 0) i)
       ])

@@ -1,11 +1,12 @@
 //! Words of sets, compared with one another.
 
-ghost use Rattle.std.specs.Prelude.{◌≡◌, ◌↔◌, ◌^◌, ◌<◌, ◌≤◌, ℕ, length, slice_index, true, false, IsTrue, IfSome, IfNone};
+ghost use Rattle.std.specs.Prelude.{◌≡◌, ◌↔◌, ◌+◌, ◌*◌, ◌^◌, ◌<◌, ◌≤◌, ℕ, length, slice_index, true, false, IsTrue, IfSome, IfNone};
 ghost use Rattle.std.specs.Ordering.{nat_cmp};
 ghost use Rattle.std.specs.Simd.Lanes.{number_l};
 ghost use Rattle.mp_sets.specs.Words.{has_bit, IsFirstFrom};
 
 use std::cmp::Ordering;
+use std::simd::prelude::*;
 
 /// Words have 64 bits each.
 pub(crate) fn have_64_bits(words: &[u64])
@@ -19,7 +20,14 @@ pub(crate) fn are_equal(words: &[u64], others: &[u64]) -> bool
     requires { length words.now ≡ length others.now }
     ensures { IsTrue result ↔ ((x : ℕ) → has_bit words.now x ≡ has_bit others.now x) }
 {
-    for at in 0..words.len() {
+    let mut done = 0;
+    while words.len() - done >= 8 {
+        if !eight_are_equal(words, others, done) {
+            return false;
+        }
+        done += 8;
+    }
+    for at in done..words.len() {
         if words[at] != others[at] {
             return false;
         }
@@ -27,17 +35,46 @@ pub(crate) fn are_equal(words: &[u64], others: &[u64]) -> bool
     true
 }
 
+/// Whether eight words from a place on have the same bits.
+fn eight_are_equal(words: &[u64], others: &[u64], from: usize) -> bool
+    requires length { length words.now ≡ length others.now }
+    requires from { from + 8 ≤ length words.now }
+    ensures { IsTrue result ↔ ((x : ℕ) → 64 * from ≤ x → x < 64 * (from + 8)
+        → has_bit words.now x ≡ has_bit others.now x) }
+{
+    let differ = u64x8::from_slice(&words[from..]) ^ u64x8::from_slice(&others[from..]);
+    differ.reduce_or() == 0
+}
+
 /// Whether each bit of a list is a bit of the other, which has the same length.
 pub(crate) fn are_within(words: &[u64], others: &[u64]) -> bool
     requires { length words.now ≡ length others.now }
     ensures { IsTrue result ↔ ((x : ℕ) → IsTrue (has_bit words.now x) → IsTrue (has_bit others.now x)) }
 {
-    for at in 0..words.len() {
+    let mut done = 0;
+    while words.len() - done >= 8 {
+        if !eight_are_within(words, others, done) {
+            return false;
+        }
+        done += 8;
+    }
+    for at in done..words.len() {
         if words[at] & !others[at] != 0 {
             return false;
         }
     }
     true
+}
+
+/// Whether each bit of eight words from a place on is a bit of the others there.
+fn eight_are_within(words: &[u64], others: &[u64], from: usize) -> bool
+    requires length { length words.now ≡ length others.now }
+    requires from { from + 8 ≤ length words.now }
+    ensures { IsTrue result ↔ ((x : ℕ) → 64 * from ≤ x → x < 64 * (from + 8)
+        → IsTrue (has_bit words.now x) → IsTrue (has_bit others.now x)) }
+{
+    let more = u64x8::from_slice(&words[from..]) & !u64x8::from_slice(&others[from..]);
+    more.reduce_or() == 0
 }
 
 /// Compares two lists of equal length as numbers in base 2^64, whose least digit is the first word.

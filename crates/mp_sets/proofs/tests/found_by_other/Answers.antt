@@ -1,4 +1,4 @@
-use Rattle.std.proofs.Common.{◌≡◌, None, sym, ap, ◌∙◌, rules}
+use Rattle.std.proofs.Common.{◌≡◌, None, sym, ◌∙◌, rules}
 use Rattle.mp_sets.proofs.ComparedLemmas.{sized_eq-other, sized_cmp-other}
 use Rattle.mp_sets.proofs.tests.found_by_other.Goals as goal
 

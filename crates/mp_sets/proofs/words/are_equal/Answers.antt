@@ -6,7 +6,7 @@ use Rattle.mp_sets.proofs.words.are_equal.Goals as goal
 pub returns-then-words-at : goal.returns-then-words-at
 returns-then-words-at c = (
   λ no. absurd (true≢false (sym no)),
-  λ same. absurd (c.if-words-at.true (same_word c.args.words.now c.args.others.now c.loop-at.at (c.type_inv.words c.loop-at.at).fits (c.type_inv.others c.loop-at.at).fits same)),
+  λ same. absurd (c.if-words-at.true (same_word c.args.words.now c.args.others.now c.loop-at.at (c.type_inv.words c.loop-at.at).fits (c.type_inv.others c.loop-at.at).fits (λ q _. same q))),
 )
 
 pub loop-at-preserved : goal.loop-at-preserved

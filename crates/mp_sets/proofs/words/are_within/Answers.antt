@@ -6,7 +6,7 @@ use Rattle.mp_sets.proofs.words.are_within.Goals as goal
 pub returns-then-words-at-ne0 : goal.returns-then-words-at-ne0
 returns-then-words-at-ne0 c = (
   λ no. absurd (true≢false (sym no)),
-  λ within. absurd (c.if-words-at-ne0.true (within_word c.args.words.now c.args.others.now c.loop-at.at (c.type_inv.words c.loop-at.at).fits (c.type_inv.others c.loop-at.at).fits within)),
+  λ within. absurd (c.if-words-at-ne0.true (within_word c.args.words.now c.args.others.now c.loop-at.at (c.type_inv.words c.loop-at.at).fits (c.type_inv.others c.loop-at.at).fits (λ q _. within q))),
 )
 
 pub loop-at-preserved : goal.loop-at-preserved
