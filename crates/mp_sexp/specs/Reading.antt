@@ -1,5 +1,5 @@
--- Reading a text from left to right, byte after byte: how the reader works. What it is to find stands in
--- `Spelling`, apart from this.
+-- Reading a text from left to right, byte after byte. The reader comes to the same states, but takes whole words and
+-- comments at once. What it is to find stands in `Spelling`, apart from this.
 use Rattle.std.specs.Prelude.{ℕ, ◌≡◌, ◌+◌, ◌<◌, ◌≤◌, ◌==◌, ◌&&◌, nat_lt, Bool, not, List, [], ◌∷◌, ◌++◌, length, map, reverse, Result, Ok, Err, if◌then◌else◌}
 use Rattle.mp_sexp.specs.declared.tree.Place.{Place}
 use Rattle.mp_sexp.specs.declared.bytes.Kind.{Kind}
