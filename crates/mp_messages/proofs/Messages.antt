@@ -30,49 +30,49 @@ unfolding spelling
 state_kind agents publics bytes x fits e =
     as_kind_takes agents publics 1 bytes kinds.State (state_at agents publics bytes) x e (λ y h.
     let t = state_takes agents publics bytes y fits h in
-    record { text = Takes-byte 1 bytes (state y.0) y.1 t.0; fits = record { numbers = t.1; facts = t.2; team = (t.3, t.4) } })
+    record { text = Takes-byte 1 bytes (state y.0) y.1 t.0; fits = record { numbers = t.1; facts = t.2; rising = t.3; tags = t.4 } })
 
 marker_kind : (agents publics : ℕ) (bytes : List ℕ) (x : Message × List ℕ) → IsBytes bytes → as_kind kinds.Marker (number_at bytes) ≡ Some x → TakesMessage agents publics (2 ∷ bytes) x
 unfolding spelling
 marker_kind agents publics bytes x fits e =
     as_kind_takes agents publics 2 bytes kinds.Marker (number_at bytes) x e (λ y h.
     let t = number_takes bytes y fits h in
-    record { text = Takes-byte 2 bytes (number y.0) y.1 t.0; fits = record { numbers = t.1; facts = tt; team = tt } })
+    record { text = Takes-byte 2 bytes (number y.0) y.1 t.0; fits = record { numbers = t.1; facts = tt; rising = tt; tags = tt } })
 
 report_kind : (agents publics : ℕ) (bytes : List ℕ) (x : Message × List ℕ) → IsBytes bytes → as_kind kinds.Report (findings_at bytes) ≡ Some x → TakesMessage agents publics (3 ∷ bytes) x
 unfolding spelling
 report_kind agents publics bytes x fits e =
     as_kind_takes agents publics 3 bytes kinds.Report (findings_at bytes) x e (λ y h.
     let t = findings_take bytes y fits h in
-    record { text = Takes-byte 3 bytes (findings y.0) y.1 t.0; fits = record { numbers = t.1; facts = tt; team = tt } })
+    record { text = Takes-byte 3 bytes (findings y.0) y.1 t.0; fits = record { numbers = t.1; facts = tt; rising = tt; tags = tt } })
 
 pick_kind : (agents publics : ℕ) (bytes : List ℕ) (x : Message × List ℕ) → IsBytes bytes → as_kind kinds.Pick (number_at bytes) ≡ Some x → TakesMessage agents publics (4 ∷ bytes) x
 unfolding spelling
 pick_kind agents publics bytes x fits e =
     as_kind_takes agents publics 4 bytes kinds.Pick (number_at bytes) x e (λ y h.
     let t = number_takes bytes y fits h in
-    record { text = Takes-byte 4 bytes (number y.0) y.1 t.0; fits = record { numbers = t.1; facts = tt; team = tt } })
+    record { text = Takes-byte 4 bytes (number y.0) y.1 t.0; fits = record { numbers = t.1; facts = tt; rising = tt; tags = tt } })
 
 trace_kind : (agents publics : ℕ) (bytes : List ℕ) (x : Message × List ℕ) → IsBytes bytes → as_kind (λ t. kinds.Trace t.0 t.1) (trace_at bytes) ≡ Some x → TakesMessage agents publics (5 ∷ bytes) x
 unfolding spelling
 trace_kind agents publics bytes x fits e =
     as_kind_takes agents publics 5 bytes (λ t. kinds.Trace t.0 t.1) (trace_at bytes) x e (λ y h.
     let t = trace_takes bytes y fits h in
-    record { text = Takes-byte 5 bytes (number y.0.0 ++ number y.0.1) y.1 t.0; fits = record { numbers = (t.1, t.2); facts = tt; team = tt } })
+    record { text = Takes-byte 5 bytes (number y.0.0 ++ number y.0.1) y.1 t.0; fits = record { numbers = (t.1, t.2); facts = tt; rising = tt; tags = tt } })
 
 length_kind : (agents publics : ℕ) (bytes : List ℕ) (x : Message × List ℕ) → IsBytes bytes → as_kind kinds.Length (number_at bytes) ≡ Some x → TakesMessage agents publics (6 ∷ bytes) x
 unfolding spelling
 length_kind agents publics bytes x fits e =
     as_kind_takes agents publics 6 bytes kinds.Length (number_at bytes) x e (λ y h.
     let t = number_takes bytes y fits h in
-    record { text = Takes-byte 6 bytes (number y.0) y.1 t.0; fits = record { numbers = t.1; facts = tt; team = tt } })
+    record { text = Takes-byte 6 bytes (number y.0) y.1 t.0; fits = record { numbers = t.1; facts = tt; rising = tt; tags = tt } })
 
 done_kind : (agents publics : ℕ) (bytes : List ℕ) (x : Message × List ℕ) → IsBytes bytes → as_kind kinds.Done (ending_at bytes) ≡ Some x → TakesMessage agents publics (7 ∷ bytes) x
 unfolding spelling
 done_kind agents publics bytes x fits e =
     as_kind_takes agents publics 7 bytes kinds.Done (ending_at bytes) x e (λ y h.
     let t = ending_takes bytes y fits h in
-    record { text = Takes-byte 7 bytes (ending y.0) y.1 t; fits = record { numbers = tt; facts = tt; team = tt } })
+    record { text = Takes-byte 7 bytes (ending y.0) y.1 t; fits = record { numbers = tt; facts = tt; rising = tt; tags = tt } })
 
 -- one test of the byte of the kind
 at_byte : (agents publics b k : ℕ) (bytes : List ℕ) (x : Message × List ℕ) (this others : Option (Message × List ℕ)) → cond (eqb b k) this others ≡ Some x → (this ≡ Some x → TakesMessage agents publics (k ∷ bytes) x) → (others ≡ Some x → TakesMessage agents publics (b ∷ bytes) x) → TakesMessage agents publics (b ∷ bytes) x
@@ -101,7 +101,7 @@ message_takes agents publics (b ∷ bytes) x fits e = fields_take agents publics
 pub message_again : (agents publics : ℕ) (m : Message) (rest : List ℕ) → publics < 2 ^ 32 → Fits agents publics m → message_at agents publics (spelling m ++ rest) ≡ Some (m, rest)
 unfolding message_at fields_at spelling
 message_again agents publics (kinds.State s) rest small fits =
-    let read : state_at agents publics (state s ++ rest) ≡ Some (s, rest) = subst (λ (n : ℕ). state_at n publics (state s ++ rest) ≡ Some (s, rest)) fits.team.1 (state_again publics s rest small fits.numbers fits.facts fits.team.0) in
+    let read : state_at agents publics (state s ++ rest) ≡ Some (s, rest) = subst (λ (n : ℕ). state_at n publics (state s ++ rest) ≡ Some (s, rest)) fits.tags (state_again publics s rest small fits.numbers fits.facts fits.rising) in
     rw read refl
 message_again agents publics (kinds.Marker n) rest small fits = rw (number_again n rest fits.numbers) refl
 message_again agents publics (kinds.Report f) rest small fits = rw (findings_again f rest fits.numbers) refl

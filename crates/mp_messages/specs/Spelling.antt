@@ -83,31 +83,34 @@ AreNumbers (kinds.Trace sent back) = (sent < limit) × (back < limit)
 AreNumbers (kinds.Length n) = n < limit
 AreNumbers (kinds.Done e) = Unit {0}
 
+-- what holds of a state, where a message is one
+abbrev pub IfState : (State → Type 0) → Message → Type 0
+IfState Holds (kinds.State s) = Holds s
+IfState Holds (kinds.Marker n) = Unit {0}
+IfState Holds (kinds.Report f) = Unit {0}
+IfState Holds (kinds.Pick n) = Unit {0}
+IfState Holds (kinds.Trace sent back) = Unit {0}
+IfState Holds (kinds.Length n) = Unit {0}
+IfState Holds (kinds.Done e) = Unit {0}
+
 -- all facts of a state are below a number
 abbrev pub FactsBelow : ℕ → Message → Type 0
-FactsBelow publics (kinds.State s) = All (λ x. x < publics) s.facts
-FactsBelow publics (kinds.Marker n) = Unit {0}
-FactsBelow publics (kinds.Report f) = Unit {0}
-FactsBelow publics (kinds.Pick n) = Unit {0}
-FactsBelow publics (kinds.Trace sent back) = Unit {0}
-FactsBelow publics (kinds.Length n) = Unit {0}
-FactsBelow publics (kinds.Done e) = Unit {0}
+FactsBelow publics = IfState (λ s. All (λ x. x < publics) s.facts)
 
--- the facts of a state rise, and it has one tag for each agent
-abbrev pub IsOfTeam : ℕ → Message → Type 0
-IsOfTeam agents (kinds.State s) = IsStrictlyIncreasing s.facts × (length s.tags ≡ agents)
-IsOfTeam agents (kinds.Marker n) = Unit {0}
-IsOfTeam agents (kinds.Report f) = Unit {0}
-IsOfTeam agents (kinds.Pick n) = Unit {0}
-IsOfTeam agents (kinds.Trace sent back) = Unit {0}
-IsOfTeam agents (kinds.Length n) = Unit {0}
-IsOfTeam agents (kinds.Done e) = Unit {0}
+-- the facts of a state rise
+abbrev pub FactsRise : Message → Type 0
+FactsRise = IfState (λ s. IsStrictlyIncreasing s.facts)
+
+-- a state has one tag for each agent
+abbrev pub HasTags : ℕ → Message → Type 0
+HasTags agents = IfState (λ s. length s.tags ≡ agents)
 
 -- what a team of so many agents with so many public facts may send
 pub record Fits (agents publics : ℕ) (m : Message) : Type 0 where
   pub numbers : AreNumbers m
   pub facts : FactsBelow publics m
-  pub team : IsOfTeam agents m
+  pub rising : FactsRise m
+  pub tags : HasTags agents m
 
 -- these bytes spell this message, for a team of so many agents with so many public facts
 pub record IsSpelling (agents publics : ℕ) (m : Message) (bytes : List ℕ) : Type 0 where

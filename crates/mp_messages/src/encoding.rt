@@ -1,7 +1,8 @@
 //! Messages to bytes.
 
 ghost use Rattle.std.specs.Prelude.{◌≡◌, ℕ, ◌-◌, ◌<◌, ◌^◌, ◌++◌, ◌∷◌, [], All, IfOk, OnOk};
-ghost use Rattle.mp_messages.specs.Spelling.{number, short_number, flag, optional, ending, tag, counted, state, findings, spelling, AreNumbers, FactsBelow, IsOfTeam, IsSpelling};
+ghost use Rattle.std.specs.List.Sorted.{IsStrictlyIncreasing};
+ghost use Rattle.mp_messages.specs.Spelling.{number, short_number, flag, optional, ending, tag, counted, state, findings, spelling, AreNumbers, FactsBelow, FactsRise, HasTags, IsSpelling};
 
 use crate::history::Bytes;
 use crate::message::{EndKind, Findings, Message, State};
@@ -63,7 +64,8 @@ fn put_tag(out: &mut Bytes, t: &Tag) -> Result<(), OutOfMemory>
 #[tactic(auto, using(crate::proofs::Rising::rising_short), unfolding(crate::specs::Spelling::counted))]
 fn put_facts(out: &mut Bytes, facts: &FactList) -> Result<(), OutOfMemory>
     requires { All (λ x. x < 2 ^ 32 - 1) facts.now }
-    ensures { OnOk result (out.new ≡ out.old ++ counted facts.now) }
+    ensures bytes { OnOk result (out.new ≡ out.old ++ counted facts.now) }
+    ensures rising { IsStrictlyIncreasing facts.now }
 {
     let numbers = facts.as_slice();
     put_short_number(out, numbers.len() as u32)?;
@@ -76,7 +78,8 @@ fn put_facts(out: &mut Bytes, facts: &FactList) -> Result<(), OutOfMemory>
 #[tactic(auto, unfolding(crate::specs::Spelling::state))]
 fn put_state(out: &mut Bytes, s: &State) -> Result<(), OutOfMemory>
     requires { All (λ x. x < 2 ^ 32 - 1) s.now.facts }
-    ensures { OnOk result (out.new ≡ out.old ++ state s.now) }
+    ensures bytes { OnOk result (out.new ≡ out.old ++ state s.now) }
+    ensures rising { OnOk result (IsStrictlyIncreasing s.now.facts) }
 {
     put_number(out, s.sent)?;
     put_number(out, s.g)?;
@@ -112,7 +115,8 @@ fn put_ending(out: &mut Bytes, end: EndKind) -> Result<(), OutOfMemory>
 #[tactic(auto, unfolding(crate::specs::Spelling::spelling))]
 fn put_message(out: &mut Bytes, message: &Message) -> Result<(), OutOfMemory>
     requires { FactsBelow (2 ^ 32 - 1) message.now }
-    ensures { OnOk result (out.new ≡ out.old ++ spelling message.now) }
+    ensures bytes { OnOk result (out.new ≡ out.old ++ spelling message.now) }
+    ensures rising { OnOk result (FactsRise message.now) }
 {
     match message {
         Message::State(state) => {
@@ -147,16 +151,16 @@ fn put_message(out: &mut Bytes, message: &Message) -> Result<(), OutOfMemory>
     }
 }
 
-/// The bytes of a message. Its numbers have to be small enough: what is spelled with eight bytes below
-/// 2^60, and so the sum of a state's cost and heuristic value, and its facts below 2^32 - 1. A state's
-/// bytes are its spelling for as many agents as it has tags and for every number of public facts above
-/// its own facts, and another message's are its spelling for every team. Refuses only for want of memory.
+/// The bytes of a message. Every u64 in it has to be below 2^60, and so the sum of a state's cost and
+/// heuristic value; a state's facts have to be below 2^32 - 1. A state's bytes are its spelling for as many
+/// agents as it has tags and for every number of public facts above its own facts, and another message's are
+/// its spelling for every team. Refuses only for want of memory.
 pub fn encode(alloc: Global, message: &Message) -> Result<Bytes, OutOfMemory>
     requires numbers { AreNumbers message.now }
     requires facts { FactsBelow (2 ^ 32 - 1) message.now }
     ensures bytes { IfOk result (λ bytes. bytes ≡ spelling message.now) }
-    ensures team { IfOk result (λ bytes. (agents publics : ℕ) → FactsBelow publics message.now
-        → IsOfTeam agents message.now → IsSpelling agents publics message.now bytes) }
+    ensures team { IfOk result (λ bytes. (agents publics : ℕ) → HasTags agents message.now
+        → FactsBelow publics message.now → IsSpelling agents publics message.now bytes) }
 {
     let mut out = Bytes::new(alloc);
     put_message(&mut out, message)?;
