@@ -2,7 +2,7 @@
 use Rattle.std.proofs.Common.{◌≡◌, ℕ, suc, ◌+◌, ◌-◌, ◌<◌, ◌≤◌, List, [], ◌∷◌, ◌++◌, Option, Some, None, refl, sym, ap, ◌∙◌, append_assoc, arith}
 use Rattle.std.proofs.lemmas.List.{append-nil}
 use Rattle.mp_sets.specs.declared.tag.Tag.{Tag}
-use Rattle.mp_messages.specs.Reading.{◌>>=◌, tag_at, tags_at, fact_at, facts_at}
+use Rattle.mp_messages.specs.Reading.{◌>>=◌, rest_of, tag_at, tags_at, fact_at, facts_at}
 
 -- what was read before, and what is still read
 abbrev pub with_front : {A : Type 0} → List A → Option (List A × List ℕ) → Option (List A × List ℕ)
@@ -58,3 +58,51 @@ facts_end publics front count i least bytes total le so_far =
     let k : count - i ≡ 0 = omega arith in
     let one : with_front front (facts_at publics (count - i) least bytes) ≡ Some (front, bytes) = rw k (no_more front bytes) in
     sym so_far ∙ one
+
+-- ---- the same where only what is left is asked for
+
+rest_of-more : {A : Type 0} (x : A) (read : Option (List A × List ℕ)) → rest_of (read >>= λ others. Some (x ∷ others.0, others.1)) ≡ rest_of read
+rest_of-more x (Some others) = refl
+rest_of-more x None = refl
+
+pub tags_pass : (count i : ℕ) (bytes : List ℕ) (t : Tag) (after : List ℕ) (total : Option (List ℕ)) → i < count → tag_at bytes ≡ Some (t, after) → rest_of (tags_at (count - i) bytes) ≡ total → rest_of (tags_at (count - (i + 1)) after) ≡ total
+unfolding tags_at
+tags_pass count i bytes t after total lt h so_far =
+    let k : count - i ≡ suc (count - (i + 1)) = omega arith in
+    let one : rest_of (tags_at (count - i) bytes) ≡ rest_of (tags_at (count - (i + 1)) after) = rw (k, h) (rest_of-more t (tags_at (count - (i + 1)) after)) in
+    sym one ∙ so_far
+
+pub tags_fail : (count i : ℕ) (bytes : List ℕ) (total : Option (List ℕ)) → i < count → tag_at bytes ≡ None → rest_of (tags_at (count - i) bytes) ≡ total → None ≡ total
+unfolding tags_at
+tags_fail count i bytes total lt h so_far =
+    let k : count - i ≡ suc (count - (i + 1)) = omega arith in
+    let one : rest_of (tags_at (count - i) bytes) ≡ None = rw (k, h) refl in
+    sym one ∙ so_far
+
+pub tags_done : (count i : ℕ) (bytes : List ℕ) (total : Option (List ℕ)) → count ≤ i → rest_of (tags_at (count - i) bytes) ≡ total → Some bytes ≡ total
+unfolding tags_at
+tags_done count i bytes total le so_far =
+    let k : count - i ≡ 0 = omega arith in
+    let one : rest_of (tags_at (count - i) bytes) ≡ Some bytes = rw k refl in
+    sym one ∙ so_far
+
+pub facts_pass : (publics count i least : ℕ) (bytes : List ℕ) (x : ℕ) (after : List ℕ) (total : Option (List ℕ)) → i < count → fact_at publics least bytes ≡ Some (x, after) → rest_of (facts_at publics (count - i) least bytes) ≡ total → rest_of (facts_at publics (count - (i + 1)) (x + 1) after) ≡ total
+unfolding facts_at
+facts_pass publics count i least bytes x after total lt h so_far =
+    let k : count - i ≡ suc (count - (i + 1)) = omega arith in
+    let one : rest_of (facts_at publics (count - i) least bytes) ≡ rest_of (facts_at publics (count - (i + 1)) (x + 1) after) = rw (k, h) (rest_of-more x (facts_at publics (count - (i + 1)) (x + 1) after)) in
+    sym one ∙ so_far
+
+pub facts_fail : (publics count i least : ℕ) (bytes : List ℕ) (total : Option (List ℕ)) → i < count → fact_at publics least bytes ≡ None → rest_of (facts_at publics (count - i) least bytes) ≡ total → None ≡ total
+unfolding facts_at
+facts_fail publics count i least bytes total lt h so_far =
+    let k : count - i ≡ suc (count - (i + 1)) = omega arith in
+    let one : rest_of (facts_at publics (count - i) least bytes) ≡ None = rw (k, h) refl in
+    sym one ∙ so_far
+
+pub facts_done : (publics count i least : ℕ) (bytes : List ℕ) (total : Option (List ℕ)) → count ≤ i → rest_of (facts_at publics (count - i) least bytes) ≡ total → Some bytes ≡ total
+unfolding facts_at
+facts_done publics count i least bytes total le so_far =
+    let k : count - i ≡ 0 = omega arith in
+    let one : rest_of (facts_at publics (count - i) least bytes) ≡ Some bytes = rw k refl in
+    sym one ∙ so_far

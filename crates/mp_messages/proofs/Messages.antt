@@ -2,14 +2,15 @@
 use Rattle.std.proofs.Common.{◌≡◌, ℕ, ◌^◌, ◌<◌, cond, eqb, List, [], ◌∷◌, ◌++◌, length, Option, Some, None, refl, sym, ap, subst, ◌∙◌, inl, inr}
 use Rattle.std.proofs.lemmas.Bool.{eqb-true}
 use Rattle.std.proofs.lemmas.List.{append-nil, nil_from_length}
-use Rattle.std.specs.Prelude.{Result, Ok, Err, IfOk, MatchResult}
+use Rattle.std.specs.Prelude.{Result, Ok, Err, IfOk, MatchResult, ◌↔◌, slice_get, is_some, Bool, true, false}
 use Rattle.std.proofs.lemmas.Option.{cond_some, none-some}
 use Rattle.mp_messages.specs.declared.decoding.DecodeRefusal.{DecodeRefusal}
 use Rattle.mp_messages.specs.declared.decoding.DecodeRefusal.TheVariants.{NotAMessage, OutOfMemory}
+use Rattle.mp_messages.specs.declared.message.State.{State}
 use Rattle.mp_messages.specs.declared.message.Message.{Message}
 use Rattle.mp_messages.specs.declared.message.Message.TheVariants as kinds
 use Rattle.mp_messages.specs.Spelling.{number, state, findings, ending, spelling, Fits, IsSpelling}
-use Rattle.mp_messages.specs.Reading.{Gives, as_kind, number_at, state_at, findings_at, trace_at, ending_at, fields_at, message_at, message_of}
+use Rattle.mp_messages.specs.Reading.{◌>>=◌, IsReading, as_kind, number_at, state_at, findings_at, trace_at, ending_at, fields_at, message_at, message_of}
 use Rattle.mp_messages.proofs.Taking.{IsBytes, IsBytes-rest, bind_some, chosen, some_is, Takes, Takes-byte}
 use Rattle.mp_messages.proofs.Fields.{number_takes, number_again, ending_takes, ending_again, trace_takes, trace_again, findings_take, findings_again}
 use Rattle.mp_messages.proofs.States.{state_takes, state_again}
@@ -128,21 +129,55 @@ all_again agents publics m bytes small s =
     let read : message_at agents publics bytes ≡ Some (m, []) = ap (message_at agents publics) (s.is ∙ sym (append-nil (spelling m))) ∙ message_again agents publics m [] small s.fits in
     rw read refl
 
--- ---- what a function returned that gives what reading gives
+-- ---- what a function returned that reads as it should
 
-pub is_found : (agents publics : ℕ) (bytes : List ℕ) (r : Result Message DecodeRefusal) → IsBytes bytes → Gives (λ m. m) r (message_of agents publics bytes) → IfOk r (λ m. IsSpelling agents publics m bytes)
-is_found agents publics bytes (Ok m) fits given = all_take agents publics bytes m fits given
-is_found agents publics bytes (Err e) fits given = tt
+pub reads_spelled : (agents publics : ℕ) (bytes : List ℕ) (r : Result Message DecodeRefusal) → IsBytes bytes → IsReading r (message_of agents publics bytes) → IfOk r (λ m. IsSpelling agents publics m bytes)
+reads_spelled agents publics bytes (Ok m) fits reading = all_take agents publics bytes m fits reading
+reads_spelled agents publics bytes (Err e) fits reading = tt
 
-pub is_only : (agents publics : ℕ) (bytes : List ℕ) (r : Result Message DecodeRefusal) → publics < 2 ^ 32 → Gives (λ m. m) r (message_of agents publics bytes) → (m : Message) → IsSpelling agents publics m bytes → MatchResult r (λ read. read ≡ m) (λ e. e ≡ OutOfMemory)
-is_only agents publics bytes (Ok read) small given m spelled = some_is read m (sym given ∙ all_again agents publics m bytes small spelled)
-is_only agents publics bytes (Err OutOfMemory) small given m spelled = refl
-is_only agents publics bytes (Err NotAMessage) small given m spelled = absurd (none-some m (sym given ∙ all_again agents publics m bytes small spelled))
+pub reads_found : (agents publics : ℕ) (bytes : List ℕ) (r : Result Message DecodeRefusal) → publics < 2 ^ 32 → IsReading r (message_of agents publics bytes) → (m : Message) → IsSpelling agents publics m bytes → MatchResult r (λ read. read ≡ m) (λ e. e ≡ OutOfMemory)
+reads_found agents publics bytes (Ok read) small reading m spelled = some_is read m (sym reading ∙ all_again agents publics m bytes small spelled)
+reads_found agents publics bytes (Err OutOfMemory) small reading m spelled = refl
+reads_found agents publics bytes (Err NotAMessage) small reading m spelled = absurd (none-some m (sym reading ∙ all_again agents publics m bytes small spelled))
 
-pub is_refused : (agents publics : ℕ) (bytes : List ℕ) (r : Result Message DecodeRefusal) → publics < 2 ^ 32 → Gives (λ m. m) r (message_of agents publics bytes) → r ≡ Err NotAMessage → (m : Message) → IsSpelling agents publics m bytes → ⊥
-is_refused agents publics bytes r small given e m spelled =
-    let nothing : message_of agents publics bytes ≡ None = subst (λ (q : Result Message DecodeRefusal). Gives (λ m. m) q (message_of agents publics bytes)) e given in
+nothing_spelled : (agents publics : ℕ) (bytes : List ℕ) (r : Result Message DecodeRefusal) → publics < 2 ^ 32 → IsReading r (message_of agents publics bytes) → r ≡ Err NotAMessage → (m : Message) → IsSpelling agents publics m bytes → ⊥
+nothing_spelled agents publics bytes r small reading e m spelled =
+    let nothing : message_of agents publics bytes ≡ None = subst (λ (q : Result Message DecodeRefusal). IsReading q (message_of agents publics bytes)) e reading in
     none-some m (sym nothing ∙ all_again agents publics m bytes small spelled)
+
+refuses_nothing : (agents publics : ℕ) (bytes : List ℕ) (r : Result Message DecodeRefusal) → IsBytes bytes → IsReading r (message_of agents publics bytes) → ((m : Message) → IsSpelling agents publics m bytes → ⊥) → r ≡ Err NotAMessage
+refuses_nothing agents publics bytes (Ok m) fits reading none = absurd (none m (all_take agents publics bytes m fits reading))
+refuses_nothing agents publics bytes (Err NotAMessage) fits reading none = refl
+refuses_nothing agents publics bytes (Err OutOfMemory) fits reading none = absurd (none (kinds.State reading.0) (all_take agents publics bytes (kinds.State reading.0) fits reading.1))
+
+pub reads_refused : (agents publics : ℕ) (bytes : List ℕ) (r : Result Message DecodeRefusal) → publics < 2 ^ 32 → IsBytes bytes → IsReading r (message_of agents publics bytes) → (r ≡ Err NotAMessage) ↔ ((m : Message) → IsSpelling agents publics m bytes → ⊥)
+reads_refused agents publics bytes r small fits reading =
+    (nothing_spelled agents publics bytes r small reading, refuses_nothing agents publics bytes r fits reading)
+
+pub reads_memory : (agents publics : ℕ) (bytes : List ℕ) (r : Result Message DecodeRefusal) → IsBytes bytes → IsReading r (message_of agents publics bytes) → r ≡ Err OutOfMemory → (s : State) × IsSpelling agents publics (kinds.State s) bytes
+reads_memory agents publics bytes r fits reading e =
+    let state : (s : State) × (message_of agents publics bytes ≡ Some (kinds.State s)) = subst (λ (q : Result Message DecodeRefusal). IsReading q (message_of agents publics bytes)) e reading in
+    (state.0, all_take agents publics bytes (kinds.State state.0) fits state.1)
+
+-- a state that is kept where nothing follows it
+kept_state : (s : State) (b : Bool) → is_some (cond b (Some (kinds.State s)) None) ≡ true → cond b (Some (kinds.State s)) None ≡ Some (kinds.State s)
+kept_state s true some = refl
+kept_state s false some = absurd cc
+
+whole_state : (read : Option (State × List ℕ)) → is_some (as_kind kinds.State read >>= λ m. cond (eqb (length m.1) 0) (Some m.0) None) ≡ true → (s : State) × ((as_kind kinds.State read >>= λ m. cond (eqb (length m.1) 0) (Some m.0) None) ≡ Some (kinds.State s))
+whole_state None some = absurd cc
+whole_state (Some x) some = (x.0, kept_state x.0 (eqb (length x.1) 0) some)
+
+state_by_byte : (agents publics : ℕ) (rest : List ℕ) → is_some (message_of agents publics (1 ∷ rest)) ≡ true → (s : State) × (message_of agents publics (1 ∷ rest) ≡ Some (kinds.State s))
+unfolding message_of message_at fields_at
+state_by_byte agents publics rest some = whole_state (state_at agents publics rest) some
+
+-- bytes that begin as those of a state do spell a state, if anything
+pub state_by_kind : (agents publics : ℕ) (bytes : List ℕ) → slice_get bytes 0 ≡ Some 1 → is_some (message_of agents publics bytes) ≡ true → (s : State) × (message_of agents publics bytes ≡ Some (kinds.State s))
+state_by_kind agents publics [] first some = absurd cc
+state_by_kind agents publics (b ∷ rest) first some =
+    let one : 1 ≡ b = sym (some_is b 1 first) in
+    subst (λ (k : ℕ). is_some (message_of agents publics (k ∷ rest)) ≡ true → (s : State) × (message_of agents publics (k ∷ rest) ≡ Some (kinds.State s))) one (state_by_byte agents publics rest) some
 
 -- ---- laws
 

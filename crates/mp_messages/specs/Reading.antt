@@ -26,6 +26,16 @@ abbrev pub Gives : {X Y : Type 0} → (X → Y) → Result X DecodeRefusal → O
 Gives view (Ok x) read = read ≡ Some (view x)
 Gives view (Err e) read = Refuses e read
 
+-- What a function returned is what reading gives, where memory runs out at a state alone.
+abbrev pub IsReading : Result Message DecodeRefusal → Option Message → Type 0
+IsReading (Ok m) read = read ≡ Some m
+IsReading (Err NotAMessage) read = read ≡ None
+IsReading (Err OutOfMemory) read = (s : State) × (read ≡ Some (kinds.State s))
+
+-- the bytes after what was read
+abbrev pub rest_of : {A : Type 0} → Option (A × List ℕ) → Option (List ℕ)
+rest_of read = read >>= λ x. Some x.1
+
 unfoldable pub digits_at : Width → List ℕ → Option (ℕ × List ℕ)
 digits_at w bytes =
     if nat_lt (length bytes) (byte_len w) then None else Some (from_be_bytes w (take (byte_len w) bytes), drop (byte_len w) bytes)

@@ -1,12 +1,12 @@
 //! Bytes to messages. What another agent sends may be any bytes.
 
-ghost use Rattle.std.specs.Prelude.{◌≡◌, ◌≢◌, ℕ, ◌+◌, ◌<◌, ◌≤◌, Some, IfSome, IfOk, IsErrOf, slice_get, MatchResult};
+ghost use Rattle.std.specs.Prelude.{◌≡◌, ◌≢◌, ℕ, ◌+◌, ◌<◌, ◌≤◌, Some, IfSome, IfOk, IsErrOf, slice_get, MatchResult, ◌↔◌, is_some};
 ghost use Rattle.std.specs.Int.{w32, w64};
 ghost use Rattle.std.specs.Option.{option_map};
 ghost use Rattle.mp_messages.specs.declared.decoding.DecodeRefusal.TheVariants.{OutOfMemory as NoMemory};
 ghost use Rattle.mp_messages.specs.declared.message.Message.{Message};
 ghost use Rattle.mp_messages.specs.Spelling.{limit, IsSpelling};
-ghost use Rattle.mp_messages.specs.Reading.{Gives, digits_at, number_at, flag_at, optional_at, ending_at, tag_at, tags_at, fact_at, facts_at, counted_at, costs_at, state_at, findings_at, trace_at, message_at, message_of};
+ghost use Rattle.mp_messages.specs.Reading.{Gives, IsReading, rest_of, digits_at, number_at, flag_at, optional_at, ending_at, tag_at, tags_at, fact_at, facts_at, counted_at, costs_at, state_at, findings_at, trace_at, message_at, message_of};
 
 use crate::message::{EndKind, Findings, Message, State};
 use mp_list::OutOfMemory;
@@ -314,9 +314,91 @@ fn whole_message(
     Ok(message)
 }
 
+fn after_tags(count: u16, bytes: &[u8]) -> Option<&[u8]>
+    ensures { option_map (λ x. x.now) result ≡ rest_of (tags_at count bytes.now) }
+{
+    let mut rest = bytes;
+    for _ in 0..count {
+        let Some((_, after)) = tag(rest) else {
+            return None;
+        };
+        rest = after;
+    }
+    Some(rest)
+}
+
+fn after_facts(publics: u32, count: u32, bytes: &[u8]) -> Option<&[u8]>
+    ensures { option_map (λ x. x.now) result ≡ rest_of (facts_at publics count 0 bytes.now) }
+{
+    let mut least = 0;
+    let mut rest = bytes;
+    for _ in 0..count {
+        let Some((fact, after)) = fact(publics, least, rest) else {
+            return None;
+        };
+        least = fact + 1;
+        rest = after;
+    }
+    Some(rest)
+}
+
+#[tactic(auto, unfolding(crate::specs::Reading::counted_at))]
+fn after_counted(publics: u32, bytes: &[u8]) -> Option<&[u8]>
+    ensures { option_map (λ x. x.now) result ≡ rest_of (counted_at publics bytes.now) }
+{
+    let (count, rest) = short_number(bytes)?;
+    after_facts(publics, count, rest)
+}
+
+#[tactic(auto, unfolding(crate::specs::Reading::state_at))]
+fn after_state(agents: u16, publics: u32, bytes: &[u8]) -> Option<&[u8]>
+    ensures { option_map (λ x. x.now) result ≡ rest_of (state_at agents publics bytes.now) }
+{
+    let (_, rest) = costs(bytes)?;
+    let rest = after_counted(publics, rest)?;
+    after_tags(agents, rest)
+}
+
+/// Whether bytes that begin with the byte of a state spell one. It takes no memory.
+#[tactic(auto, unfolding(crate::specs::Reading::fields_at, crate::specs::Reading::message_at, crate::specs::Reading::message_of))]
+fn is_state(agents: u16, publics: u32, bytes: &[u8]) -> bool
+    requires { slice_get bytes.now 0 ≡ Some 1 }
+    ensures { result ≡ is_some (message_of agents publics bytes.now) }
+{
+    match bytes {
+        [1, rest @ ..] => match after_state(agents, publics, rest) {
+            Some(end) => end.is_empty(),
+            None => false,
+        },
+        _ => false,
+    }
+}
+
+/// Memory may run out in the middle of bytes that spell nothing, so it is asked then whether they do.
+fn checked_message(
+    alloc: Global,
+    agents: u16,
+    publics: u32,
+    bytes: &[u8],
+) -> Result<Message, DecodeRefusal>
+    ensures { IsReading result (message_of agents publics bytes.now) }
+{
+    match whole_message(alloc, agents, publics, bytes) {
+        Ok(message) => Ok(message),
+        Err(DecodeRefusal::NotAMessage) => Err(DecodeRefusal::NotAMessage),
+        Err(DecodeRefusal::OutOfMemory) => {
+            if is_state(agents, publics, bytes) {
+                Err(DecodeRefusal::OutOfMemory)
+            } else {
+                Err(DecodeRefusal::NotAMessage)
+            }
+        }
+    }
+}
+
 /// The message that bytes spell, all of them, in a team of so many agents with so many public facts.
-/// `NotAMessage` comes exactly where they spell none. Only a state takes memory, so only bytes that begin
-/// with the byte of a state can meet `OutOfMemory`.
+/// `NotAMessage` comes exactly where they spell none. Only a state takes memory, so `OutOfMemory` comes only
+/// where they spell a state.
 pub fn decode(
     alloc: Global,
     agents: u16,
@@ -324,16 +406,16 @@ pub fn decode(
     bytes: &[u8],
 ) -> Result<Message, DecodeRefusal>
     // What is read is spelled so.
-    ensures found { IfOk result (λ m. IsSpelling agents publics m bytes.now) }
+    ensures spelled { IfOk result (λ m. IsSpelling agents publics m bytes.now) }
     // What is spelled so is read, unless memory runs out.
-    ensures only { (m : Message) → IsSpelling agents publics m bytes.now
+    ensures found { (m : Message) → IsSpelling agents publics m bytes.now
         → MatchResult result (λ read. read ≡ m) (λ e. e ≡ DecodeRefusal.OutOfMemory) }
-    // Where nothing is spelled.
+    // Refused is what spells nothing.
     ensures refused { IsErrOf result DecodeRefusal.NotAMessage
-        → (m : Message) → IsSpelling agents publics m bytes.now → ⊥ }
-    ensures memory { IsErrOf result DecodeRefusal.OutOfMemory → slice_get bytes.now 0 ≡ Some 1 }
-    // The same by the function on bytes that reads them from left to right.
-    ensures read { Gives (λ m. m) result (message_of agents publics bytes.now) }
+        ↔ ((m : Message) → IsSpelling agents publics m bytes.now → ⊥) }
+    // Memory runs out only where a state is spelled.
+    ensures memory { IsErrOf result DecodeRefusal.OutOfMemory
+        → (s : State) × IsSpelling agents publics (Message.State s) bytes.now }
 {
-    whole_message(alloc, agents, publics, bytes)
+    checked_message(alloc, agents, publics, bytes)
 }
