@@ -4,20 +4,13 @@ use Rattle.std.specs.Prelude.{Contains}
 use Rattle.std.specs.FinSet as set
 use Rattle.std.proofs.lemmas.Bool.{cases_lt}
 use Rattle.std.proofs.Math.Seq.{get_or-append_seam}
-use Rattle.std.proofs.lemmas.List.{length-append, get_or_append_left}
+use Rattle.std.proofs.lemmas.List.{length-append, get_or_append_left, get_or_default}
+use Rattle.std.proofs.lemmas.List.Elements.{Contains-append_left, Contains-append_right, Contains-append_cases}
 use Rattle.mp_sets.specs.Numbers.{Numbers}
-use Rattle.mp_tokens.specs.Order.{place, with_set, with_sets, order_of_use, token}
-use Rattle.mp_tokens.proofs.Places.{place_within, place_of_first, place_of_none, at_place, not_before, with_old, with_new, place_of_new}
+use Rattle.mp_tokens.specs.Order.{place, with_set, with_sets, order_of_use, token, AreDifferent}
+use Rattle.mp_tokens.proofs.Places.{place_within, place_of_first, place_of_none, at_place, not_before, old_or_new, with_old, with_new, place_of_new, different_with}
 
 -- ---- one set more
-
--- a set that is there, or that is not
-old_or_new : (xs : List Numbers) (u : Numbers) → (place xs u < length xs) ⊎ (place xs u ≡ length xs)
-old_or_new xs u =
-    elim (cases_lt (place xs u) (length xs)) [
-      | inl lt ↦ inl lt
-      | inr le ↦ inr (omega (arith, place_within xs u))
-    ]
 
 -- what is there keeps its place
 one_keeps : (xs : List Numbers) (u s : Numbers) → place xs s < length xs → (place (with_set xs u) s ≡ place xs s) × (length xs ≤ length (with_set xs u))
@@ -122,3 +115,53 @@ first_use start before after s none =
     let new : place order s ≡ length order = misses (start ∷ []) before s apart (λ h. none (suc h.0, omega (arith, h.1), h.2)) in
     let there : place (with_set order s) s ≡ length order = ap (λ (xs : List Numbers). place xs s) (with_new order s new) ∙ place_of_new order s new in
     ap (λ (xs : List Numbers). place xs s) (one_after_another (start ∷ []) before (s ∷ after)) ∙ (keeps (with_set order s) after s (one_there order s)).0 ∙ there
+
+-- ---- the order itself
+
+different_all : (xs uses : List Numbers) → AreDifferent xs → AreDifferent (with_sets xs uses)
+different_all xs [] different = different
+different_all xs (u ∷ uses) different = different_all (with_set xs u) uses (different_with xs u different)
+
+pub order_different : (start : Numbers) (uses : List Numbers) → AreDifferent (order_of_use start uses)
+order_different start uses = different_all (start ∷ []) uses (λ i j i_in j_in e. omega arith)
+
+-- what stands at a place is in the list, and what has no place in it is not
+pub set_found : (xs : List Numbers) (s : Numbers) (k : ℕ) → k < length xs → get_or xs k set.empty ≡ s → Contains xs s
+set_found xs s k lt e = (k, lt, get_or_default xs k s set.empty lt ∙ e)
+
+pub found_set : (xs : List Numbers) (s : Numbers) (k : ℕ) → k ≡ place xs s → k < length xs → get_or xs k set.empty ≡ s
+found_set xs s k is lt =
+    ap (λ (j : ℕ). get_or xs j set.empty) is ∙ at_place xs s (subst (λ (j : ℕ). j < length xs) is lt)
+
+pub missing_set : (xs : List Numbers) (s : Numbers) → place xs s ≡ length xs → Contains xs s → ⊥
+missing_set xs s missing there =
+    not_before xs s there.0 (omega (arith, there.1)) (get_or_default xs there.0 set.empty s there.1 ∙ there.2)
+
+pub order_has : (start : Numbers) (uses : List Numbers) (s : Numbers) → Contains (start ∷ uses) s → Contains (order_of_use start uses) s
+order_has start uses s used =
+    let order = order_of_use start uses in
+    let there = has_token start uses s used in
+    set_found order s (place order s) there (at_place order s there)
+
+-- what is there after one set more was there, or is that set
+one_only : (xs : List Numbers) (u s : Numbers) → Contains (with_set xs u) s → Contains xs s ⊎ Contains (u ∷ []) s
+one_only xs u s there =
+    elim (old_or_new xs u) [
+      | inl old ↦ inl (subst (λ (ys : List Numbers). Contains ys s) (with_old xs u old) there)
+      | inr new ↦ Contains-append_cases xs (u ∷ []) s (subst (λ (ys : List Numbers). Contains ys s) (with_new xs u new) there)
+    ]
+
+all_only : (xs uses : List Numbers) (s : Numbers) → Contains (with_sets xs uses) s → Contains (xs ++ uses) s
+all_only xs [] s there = Contains-append_left xs [] s there
+all_only xs (u ∷ uses) s there =
+    elim (Contains-append_cases (with_set xs u) uses s (all_only (with_set xs u) uses s there)) [
+      | inl front ↦
+          elim (one_only xs u s front) [
+            | inl old ↦ Contains-append_left xs (u ∷ uses) s old
+            | inr this ↦ Contains-append_right xs (u ∷ uses) s (Contains-append_left (u ∷ []) uses s this)
+          ]
+      | inr later ↦ Contains-append_right xs (u ∷ uses) s (Contains-append_right (u ∷ []) uses s later)
+    ]
+
+pub order_only : (start : Numbers) (uses : List Numbers) (s : Numbers) → Contains (order_of_use start uses) s → Contains (start ∷ uses) s
+order_only start uses s there = all_only (start ∷ []) uses s there

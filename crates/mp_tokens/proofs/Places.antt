@@ -1,5 +1,5 @@
 -- Places of sets in lists.
-use Rattle.std.proofs.Common.{◌≡◌, ℕ, zero, suc, ◌+◌, ◌<◌, ◌≤◌, Bool, true, false, cond, eqb, ltb, ◌&&◌, not, List, [], ◌∷◌, ◌++◌, length, get_or, All, refl, sym, ap, subst, ◌∙◌, arith, inl, inr}
+use Rattle.std.proofs.Common.{◌≡◌, ℕ, zero, suc, ◌+◌, ◌<◌, ◌≤◌, Bool, true, false, cond, eqb, ltb, ◌&&◌, not, List, [], ◌∷◌, ◌++◌, length, get_or, All, refl, sym, ap, subst, ◌∙◌, arith, ◌⊎◌, inl, inr}
 use Rattle.std.specs.List.{position_or_len}
 use Rattle.std.specs.Cmp.{nat_cmp_total}
 use Rattle.std.specs.FinSet as set
@@ -9,35 +9,10 @@ use Rattle.std.proofs.Math.ListN.{get_or-map}
 use Rattle.std.proofs.Math.Seq.{get_or-append_seam}
 use Rattle.std.proofs.lemmas.List.{length-map, length-append, map-append, get_or_append_left, get_or_read}
 use Rattle.std.proofs.lemmas.List.Sums.{position_or_len_is, fails_before_first, passes_at_first, prefix_len-le-length}
-use Rattle.mp_sets.specs.Numbers.{Numbers, SizedSet}
-use Rattle.mp_tokens.specs.Order.{same, place, with_set, AreDifferent}
+use Rattle.mp_sets.specs.Numbers.{Numbers, SizedSet, same}
+use Rattle.mp_sets.specs.Stub.{same_is, same_itself, same_not}
+use Rattle.mp_tokens.specs.Order.{place, with_set, AreDifferent}
 use Rattle.mp_tokens.specs.TokenFields.{members_of, sets_at}
-
--- ---- the test of two sets
-
-both_true : (a b : Bool) → (a && b) ≡ true → (a ≡ true) × (b ≡ true)
-both_true true true e = (refl, refl)
-both_true true false e = absurd cc
-both_true false b e = absurd cc
-
-equal_tests : (a b : Bool) → (a ≡ true → b ≡ true) → (b ≡ true → a ≡ true) → a ≡ b
-equal_tests true true f g = refl
-equal_tests true false f g = sym (f refl)
-equal_tests false true f g = g refl
-equal_tests false false f g = refl
-
-pub same_is : (s t : Numbers) → same s t ≡ true → s ≡ t
-same_is s t e =
-    let both = both_true (set.is_subset s t) (set.is_subset t s) e in
-    set.same_set nat_cmp_total set.nat_cmp-IsAntisymmetric s t (λ q. equal_tests (set.contains s q) (set.contains t q) (set.is_subset-contains nat_cmp_total s t both.0 q) (set.is_subset-contains nat_cmp_total t s both.1 q))
-
-pub same_itself : (s : Numbers) → same s s ≡ true
-same_itself s =
-    let e : set.is_subset s s ≡ true = set.contains-is_subset nat_cmp_total s s (λ q h. h) in
-    rw e refl
-
-pub same_not : (s t : Numbers) → (s ≡ t → ⊥) → same s t ≡ false
-same_not s t ne = false_from_ne_true (same s t) (λ e. ne (same_is s t e))
 
 -- ---- the place of a set
 
@@ -83,6 +58,14 @@ not_before sets s k lt e =
     let fails : same s (get_or sets k set.empty) ≡ false = fails_before_first (same s) sets k set.empty lt in
     false≢true (sym fails ∙ ap (same s) e ∙ same_itself s)
 
+-- a set that is there, or that is not
+pub old_or_new : (sets : List Numbers) (s : Numbers) → (place sets s < length sets) ⊎ (place sets s ≡ length sets)
+old_or_new sets s =
+    elim (cases_lt (place sets s) (length sets)) [
+      | inl lt ↦ inl lt
+      | inr le ↦ inr (omega (arith, place_within sets s))
+    ]
+
 -- ---- a list with one set more
 
 pub with_old : (sets : List Numbers) (s : Numbers) → place sets s < length sets → with_set sets s ≡ sets
@@ -120,6 +103,21 @@ different_with_new sets s different is i j i_in j_in e =
           ]
     ]
 
+pub different_with : (sets : List Numbers) (s : Numbers) → AreDifferent sets → AreDifferent (with_set sets s)
+different_with sets s different =
+    elim (old_or_new sets s) [
+      | inl old ↦ subst AreDifferent (sym (with_old sets s old)) different
+      | inr new ↦ subst AreDifferent (sym (with_new sets s new)) (different_with_new sets s different new)
+    ]
+
+-- the set has its place in the longer list already in the list
+pub place_with : (sets : List Numbers) (s : Numbers) → place (with_set sets s) s ≡ place sets s
+place_with sets s =
+    elim (old_or_new sets s) [
+      | inl old ↦ ap (λ (xs : List Numbers). place xs s) (with_old sets s old)
+      | inr new ↦ ap (λ (xs : List Numbers). place xs s) (with_new sets s new) ∙ place_of_new sets s new ∙ sym new
+    ]
+
 -- ---- sets by their places
 
 pub members_push : (sets : List SizedSet) (s : SizedSet) → members_of (sets ++ s ∷ []) ≡ members_of sets ++ s.members ∷ []
@@ -136,23 +134,30 @@ sets_at_more sets s (i ∷ order) within =
     let others = sets_at_more sets s order (λ k d h. within (suc k) d (omega arith)) in
     λ j. first j ∷ others j
 
+pub sets_at_with : (sets : List Numbers) (s : Numbers) (order : List ℕ) → All (λ i. i < length sets) order → sets_at (with_set sets s) order ≡ sets_at sets order
+sets_at_with sets s order within =
+    elim (old_or_new sets s) [
+      | inl old ↦ ap (λ (xs : List Numbers). sets_at xs order) (with_old sets s old)
+      | inr new ↦ ap (λ (xs : List Numbers). sets_at xs order) (with_new sets s new) ∙ sets_at_more sets s order within
+    ]
+
 -- the place of a set among those at some places is the place of its own place
-pub place_by_index : (sets : List Numbers) (order : List ℕ) (index : ℕ) → AreDifferent sets → index < length sets → All (λ i. i < length sets) order → place (sets_at sets order) (get_or sets index set.empty) ≡ position_or_len (λ n. eqb n index) order
+pub place_by_index : (sets : List Numbers) (order : List ℕ) (index : ℕ) → AreDifferent sets → index < length sets → All (λ i. i < length sets) order → place (sets_at sets order) (get_or sets index set.empty) ≡ position_or_len (eqb index) order
 unfolding place
 place_by_index sets order index different inside within =
     let s = get_or sets index set.empty in
-    let i = position_or_len (λ n. eqb n index) order in
-    let le : i ≤ length order = prefix_len-le-length (λ n. not (eqb n index)) order in
+    let i = position_or_len (eqb index) order in
+    let le : i ≤ length order = prefix_len-le-length (λ n. not (eqb index n)) order in
     let len : length (sets_at sets order) ≡ length order = length-map order (λ (k : ℕ). get_or sets k set.empty) in
     let at : (k : ℕ) → k < length order → get_or (sets_at sets order) k set.empty ≡ get_or sets (get_or order k index) set.empty = λ k h. map_at sets order k index h in
     position_or_len_is (same s) (sets_at sets order) i set.empty (omega arith)
     (λ k h.
-    let fails : eqb (get_or order k index) index ≡ false = fails_before_first (λ n. eqb n index) order k index h in
+    let fails : eqb index (get_or order k index) ≡ false = fails_before_first (eqb index) order k index h in
     let other : get_or order k index < length sets = within k index (omega arith) in
-    ap (same s) (at k (omega arith)) ∙ same_not s _ (λ e. false≢true (sym fails ∙ eqb_of (get_or order k index) index (sym (different index (get_or order k index) inside other e)))))
+    ap (same s) (at k (omega arith)) ∙ same_not s _ (λ e. false≢true (sym fails ∙ eqb_of index (get_or order k index) (different index (get_or order k index) inside other e))))
     (λ h.
     let there : i < length order = omega arith in
-    let found : get_or order i index ≡ index = eqb-true _ _ (passes_at_first (λ n. eqb n index) order index there) in
+    let found : get_or order i index ≡ index = sym (eqb-true index (get_or order i index) (passes_at_first (eqb index) order index there)) in
     ap (same s) (at i there ∙ ap (λ (k : ℕ). get_or sets k set.empty) found) ∙ same_itself s)
   where
     map_at : (sets : List Numbers) (order : List ℕ) (k d : ℕ) → k < length order → get_or (sets_at sets order) k set.empty ≡ get_or sets (get_or order k d) set.empty
@@ -162,21 +167,3 @@ place_by_index sets order index different inside within =
 
     eqb_of : (a b : ℕ) → a ≡ b → eqb a b ≡ true
     eqb_of a b e = grind (arith, nat_tests)
-
--- ---- one step of a search
-
-pub found_here : (sets : List SizedSet) (s x : SizedSet) (i : ℕ) → i < length sets → x ≡ get_or sets i x → x ≡ s → ((k : ℕ) (d : SizedSet) → k < i → same s.members (get_or sets k d).members ≡ false) → i ≡ place (members_of sets) s.members
-found_here sets s x i lt is e before =
-    sym (place_is sets s.members i (omega arith) before (λ d h. ap (λ (y : SizedSet). same s.members y.members) (sym (get_or_read sets i x lt is d) ∙ e) ∙ same_itself s.members))
-
-pub missed_here : (sets : List SizedSet) (s x : SizedSet) (i : ℕ) → i < length sets → x ≡ get_or sets i x → All (λ t. t.size ≡ s.size) sets → (x ≡ s → ⊥) → ((k : ℕ) (d : SizedSet) → k < i → same s.members (get_or sets k d).members ≡ false) → (k : ℕ) (d : SizedSet) → k < i + 1 → same s.members (get_or sets k d).members ≡ false
-missed_here sets s x i lt is sizes ne before k d h =
-    elim (cases_lt k i) [
-      | inl old ↦ before k d old
-      | inr new ↦
-          let last : i ≡ k = omega arith in
-          let size : x.size ≡ s.size = ap (λ (y : SizedSet). y.size) (get_or_read sets i x lt is x) ∙ sizes i x lt in
-          let members : s.members ≡ x.members → x ≡ s = λ e j. record { size = size j; members = sym e j } in
-          let here : same s.members x.members ≡ false = same_not s.members x.members (λ e. ne (members e)) in
-          subst (λ (j : ℕ). same s.members (get_or sets j d).members ≡ false) last (ap (λ (y : SizedSet). same s.members y.members) (sym (get_or_read sets i x lt is d)) ∙ here)
-    ]

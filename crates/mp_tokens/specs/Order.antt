@@ -1,18 +1,14 @@
 -- Tokens of sets: in messages a number stands for an agent's private set, and tells no more of it than which
 -- sets are equal. The initial set has 0, and each other set gets the next number at its first use. MAD-A*
 -- (Nissim and Brafman 2014) keeps private facts out of messages; these numbers are this program's own way.
-use Rattle.std.specs.Prelude.{ℕ, ◌<◌, Bool, ◌&&◌, nat_lt, List, [], ◌∷◌, ◌++◌, length, slice_index_or, if◌then◌else◌, ◌≡◌}
+use Rattle.std.specs.Prelude.{ℕ, ◌<◌, nat_lt, List, [], ◌∷◌, ◌++◌, length, slice_index_or, if◌then◌else◌, ◌≡◌}
 use Rattle.std.specs.List.{position_or_len}
 use Rattle.std.specs.FinSet as set
-use Rattle.mp_sets.specs.Numbers.{Numbers}
+use Rattle.mp_sets.specs.Numbers.{Numbers, same}
 
 -- the set at a place of a list, and the empty one past its end
 abbrev pub set_at : List Numbers → ℕ → Numbers
 set_at sets i = slice_index_or sets i set.empty
-
--- whether two sets are one: each has the members of the other
-abbrev pub same : Numbers → Numbers → Bool
-same s t = set.is_subset s t && set.is_subset t s
 
 -- the place of a set in a list, from 0, or the length of the list where it is not there
 unfoldable pub place : List Numbers → Numbers → ℕ

@@ -14,9 +14,9 @@ sets_at sets places = map (set_at sets) places
 
 abbrev pub token_table : Inside → TokenTable
 token_table t =
-    record { size = t.size; sets = members_of t.sets.items; used = sets_at (members_of t.sets.items) t.order.items }
+    record { size = t.size; sets = members_of t.sets.keys; used = sets_at (members_of t.sets.keys) t.order.keys }
 
 pub record IsTable (t : Inside) : Type 0 where
-  pub sizes : All (λ s. s.size ≡ t.size) t.sets.items
-  pub different : AreDifferent (members_of t.sets.items)
-  pub known : All (λ i. i < length t.sets.items) t.order.items
+  pub sizes : All (λ s. s.size ≡ t.size) t.sets.keys
+  pub different : AreDifferent (members_of t.sets.keys)
+  pub known : All (λ i. i < length t.sets.keys) t.order.keys

@@ -2,7 +2,7 @@
 
 ghost use Rattle.std.specs.Prelude.{◌≡◌, ◌<◌, ◌∷◌, ◌++◌, ◌↔◌, [], List, Contains, length};
 ghost use Rattle.mp_sets.specs.Numbers.{Numbers};
-ghost use Rattle.mp_tokens.specs.Order.{with_set, order_of_use, token};
+ghost use Rattle.mp_tokens.specs.Order.{with_set, order_of_use, token, AreDifferent};
 
 /// Equal sets have equal tokens, and different ones have different tokens.
 pub fn tokens_are_one_to_one()
@@ -29,4 +29,11 @@ pub fn tokens_stay()
 pub fn orders_grow_by_uses()
     ensures { (start : Numbers) (uses : List Numbers) (s : Numbers)
         → order_of_use start (uses ++ s ∷ []) ≡ with_set (order_of_use start uses) s }
+{}
+
+/// The order of first use has no set twice, and it has the initial set, the used sets and no other.
+pub fn orders_have_each_used_set_once()
+    ensures different { (start : Numbers) (uses : List Numbers) → AreDifferent (order_of_use start uses) }
+    ensures sets { (start : Numbers) (uses : List Numbers) (s : Numbers)
+        → Contains (order_of_use start uses) s ↔ Contains (start ∷ uses) s }
 {}

@@ -4,7 +4,10 @@
 mod laws;
 mod tokens;
 
-pub use laws::{orders_grow_by_uses, tokens_are_one_to_one, tokens_count_first_uses, tokens_stay};
+pub use laws::{
+    orders_grow_by_uses, orders_have_each_used_set_once, tokens_are_one_to_one,
+    tokens_count_first_uses, tokens_stay,
+};
 pub use tokens::Tokens;
 
 #[cfg(test)]

@@ -1,11 +1,12 @@
 //! Indices and tokens of a few sets, in the order in which an agent meets and uses them.
 
-ghost use Rattle.std.specs.Prelude.{◌≡◌, ◌<◌, IfOk};
+ghost use Rattle.std.specs.Prelude.{◌≡◌, ◌<◌, IfOk, OnOk};
 
 use crate::Tokens;
 use mp_list::OutOfMemory;
 use mp_sets::Bits;
 use std::alloc::Global;
+use std::process::Abort;
 use std::test::Fail;
 
 /// The set of one number below 4.
@@ -18,37 +19,48 @@ fn set_of_one(alloc: Global, member: u32) -> Result<Bits, OutOfMemory>
     Ok(set)
 }
 
-#[test]
-fn indices_by_first_meeting(rt: HostRuntime) -> Result<(), Fail> {
-    let alloc = rt.alloc();
-    let mut tokens = Tokens::new(alloc, set_of_one(alloc, 3)?)?;
-    assert_eq!(rt; tokens.intern(set_of_one(alloc, 3)?)?, 0);
-    assert_eq!(rt; tokens.intern(set_of_one(alloc, 1)?)?, 1);
-    assert_eq!(rt; tokens.intern(set_of_one(alloc, 2)?)?, 2);
-    assert_eq!(rt; tokens.intern(set_of_one(alloc, 1)?)?, 1);
-    assert_eq!(rt; tokens.intern(set_of_one(alloc, 3)?)?, 0);
-    assert_eq!(rt; tokens.intern(Bits::new(alloc, 4)?)?, 3);
-    assert_eq!(rt; tokens.set_of(0), Some(0));
-    assert_eq!(rt; tokens.set_of(1), None);
+/// Meets a set, which has an index, and uses it if it has a token.
+fn check_set(
+    rt: &impl Abort,
+    alloc: Global,
+    tokens: &mut Tokens,
+    member: u32,
+    index: u64,
+    token: Option<u64>,
+) -> Result<(), OutOfMemory>
+    requires member { member < 4 }
+    requires size { tokens.old.size ≡ 4 }
+    ensures { OnOk result (tokens.new.size ≡ 4) }
+{
+    let set = set_of_one(alloc, member)?;
+    let met = tokens.intern(set_of_one(alloc, member)?)?;
+    assert_eq!(rt; met, index, "{member}");
+    assert_eq!(rt; tokens.index_of(&set), Some(index), "{member}");
+    assert!(rt; tokens.set(met).equal(&set), "{member}");
+    if let Some(token) = token {
+        assert_eq!(rt; tokens.token_of(met)?, token, "{member}");
+        assert_eq!(rt; tokens.set_of(token), Some(index), "{member}");
+    }
     Ok(())
 }
 
 #[test]
-fn tokens_by_first_use(rt: HostRuntime) -> Result<(), Fail> {
+fn indices_by_meeting_and_tokens_by_use(rt: HostRuntime) -> Result<(), Fail> {
     let alloc = rt.alloc();
     let mut tokens = Tokens::new(alloc, set_of_one(alloc, 3)?)?;
-    let one = tokens.intern(set_of_one(alloc, 1)?)?;
-    let two = tokens.intern(set_of_one(alloc, 2)?)?;
-    assert_eq!(rt; tokens.token_of(two)?, 1);
-    assert_eq!(rt; tokens.token_of(0)?, 0);
-    assert_eq!(rt; tokens.token_of(one)?, 2);
-    assert_eq!(rt; tokens.token_of(two)?, 1);
-    assert_eq!(rt; tokens.token_of(one)?, 2);
-    assert_eq!(rt; tokens.set_of(0), Some(0));
-    assert_eq!(rt; tokens.set_of(1), Some(two));
-    assert_eq!(rt; tokens.set_of(2), Some(one));
-    assert_eq!(rt; tokens.set_of(3), None);
-    assert_eq!(rt; tokens.set_of(u64::MAX), None);
-    assert!(rt; tokens.set(two).equal(&set_of_one(alloc, 2)?));
+    // the member of the set that is met, its index, and its token if it is used
+    let rows = [
+        (3, 0, None),
+        (1, 1, None),
+        (2, 2, Some(1)),
+        (3, 0, Some(0)),
+        (1, 1, Some(2)),
+        (2, 2, Some(1)),
+        (0, 3, None),
+    ];
+    for (member, index, token) in rows {
+        check_set(&rt, alloc, &mut tokens, member, index, token)?;
+        assert_eq!(rt; tokens.set_of(3), None);
+    }
     Ok(())
 }

@@ -1,11 +1,9 @@
 //! A table of private sets and of the tokens that stand for them.
 
-ghost use Rattle.std.specs.Prelude.{◌≡◌, ◌<◌, ◌≤◌, ◌∷◌, [], ◌↔◌, All, IfOk, OnErr, IsNone, IfSome, length};
-ghost use Rattle.std.specs.List.{position_or_len};
-ghost use Rattle.std.specs.Prelude.{◌==◌};
+ghost use Rattle.std.specs.Prelude.{◌≡◌, ◌<◌, ◌≤◌, ◌∷◌, [], ◌↔◌, Contains, IfOk, OnErr, IsNone, IsSome, IfSome, length};
 ghost use Rattle.mp_tokens.specs.Order.{set_at, place, with_set, AreDifferent};
-ghost use Rattle.mp_tokens.specs.TokenFields.{members_of};
 
+use indexmap::IndexSet;
 use mp_list::OutOfMemory;
 use mp_sets::Bits;
 use std::alloc::Global;
@@ -18,9 +16,10 @@ use std::marker::Model;
 #[derive(Drop)]
 pub struct Tokens {
     size: u32,
-    sets: Vec<Bits>,
-    /// By token, the index of the set.
-    order: Vec<u64>,
+    /// Each set once; its place is its index.
+    sets: IndexSet<Bits>,
+    /// The indices of the used sets; the place of an index is the token of its set.
+    order: IndexSet<u64>,
 }
 
 impl Model for Tokens {
@@ -37,31 +36,6 @@ impl Model for Tokens {
     ghost invariant = { IsTable };
 }
 
-/// The place of a set in a slice of sets of its size, or the slice's length where it is not there.
-fn place_of(sets: &[Bits], set: &Bits) -> usize
-    requires { All (λ s. s.size ≡ set.now.size) sets.now }
-    ensures { result ≡ place (members_of sets.now) set.now.members }
-{
-    for (index, known) in sets.iter().enumerate() {
-        if known.equal(set) {
-            return index;
-        }
-    }
-    sets.len()
-}
-
-/// The place of a number in a slice, or the slice's length where it is not there.
-fn place_of_number(numbers: &[u64], number: u64) -> usize
-    ensures { result ≡ position_or_len (λ n. n == number) numbers.now }
-{
-    for (at, n) in numbers.iter().enumerate() {
-        if *n == number {
-            return at;
-        }
-    }
-    numbers.len()
-}
-
 impl Tokens {
     /// The table of an initial set alone.
     pub fn new(alloc: Global, start: Bits) -> Result<Tokens, OutOfMemory>
@@ -72,10 +46,10 @@ impl Tokens {
         }) }
     {
         let size = start.size();
-        let mut sets = Vec::new(alloc);
-        sets.push(start)?;
-        let mut order = Vec::new(alloc);
-        order.push(0)?;
+        let mut sets = IndexSet::new(alloc);
+        sets.insert(start)?;
+        let mut order = IndexSet::new(alloc);
+        order.insert(0)?;
         Ok(Tokens { size, sets, order })
     }
 
@@ -89,11 +63,23 @@ impl Tokens {
             × (set_at self.new.sets index ≡ set.members)) }
         ensures err { OnErr result (self.new ≡ self.old) }
     {
-        let index = place_of(&self.sets, &set);
-        if index == self.sets.len() {
-            self.sets.push(set)?;
-        }
+        let (index, _) = self.sets.insert_full(set)?;
         Ok(index as u64)
+    }
+
+    /// The index of a set of the size of the initial one: none exactly where it was not met. It takes no
+    /// memory.
+    pub fn index_of(&self, set: &Bits) -> Option<u64>
+        requires { set.now.size ≡ self.now.size }
+        ensures found { IsSome result ↔ Contains self.now.sets set.now.members }
+        ensures index { IfSome result (λ index. index ≡ place self.now.sets set.now.members) }
+        ensures there { IfSome result (λ index. index < length self.now.sets
+            × (set_at self.now.sets index ≡ set.now.members)) }
+    {
+        let Some(index) = self.sets.get_index_of(set) else {
+            return None;
+        };
+        Some(index as u64)
     }
 
     /// The token of the set with an index, which gets the next one if it has none. For want of memory the
@@ -107,10 +93,7 @@ impl Tokens {
             × (set_at self.new.used token ≡ set_at self.old.sets index)) }
         ensures err { OnErr result (self.new ≡ self.old) }
     {
-        let token = place_of_number(&self.order, index);
-        if token == self.order.len() {
-            self.order.push(index)?;
-        }
+        let (token, _) = self.order.insert_full(index)?;
         Ok(token as u64)
     }
 
@@ -121,7 +104,7 @@ impl Tokens {
             × (set_at self.now.sets index ≡ set_at self.now.used token)) }
         ensures different { AreDifferent self.now.sets }
     {
-        self.order.get(token as usize).copied()
+        self.order.get_index(token as usize).copied()
     }
 
     /// The set with an index.
@@ -129,6 +112,6 @@ impl Tokens {
         requires { index < length self.now.sets }
         ensures { result.now ≡ record { size = self.now.size; members = set_at self.now.sets index } }
     {
-        &self.sets[index as usize]
+        &self.sets.as_slice()[index as usize]
     }
 }

@@ -1,54 +1,48 @@
-use Rattle.std.proofs.Common.{◌≡◌, List, length, sym, ap, ◌∙◌, arith}
-use Rattle.mp_sets.specs.Numbers.{SizedSet, Numbers}
-use Rattle.mp_tokens.specs.Order.{place, with_set}
+use Rattle.std.proofs.Common.{◌≡◌, ◌<◌, List, length, All, sym, ap, subst, ◌∙◌}
+use Rattle.mp_sets.specs.Numbers.{Numbers, SizedSet, same_sized}
+use Rattle.mp_sets.specs.Stub.{sized_decides}
+use Rattle.mp_tokens.specs.Order.{place, with_set, AreDifferent}
 use Rattle.mp_tokens.specs.Table.{TokenTable}
-use Rattle.mp_tokens.specs.TokenFields.{members_of}
-use Rattle.mp_tokens.proofs.Growing.{plain, grown_sizes, grown_different, grown_known, grown_table, grown_place, old_sets}
+use Rattle.mp_tokens.specs.TokenFields.{members_of, sets_at}
+use Rattle.mp_tokens.proofs.Growing.{place_of_key, keys_grow, keys_sizes, keys_different, keys_known, known_members}
 use Rattle.mp_tokens.proofs.Orders.{at_its_place}
+use Rattle.mp_tokens.proofs.Places.{place_with, sets_at_with}
 use Rattle.mp_tokens.proofs.tokens.Tokens.intern.Goals as goal
 
-pub invariant_of-self : goal.invariant_of-self
-invariant_of-self c =
-    let sets = c.self.inside.sets.items in
-    let looked = ap (λ (xs : List SizedSet). place (members_of xs) c.args.set.members) c.deref.ensures.value in
-    let new : place (members_of sets) c.args.set.members ≡ length sets = omega (arith, looked, c.place_of-index.ensures, c.len.ensures) in
+pub invariant_of-self-2 : goal.invariant_of-self-2
+invariant_of-self-2 c =
+    let sets = c.self.inside.sets.keys in
+    let order = c.self.inside.order.keys in
+    let keys = c.in_ok-index.ensures.keys in
     let size : c.args.set.size ≡ c.self.inside.size = c.requires ∙ sym (ap (λ (t : TokenTable). t.size) c.self.view_is) in
+    let sizes : All (λ (s : SizedSet). s.size ≡ c.args.set.size) sets = λ k d h. c.self.invariant.sizes k d h ∙ sym size in
     record {
-      sizes = grown_sizes c.self.inside.size sets c.push.new.self.items c.args.set c.in_ok-push.ensures.items c.self.invariant.sizes size;
-      different = grown_different sets c.push.new.self.items c.args.set c.in_ok-push.ensures.items c.self.invariant.different new;
-      known = grown_known sets c.push.new.self.items c.args.set c.self.inside.order.items c.in_ok-push.ensures.items c.self.invariant.known;
+      sizes = subst (All (λ (s : SizedSet). s.size ≡ c.self.inside.size)) (sym keys) (keys_sizes same_sized c.self.inside.size sets c.args.set c.self.invariant.sizes size);
+      different = subst (λ (ks : List SizedSet). AreDifferent (members_of ks)) (sym keys) (keys_different same_sized sized_decides sets c.args.set sizes c.self.invariant.different);
+      known = subst (λ (ks : List SizedSet). All (λ i. i < length ks) order) (sym keys) (keys_known same_sized sets c.args.set order c.self.invariant.known);
     }
 
-pub returns-in_ok-push-clause-sets : goal.returns-in_ok-push-clause-sets
-returns-in_ok-push-clause-sets c =
-    let sets = c.self.inside.sets.items in
-    let looked = ap (λ (xs : List SizedSet). place (members_of xs) c.args.set.members) c.deref.ensures.value in
-    let new : place (members_of sets) c.args.set.members ≡ length sets = omega (arith, looked, c.place_of-index.ensures, c.len.ensures) in
-    grown_table c.self.inside.size sets c.push.new.self.items c.args.set c.self.inside.order.items c.in_ok-push.ensures.items c.self.invariant.known new
-    ∙ ap (λ (t : TokenTable). record { size = t.size; sets = with_set t.sets c.args.set.members; used = t.used }) c.self.view_is
+pub returns-clause-sets : goal.returns-clause-sets
+returns-clause-sets c =
+    let sets = c.self.inside.sets.keys in
+    let order = c.self.inside.order.keys in
+    let s = c.args.set.members in
+    let size : c.args.set.size ≡ c.self.inside.size = c.requires ∙ sym (ap (λ (t : TokenTable). t.size) c.self.view_is) in
+    let sizes : All (λ (s : SizedSet). s.size ≡ c.args.set.size) sets = λ k d h. c.self.invariant.sizes k d h ∙ sym size in
+    let grown : members_of c.insert_full.new.self.keys ≡ with_set (members_of sets) s = ap members_of c.in_ok-index.ensures.keys ∙ keys_grow same_sized sized_decides sets c.args.set sizes in
+    let used : sets_at (members_of c.insert_full.new.self.keys) order ≡ sets_at (members_of sets) order = ap (λ (m : List Numbers). sets_at m order) grown ∙ sets_at_with (members_of sets) s order (known_members sets order c.self.invariant.known) in
+    (λ j. record { size = c.self.inside.size; sets = grown j; used = used j })
+    ∙ ap (λ (t : TokenTable). record { size = t.size; sets = with_set t.sets s; used = t.used }) c.self.view_is
 
-pub returns-in_ok-push-clause-index : goal.returns-in_ok-push-clause-index
-returns-in_ok-push-clause-index c =
-    let sets = c.self.inside.sets.items in
-    let looked = ap (λ (xs : List SizedSet). place (members_of xs) c.args.set.members) c.deref.ensures.value in
-    let new : place (members_of sets) c.args.set.members ≡ length sets = omega (arith, looked, c.place_of-index.ensures, c.len.ensures) in
-    c.place_of-index.ensures ∙ looked ∙ new ∙ sym (grown_place sets c.push.new.self.items c.args.set c.in_ok-push.ensures.items new)
+pub returns-clause-index : goal.returns-clause-index
+returns-clause-index c =
+    let sets = c.self.inside.sets.keys in
+    let s = c.args.set.members in
+    let size : c.args.set.size ≡ c.self.inside.size = c.requires ∙ sym (ap (λ (t : TokenTable). t.size) c.self.view_is) in
+    let sizes : All (λ (s : SizedSet). s.size ≡ c.args.set.size) sets = λ k d h. c.self.invariant.sizes k d h ∙ sym size in
+    let grown : members_of c.insert_full.new.self.keys ≡ with_set (members_of sets) s = ap members_of c.in_ok-index.ensures.keys ∙ keys_grow same_sized sized_decides sets c.args.set sizes in
+    c.in_ok-index.ensures.index ∙ place_of_key same_sized sized_decides sets c.args.set sizes ∙ sym (place_with (members_of sets) s) ∙ ap (λ (m : List Numbers). place m s) (sym grown)
 
-pub returns-else-index-len-clause-sets : goal.returns-else-index-len-clause-sets
-returns-else-index-len-clause-sets c =
-    let sets = c.self.inside.sets.items in
-    let looked = ap (λ (xs : List SizedSet). place (members_of xs) c.args.set.members) c.deref.ensures.value in
-    let len : c.len.result ≡ length sets = omega (arith, c.len.ensures) in
-    let old = old_sets sets c.args.set.members (λ e. c.if-index-len.false (c.place_of-index.ensures ∙ looked ∙ e ∙ sym len)) in
-    sym c.self.view_is
-    ∙ sym (ap (λ (m : List Numbers). record { size = c.self.inside.size; sets = m; used = (plain c.self.inside.size sets c.self.inside.order.items).used }) old)
-    ∙ ap (λ (t : TokenTable). record { size = t.size; sets = with_set t.sets c.args.set.members; used = t.used }) c.self.view_is
-
-pub returns-in_ok-push-clause-there : goal.returns-in_ok-push-clause-there
-returns-in_ok-push-clause-there c =
-    at_its_place c.args.self.now.sets (members_of c.push.new.self.items) c.args.set.members c.place_of-index.result (ap (λ (t : TokenTable). t.sets) (returns-in_ok-push-clause-sets c)) (returns-in_ok-push-clause-index c)
-
-pub returns-else-index-len-clause-there : goal.returns-else-index-len-clause-there
-returns-else-index-len-clause-there c =
-    let looked = ap (λ (xs : List SizedSet). place (members_of xs) c.args.set.members) c.deref.ensures.value in
-    at_its_place c.args.self.now.sets c.args.self.now.sets c.args.set.members c.place_of-index.result (ap (λ (t : TokenTable). t.sets) (returns-else-index-len-clause-sets c)) (c.place_of-index.ensures ∙ looked ∙ ap (λ (t : TokenTable). place t.sets c.args.set.members) c.self.view_is)
+pub returns-clause-there : goal.returns-clause-there
+returns-clause-there c =
+    at_its_place c.args.self.now.sets (members_of c.insert_full.new.self.keys) c.args.set.members c.in_ok-index.index (ap (λ (t : TokenTable). t.sets) (returns-clause-sets c)) (returns-clause-index c)
