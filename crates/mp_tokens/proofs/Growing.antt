@@ -1,5 +1,5 @@
 -- How a table grows: by a set that was met, and by the use of a set.
-use Rattle.std.proofs.Common.{◌≡◌, ℕ, zero, suc, ◌+◌, ◌<◌, ◌≤◌, Bool, true, false, cond, not, ◌||◌, eqb, ltb, List, [], ◌∷◌, ◌++◌, length, get_or, All, Option, Some, None, refl, sym, ap, subst, ◌∙◌, arith}
+use Rattle.std.proofs.Common.{◌≡◌, ℕ, suc, ◌+◌, ◌<◌, ◌≤◌, Bool, true, false, cond, not, ◌||◌, eqb, ltb, List, [], ◌∷◌, ◌++◌, length, get_or, All, Some, None, refl, sym, ap, subst, ◌∙◌, arith}
 use Rattle.std.specs.Bool.{Decides}
 use Rattle.std.specs.List.{position, position_or_len, list_any}
 use Rattle.std.specs.FinSet as set
@@ -11,7 +11,7 @@ use Rattle.std.proofs.lemmas.List.Elements.{All-append, All-from_recursion}
 use Rattle.std.proofs.lemmas.List.Sums.{fails_before_first, passes_at_first, prefix_len-le-length}
 use Rattle.indexmap.specs.IndexSet.{insert_key}
 use Rattle.mp_sets.specs.Numbers.{Numbers, SizedSet, same}
-use Rattle.mp_sets.specs.Stub.{same_itself, same_not}
+use Rattle.mp_sets.proofs.SetLemmas.{same_itself, same_not}
 use Rattle.mp_tokens.specs.Order.{place, with_set, AreDifferent}
 use Rattle.mp_tokens.specs.TokenFields.{members_of, sets_at}
 use Rattle.mp_tokens.proofs.Places.{place_is, different_with, members_push, sets_at_push, place_by_index}

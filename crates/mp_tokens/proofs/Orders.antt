@@ -8,7 +8,7 @@ use Rattle.std.proofs.lemmas.List.{length-append, get_or_append_left, get_or_def
 use Rattle.std.proofs.lemmas.List.Elements.{Contains-append_left, Contains-append_right, Contains-append_cases}
 use Rattle.mp_sets.specs.Numbers.{Numbers}
 use Rattle.mp_tokens.specs.Order.{place, with_set, with_sets, order_of_use, token, AreDifferent}
-use Rattle.mp_tokens.proofs.Places.{place_within, place_of_first, place_of_none, at_place, not_before, old_or_new, with_old, with_new, place_of_new, different_with}
+use Rattle.mp_tokens.proofs.Places.{place_of_first, place_of_none, at_place, not_before, old_or_new, with_old, with_new, place_of_new, different_with}
 
 -- ---- one set more
 

@@ -1,16 +1,15 @@
 -- Places of sets in lists.
-use Rattle.std.proofs.Common.{◌≡◌, ℕ, zero, suc, ◌+◌, ◌<◌, ◌≤◌, Bool, true, false, cond, eqb, ltb, ◌&&◌, not, List, [], ◌∷◌, ◌++◌, length, get_or, All, refl, sym, ap, subst, ◌∙◌, arith, ◌⊎◌, inl, inr}
+use Rattle.std.proofs.Common.{◌≡◌, ℕ, zero, suc, ◌+◌, ◌<◌, ◌≤◌, Bool, true, false, cond, eqb, ltb, not, List, [], ◌∷◌, ◌++◌, length, get_or, All, refl, sym, ap, subst, ◌∙◌, arith, ◌⊎◌, inl, inr}
 use Rattle.std.specs.List.{position_or_len}
-use Rattle.std.specs.Cmp.{nat_cmp_total}
 use Rattle.std.specs.FinSet as set
-use Rattle.std.proofs.lemmas.Bool.{eqb-true, cases_lt, lt-ltb, le-ltb, false≢true, false_from_ne_true}
+use Rattle.std.proofs.lemmas.Bool.{eqb-true, cases_lt, lt-ltb, le-ltb, false≢true}
 use Rattle.std.proofs.lemmas.Bool.Decides.{nat_tests}
 use Rattle.std.proofs.Math.ListN.{get_or-map}
 use Rattle.std.proofs.Math.Seq.{get_or-append_seam}
-use Rattle.std.proofs.lemmas.List.{length-map, length-append, map-append, get_or_append_left, get_or_read}
+use Rattle.std.proofs.lemmas.List.{length-map, length-append, map-append, get_or_append_left}
 use Rattle.std.proofs.lemmas.List.Sums.{position_or_len_is, fails_before_first, passes_at_first, prefix_len-le-length}
 use Rattle.mp_sets.specs.Numbers.{Numbers, SizedSet, same}
-use Rattle.mp_sets.specs.Stub.{same_is, same_itself, same_not}
+use Rattle.mp_sets.proofs.SetLemmas.{same_is, same_itself, same_not}
 use Rattle.mp_tokens.specs.Order.{place, with_set, AreDifferent}
 use Rattle.mp_tokens.specs.TokenFields.{members_of, sets_at}
 
