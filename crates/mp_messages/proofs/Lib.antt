@@ -1,4 +1,3 @@
-pub mod Rising
 pub mod Loops
 pub mod Taking
 pub mod Fields

@@ -13,7 +13,7 @@ use Rattle.mp_messages.specs.Spelling.{number, short_number, tag, counted, state
 use Rattle.mp_messages.specs.Reading.{◌>>=◌, digits_at, number_at, tag_at, tags_at, fact_at, facts_at, counted_at, costs_at, state_at}
 use Rattle.mp_messages.proofs.Taking.{IsBytes, bind_some, unless_some, some_is, Takes, Takes-then, Takes-none}
 use Rattle.mp_messages.proofs.Fields.{short_number_takes, short_number_again, number_takes, number_again, tag_takes, tag_again}
-use Rattle.mp_messages.proofs.Rising.{RisesFrom, RisesFrom-made, RisesFrom-rises, RisesFrom-below, rising_short}
+use Rattle.mp_sets.proofs.RisingLemmas.{RisesFrom, RisesFrom-made, RisesFrom-rises, RisesFrom-below, rising_short}
 
 -- ---- tags
 

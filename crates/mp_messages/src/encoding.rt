@@ -61,7 +61,7 @@ fn put_tag(out: &mut Bytes, t: &Tag) -> Result<(), OutOfMemory>
     put_flag(out, t.met)
 }
 
-#[tactic(auto, using(crate::proofs::Rising::rising_short), unfolding(crate::specs::Spelling::counted))]
+#[tactic(auto, using(mp_sets::proofs::RisingLemmas::rising_short), unfolding(crate::specs::Spelling::counted))]
 fn put_facts(out: &mut Bytes, facts: &FactList) -> Result<(), OutOfMemory>
     requires { All (λ x. x < 2 ^ 32 - 1) facts.now }
     ensures bytes { OnOk result (out.new ≡ out.old ++ counted facts.now) }

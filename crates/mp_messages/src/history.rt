@@ -16,7 +16,7 @@ pub type Log = List<Entry>;
 pub type EventList = List<Event>;
 
 /// One step of one agent.
-#[derive(Clone, Copy, Debug, PartialEq, Eq)]
+#[derive(Clone, Copy, Debug, PartialEq, Eq, PartialOrd, Ord, Hash)]
 pub enum Event {
     /// An agent expands one state.
     Expand(Agent),
@@ -32,7 +32,7 @@ pub enum Event {
 }
 
 /// What an agent does by itself.
-#[derive(Clone, Copy, Debug, PartialEq, Eq)]
+#[derive(Clone, Copy, Debug, PartialEq, Eq, PartialOrd, Ord, Hash)]
 pub enum Kind {
     /// It expands one state.
     Expand,
@@ -41,7 +41,7 @@ pub enum Kind {
 }
 
 /// One entry of a log.
-#[derive(Drop)]
+#[derive(Debug, PartialEq, Eq, PartialOrd, Ord, Hash, Drop)]
 pub enum Entry {
     /// An agent expanded a state or started a snapshot.
     Act(Agent, Kind),

@@ -2,7 +2,7 @@ use Rattle.std.proofs.Common.{sym, subst, List, ℕ, ◌+◌, ◌≤◌}
 use Rattle.mp_sets.specs.Numbers.{IsAboveLast}
 use Rattle.mp_messages.specs.Reading.{facts_at}
 use Rattle.mp_messages.proofs.Loops.{facts_go_on, facts_stop, facts_end}
-use Rattle.mp_messages.proofs.Rising.{above_pushed}
+use Rattle.mp_sets.proofs.RisingLemmas.{above_pushed}
 use Rattle.mp_messages.proofs.decoding.facts.Goals as goal
 
 pub returns-in_default : goal.returns-in_default
