@@ -4,3 +4,4 @@ pub mod Fields
 pub mod States
 pub mod Messages
 pub mod Histories
+pub mod Comparisons

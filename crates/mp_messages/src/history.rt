@@ -41,7 +41,7 @@ pub enum Kind {
 }
 
 /// One entry of a log.
-#[derive(Debug, PartialEq, Eq, PartialOrd, Ord, Hash, Drop)]
+#[derive(Debug, PartialEq, Eq, Hash, Drop)]
 pub enum Entry {
     /// An agent expanded a state or started a snapshot.
     Act(Agent, Kind),

@@ -1,8 +1,14 @@
 //! Laws of messages and of histories. Each holds for every message, every team and every log.
 
-ghost use Rattle.std.specs.Prelude.{◌≡◌, ℕ, ◌<◌, ◌^◌, ◌∷◌, ◌++◌, ◌↔◌, [], List, All, Some, length, take};
+ghost use Rattle.std.specs.Prelude.{◌≡◌, IsTrue, ℕ, ◌<◌, ◌^◌, ◌∷◌, ◌++◌, ◌↔◌, [], List, All, Some, length, take};
+ghost use Rattle.mp_messages.specs.Comparing.{end_kind_eq, entry_eq, event_eq, findings_eq, kind_eq, message_eq, state_eq};
 ghost use Rattle.mp_messages.specs.declared.history.Entry.{Entry};
+ghost use Rattle.mp_messages.specs.declared.history.Event.{Event};
+ghost use Rattle.mp_messages.specs.declared.history.Kind.{Kind};
+ghost use Rattle.mp_messages.specs.declared.message.EndKind.{EndKind};
+ghost use Rattle.mp_messages.specs.declared.message.Findings.{Findings};
 ghost use Rattle.mp_messages.specs.declared.message.Message.{Message};
+ghost use Rattle.mp_messages.specs.declared.message.State.{State};
 ghost use Rattle.mp_messages.specs.History.{IsHistory, MayFollow, received, sent};
 ghost use Rattle.mp_messages.specs.Reading.{message_of};
 ghost use Rattle.mp_messages.specs.Spelling.{IsSpelling};
@@ -46,4 +52,19 @@ pub fn fronts_of_histories_are_legal()
 pub fn messages_come_in_order()
     ensures { (log : List Entry) (from to : ℕ) → IsHistory log
         → received from to log ≡ take (length (received from to log)) (sent from to log) }
+{}
+
+/// Messages and what they consist of are equal exactly where they are one value.
+pub fn equal_messages_are_one()
+    ensures messages { (m n : Message) → IsTrue (message_eq m n) ↔ (m ≡ n) }
+    ensures states { (s t : State) → IsTrue (state_eq s t) ↔ (s ≡ t) }
+    ensures findings { (f g : Findings) → IsTrue (findings_eq f g) ↔ (f ≡ g) }
+    ensures endings { (a b : EndKind) → IsTrue (end_kind_eq a b) ↔ (a ≡ b) }
+{}
+
+/// Entries of a log and what they consist of are equal exactly where they are one value.
+pub fn equal_entries_are_one()
+    ensures entries { (a b : Entry) → IsTrue (entry_eq a b) ↔ (a ≡ b) }
+    ensures events { (a b : Event) → IsTrue (event_eq a b) ↔ (a ≡ b) }
+    ensures kinds { (a b : Kind) → IsTrue (kind_eq a b) ↔ (a ≡ b) }
 {}

@@ -11,8 +11,9 @@ pub use decoding::{DecodeRefusal, decode};
 pub use encoding::encode;
 pub use history::{Bytes, Entry, Event, EventList, Kind, Log, Views};
 pub use laws::{
-    fronts_of_histories_are_legal, histories_grow_by_entries, messages_come_in_order,
-    no_spelling_begins_another, spelling_is_one_to_one, spellings_are_read_from_left_to_right,
+    equal_entries_are_one, equal_messages_are_one, fronts_of_histories_are_legal,
+    histories_grow_by_entries, messages_come_in_order, no_spelling_begins_another,
+    spelling_is_one_to_one, spellings_are_read_from_left_to_right,
 };
 pub use message::{EndKind, Findings, Message, State};
 

@@ -4,7 +4,7 @@ use mp_list::{Copied, OutOfMemory};
 use mp_sets::{FactList, Tags};
 
 /// A state that its sender reached, for the other agents to go on from.
-#[derive(Debug, PartialEq, Eq, PartialOrd, Ord, Hash, Drop)]
+#[derive(Debug, PartialEq, Eq, Hash, Drop)]
 pub struct State {
     /// The sender's number of it, from 0 in the order of sending.
     pub sent: u64,
@@ -19,7 +19,7 @@ pub struct State {
 }
 
 /// What an agent found until a snapshot.
-#[derive(Clone, Copy, Debug, PartialEq, Eq, PartialOrd, Ord, Hash)]
+#[derive(Clone, Copy, Debug, PartialEq, Eq, Hash)]
 pub struct Findings {
     /// The number of the snapshot, from 1.
     pub number: u64,
@@ -43,7 +43,7 @@ pub enum EndKind {
 }
 
 /// A message.
-#[derive(Debug, PartialEq, Eq, PartialOrd, Ord, Hash, Drop)]
+#[derive(Debug, PartialEq, Eq, Hash, Drop)]
 pub enum Message {
     /// A state to go on from.
     State(State),
