@@ -1,7 +1,14 @@
-pub mod Loops
+-- bytes that a reader takes from the front
 pub mod Taking
+-- fields: what is read is spelled so, and what is spelled so is read
 pub mod Fields
+-- the same of a whole state
 pub mod States
+-- the same of messages, and what follows for what reads them
 pub mod Messages
+-- loops that read one item after the other
+pub mod Loops
+-- histories that grow
 pub mod Histories
+-- what `==` answers
 pub mod Comparisons

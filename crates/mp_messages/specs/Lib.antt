@@ -1,4 +1,8 @@
+-- what may be sent, and its bytes
 pub mod Spelling
+-- reading bytes from left to right
 pub mod Reading
+-- logs of what was done, put and taken
 pub mod History
+-- what `==` answers
 pub mod Comparing

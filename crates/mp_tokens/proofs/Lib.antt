@@ -1,3 +1,6 @@
+-- places of sets in lists, and lists with one set more
 pub mod Places
-pub mod Growing
+-- the order of first use
 pub mod Orders
+-- a table that grows
+pub mod Growing
