@@ -1,5 +1,6 @@
 -- The earliest fault of lists that are read one member after the other, as a loop does.
-use Rattle.std.proofs.Common.{◌≡◌, ℕ, suc, ◌+◌, ◌<◌, ◌≤◌, List, [], ◌∷◌, ◌++◌, length, get_or, take, drop, ◌-◌, Option, Some, refl, sym, ap, ◌∙◌, drop-cons, arith}
+use Rattle.std.proofs.Common.{◌≡◌, ℕ, Bool, true, false, suc, ◌+◌, ◌<◌, ◌≤◌, List, [], ◌∷◌, ◌++◌, length, get_or, take, drop, ◌-◌, Option, Some, refl, sym, ap, ◌∙◌, drop-cons, arith}
+use Rattle.std.specs.Prelude.{if◌then◌else◌}
 use Rattle.std.proofs.Math.ListN.{drop_of_length-le}
 use Rattle.std.proofs.lemmas.List.{take_more, map-append}
 use Rattle.mp_sexp.specs.declared.tree.Tree.{Tree}
@@ -10,6 +11,11 @@ use Rattle.mp_factor.specs.Faults.{leftmost, earlier}
 pub leftmost_append : (o : Option Fault) (xs ys : List Fault) → leftmost o (xs ++ ys) ≡ leftmost (leftmost o xs) ys
 leftmost_append o [] ys = refl
 leftmost_append o (x ∷ xs) ys = leftmost_append (Some (earlier o x)) xs ys
+
+-- a fault that would not be the first one may be there or not
+pub behind_all : (o : Option Fault) (fault : Fault) (b : Bool) → leftmost o (fault ∷ []) ≡ o → leftmost o (if b then fault ∷ [] else []) ≡ o
+behind_all o fault true e = e
+behind_all o fault false e = refl
 
 -- one member is read: its faults, and those of what follows
 pub goes_on : (F G : List Node → List Fault) (m : List Fault) (o o' whole : Option Fault) (trees : List Tree) (i : ℕ) (tree : Tree)

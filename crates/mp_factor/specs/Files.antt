@@ -81,30 +81,37 @@ unfoldable pub has_section : List ℕ → List Node → Bool
 has_section keyword [] = false
 has_section keyword (n ∷ ns) = if is_headed keyword n then true else has_section keyword ns
 
--- a known section that stands among these too; only actions may stand more than once
-unfoldable pub is_second : File → List Node → Node → Bool
-is_second file before head =
-    is_known (section_kind file head) && (not (is_word (codes ":action") head) && has_section (word_of head) before)
-
 -- a section with this first member and these behind it
-unfoldable pub headed_section_faults : File → Bool → Place → Node → List Node → List Fault
-headed_section_faults file is_again whole head nodes =
+unfoldable pub headed_section_faults : File → Place → Node → List Node → List Fault
+headed_section_faults file whole head nodes =
     if is_list head then misshapen (place_of head)
     else (if not (is_known (section_kind file head)) && is_known (section_kind (other_file file) head) then misshapen whole
-    else (if is_again then misshapen whole
-    else content_faults (section_kind file head) whole head nodes))
+    else content_faults (section_kind file head) whole head nodes)
 
-abbrev pub section_parts : File → List Node → Place → List Node → List Fault
-section_parts file before whole [] = misshapen whole
-section_parts file before whole (head ∷ nodes) = headed_section_faults file (is_second file before head) whole head nodes
+abbrev pub section_parts : File → Place → List Node → List Fault
+section_parts file whole [] = misshapen whole
+section_parts file whole (head ∷ nodes) = headed_section_faults file whole head nodes
 
--- a section behind these
-unfoldable pub section_faults : File → List Node → Node → List Fault
-section_faults file before node = section_parts file before (place_of node) (parts node)
+-- a section by itself
+unfoldable pub section_faults : File → Node → List Fault
+section_faults file node = section_parts file (place_of node) (parts node)
 
-unfoldable pub sections_faults : File → List Node → List Node → List Fault
-sections_faults file before [] = []
-sections_faults file before (n ∷ ns) = section_faults file before n ++ sections_faults file (before ++ n ∷ []) ns
+unfoldable pub sections_faults : File → List Node → List Fault
+sections_faults file [] = []
+sections_faults file (n ∷ ns) = section_faults file n ++ sections_faults file ns
+
+-- a known section that stands among these too; only actions may stand more than once
+abbrev pub is_second : File → List Node → List Node → Bool
+is_second file before [] = false
+is_second file before (head ∷ nodes) =
+    is_known (section_kind file head) && (not (is_word (codes ":action") head) && has_section (word_of head) before)
+
+unfoldable pub second_faults : File → List Node → Node → List Fault
+second_faults file before node = if is_second file before (parts node) then misshapen (place_of node) else []
+
+unfoldable pub all_second_faults : File → List Node → List Node → List Fault
+all_second_faults file before [] = []
+all_second_faults file before (n ∷ ns) = second_faults file before n ++ all_second_faults file (before ++ n ∷ []) ns
 
 unfoldable pub keyword_faults : List ℕ → Node → List Fault
 keyword_faults keyword node = if is_word keyword node then [] else misshapen (place_of node)
@@ -136,7 +143,7 @@ parts_faults file whole [] = misshapen whole
 parts_faults file whole (n ∷ []) = misshapen whole
 parts_faults file whole (head ∷ title ∷ sections) =
     keyword_faults (codes "define") head ++ title_faults (kind_word_of file) title ++ missing_domain file whole sections
-    ++ sections_faults file [] sections
+    ++ sections_faults file sections ++ all_second_faults file [] sections
 
 -- every fault of a file
 unfoldable pub file_faults : File → Node → List Fault

@@ -7,7 +7,7 @@ ghost use Rattle.mp_factor.specs.Actions.{one_more, part_of_key, part_behind, co
 
 use crate::conditions::condition_fault;
 use crate::effects::{Found, effect_fault};
-use crate::fault::{Fault, FaultKind, with};
+use crate::fault::{Fault, FaultKind, is_behind, with};
 use crate::trees::{is_list, is_same_word, is_variable, is_word, members, place};
 use crate::typed::{ItemKind, name_fault, type_fault, typed_fault};
 use mp_sexp::{Place, Tree};
@@ -245,11 +245,11 @@ fn is_repeated(before: &[Tree], tree: &Tree) -> bool
 }
 
 /// The first fault, with that of a key that stands before too.
-#[tactic(auto, using(crate::proofs::Steps::leftmost_append), unfolding(crate::specs::Actions::repeated_faults))]
+#[tactic(auto, using(crate::proofs::Steps::behind_all), unfolding(crate::specs::Actions::repeated_faults))]
 fn repeated_fault(least: Option<Fault>, before: &[Tree], tree: &Tree) -> Option<Fault>
     ensures { result ≡ leftmost least (repeated_faults (nodes_in before.now) (node_of tree.now)) }
 {
-    if is_repeated(before, tree) {
+    if !is_behind(least, place(tree), FaultKind::Shape) && is_repeated(before, tree) {
         with(least, place(tree), FaultKind::Shape)
     } else {
         least

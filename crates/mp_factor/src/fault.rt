@@ -1,5 +1,6 @@
 //! What is wrong in a tree, and which of two faults comes first.
 
+ghost use Rattle.std.specs.Bool.{OnTrue};
 ghost use Rattle.std.specs.Prelude.{◌≡◌, ◌∷◌, []};
 ghost use Rattle.mp_factor.specs.Faults.{rank_of, is_earlier, leftmost, fault_at};
 
@@ -62,5 +63,17 @@ pub fn with(least: Option<Fault>, place: Place, kind: FaultKind) -> Option<Fault
             }
         }
         None => Some(fault),
+    }
+}
+
+/// Whether a fault here would not be the first one: then nobody needs to know whether it is there. What is asked once
+/// for each member of a long list, at the cost of a look at all members before it, is so asked only as far as the first
+/// answer that is yes.
+pub fn is_behind(least: Option<Fault>, place: Place, kind: FaultKind) -> bool
+    ensures { OnTrue result (leftmost least (fault_at place kind ∷ []) ≡ least) }
+{
+    match least {
+        Some(other) => !is_before(Fault { place, kind }, other),
+        None => false,
     }
 }

@@ -4,10 +4,10 @@ ghost use Rattle.std.specs.Prelude.{◌≡◌, [], None, MatchOption};
 ghost use Rattle.mp_sexp.specs.Node.{node_of, nodes_in};
 ghost use Rattle.mp_factor.specs.Faults.{leftmost};
 ghost use Rattle.mp_factor.specs.First.{IsFirst};
-ghost use Rattle.mp_factor.specs.Files.{domain_section_of, problem_section_of, other_file, kind_word_of, parts_faults, section_kind as section_kind_of, content_faults, has_section as has_section_of, is_second as second_test, headed_section_faults, section_faults, sections_faults, title_parts, title_faults, keyword_faults, missing_domain as missing_domain_of, file_faults};
+ghost use Rattle.mp_factor.specs.Files.{domain_section_of, problem_section_of, other_file, kind_word_of, parts_faults, section_kind as section_kind_of, content_faults, has_section as has_section_of, is_second as second_test, headed_section_faults, section_faults, sections_faults, second_faults, all_second_faults, title_parts, title_faults, keyword_faults, missing_domain as missing_domain_of, file_faults};
 
 use crate::actions::action_fault;
-use crate::fault::{Fault, FaultKind, with};
+use crate::fault::{Fault, FaultKind, is_behind, with};
 use crate::init::init_fault;
 use crate::objects::objects_fault;
 use crate::sections::{goal_fault, metric_fault, requirements_fault, single_name_fault};
@@ -144,27 +144,16 @@ pub fn has_section(trees: &[Tree], keyword: &[u8]) -> bool
     false
 }
 
-/// Whether a known section like this stands among these, and may stand once only.
-#[tactic(auto, using(crate::proofs::Steps::leftmost_append), unfolding(crate::specs::Files::is_second))]
-fn is_second(file: File, before: &[Tree], head: &Tree) -> bool
-    ensures { result ≡ second_test file (nodes_in before.now) (node_of head.now) }
-{
-    section_kind(file, head) != SectionKind::Unknown
-        && !is_word(head, b":action")
-        && has_section(before, word(head))
-}
-
 /// The first fault, with those of a section that begins with this.
 #[tactic(auto, using(crate::proofs::Steps::leftmost_append), unfolding(crate::specs::Files::headed_section_faults))]
 fn headed_section_fault(
     least: Option<Fault>,
     file: File,
-    is_again: bool,
     whole: Place,
     head: &Tree,
     trees: &[Tree],
 ) -> Option<Fault>
-    ensures { result ≡ leftmost least (headed_section_faults file is_again whole (node_of head.now) (nodes_in trees.now)) }
+    ensures { result ≡ leftmost least (headed_section_faults file whole (node_of head.now) (nodes_in trees.now)) }
 {
     let kind = section_kind(file, head);
     if is_list(head) {
@@ -173,39 +162,68 @@ fn headed_section_fault(
         && section_kind(other(file), head) != SectionKind::Unknown
     {
         with(least, whole, FaultKind::Shape)
-    } else if is_again {
-        with(least, whole, FaultKind::Shape)
     } else {
         content_fault(least, kind, whole, head, trees)
     }
 }
 
-/// The first fault, with those of a section behind these.
+/// The first fault, with those of a section by itself.
 #[tactic(auto, using(crate::proofs::Steps::leftmost_append), unfolding(crate::specs::Files::section_faults))]
-fn section_fault(least: Option<Fault>, file: File, before: &[Tree], tree: &Tree) -> Option<Fault>
-    ensures { result ≡ leftmost least (section_faults file (nodes_in before.now) (node_of tree.now)) }
+fn section_fault(least: Option<Fault>, file: File, tree: &Tree) -> Option<Fault>
+    ensures { result ≡ leftmost least (section_faults file (node_of tree.now)) }
 {
     match members(tree) {
         [] => with(least, place(tree), FaultKind::Shape),
-        [head, rest @ ..] => headed_section_fault(
-            least,
-            file,
-            is_second(file, before, head),
-            place(tree),
-            head,
-            rest,
-        ),
+        [head, rest @ ..] => headed_section_fault(least, file, place(tree), head, rest),
     }
 }
 
-/// The first fault, with those of the sections.
+/// The first fault, with those of the sections, each by itself.
 #[tactic(auto, using(crate::proofs::Steps::leftmost_append), unfolding(crate::specs::Files::sections_faults))]
 fn sections_fault(least: Option<Fault>, file: File, trees: &[Tree]) -> Option<Fault>
-    ensures { result ≡ leftmost least (sections_faults file [] (nodes_in trees.now)) }
+    ensures { result ≡ leftmost least (sections_faults file (nodes_in trees.now)) }
+{
+    let mut first = least;
+    for tree in trees {
+        first = section_fault(first, file, tree);
+    }
+    first
+}
+
+/// Whether these are the members of a known section that stands among these too, and may stand once only.
+fn is_second(file: File, before: &[Tree], trees: &[Tree]) -> bool
+    ensures { result ≡ second_test file (nodes_in before.now) (nodes_in trees.now) }
+{
+    match trees {
+        [] => false,
+        [head, ..] => {
+            section_kind(file, head) != SectionKind::Unknown
+                && !is_word(head, b":action")
+                && has_section(before, word(head))
+        }
+    }
+}
+
+/// The first fault, with that of a section that stands before too.
+#[tactic(auto, using(crate::proofs::Steps::behind_all), unfolding(crate::specs::Files::second_faults))]
+fn second_fault(least: Option<Fault>, file: File, before: &[Tree], tree: &Tree) -> Option<Fault>
+    ensures { result ≡ leftmost least (second_faults file (nodes_in before.now) (node_of tree.now)) }
+{
+    if !is_behind(least, place(tree), FaultKind::Shape) && is_second(file, before, members(tree)) {
+        with(least, place(tree), FaultKind::Shape)
+    } else {
+        least
+    }
+}
+
+/// The first fault, with those of sections that stand more than once.
+#[tactic(auto, using(crate::proofs::Steps::leftmost_append), unfolding(crate::specs::Files::all_second_faults))]
+fn seconds_fault(least: Option<Fault>, file: File, trees: &[Tree]) -> Option<Fault>
+    ensures { result ≡ leftmost least (all_second_faults file [] (nodes_in trees.now)) }
 {
     let mut first = least;
     for (i, tree) in trees.iter().enumerate() {
-        first = section_fault(first, file, &trees[..i], tree);
+        first = second_fault(first, file, &trees[..i], tree);
     }
     first
 }
@@ -274,7 +292,7 @@ fn parts_fault(file: File, whole: Place, trees: &[Tree]) -> Option<Fault>
             let begun = keyword_fault(None, b"define", head);
             let named = title_fault(begun, kind_word(file), title);
             let owned = missing_domain(named, file, whole, sections);
-            sections_fault(owned, file, sections)
+            seconds_fault(sections_fault(owned, file, sections), file, sections)
         }
     }
 }

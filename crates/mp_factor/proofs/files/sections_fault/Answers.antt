@@ -1,14 +1,11 @@
-use Rattle.std.proofs.Common.{List, ◌++◌, take, ◌+◌, ap}
-use Rattle.mp_sexp.specs.Node.{Node, node_of, nodes_in}
-use Rattle.mp_factor.specs.Files.{sections_faults, section_faults}
-use Rattle.mp_factor.proofs.Steps.{goes_on, one_before}
+use Rattle.std.proofs.Common.{List, refl}
+use Rattle.mp_sexp.specs.Node.{Node}
+use Rattle.mp_factor.specs.Files.{sections_faults}
+use Rattle.mp_factor.proofs.Steps.{goes_on}
 use Rattle.mp_factor.proofs.files.sections_fault.Goals as goal
 
-pub loop-i-preserved : goal.loop-i-preserved
+pub loop-tree-preserved : goal.loop-tree-preserved
 unfolding sections_faults
-loop-i-preserved c =
-    goes_on (λ (ns : List Node). sections_faults c.args.file (nodes_in (take c.loop-i.i c.args.trees.now)) ns)
-    (λ (ns : List Node). sections_faults c.args.file (nodes_in (take (c.loop-i.i + 1) c.args.trees.now)) ns) _ _ _ _ c.args.trees.now c.loop-i.i c.index-trees-i.result
-    c.loop-i-test.true c.index-trees-i.is
-    (λ (ns : List Node). ap (λ (before : List Node). section_faults c.args.file (nodes_in (take c.loop-i.i c.args.trees.now)) (node_of c.index-trees-i.result) ++ sections_faults c.args.file before ns) (one_before c.args.trees.now c.loop-i.i c.index-trees-i.result c.loop-i-test.true c.index-trees-i.is))
-    c.section_fault-first.ensures c.loop-i.invariant
+loop-tree-preserved c =
+    goes_on (λ (ns : List Node). sections_faults c.args.file ns) (λ (ns : List Node). sections_faults c.args.file ns) _ _ _ _ c.args.trees.now c.loop-tree.tree-index c.tree-item.result
+    c.loop-tree-test.true c.tree-item.is (λ (ns : List Node). refl) c.section_fault-first.ensures c.loop-tree.invariant
