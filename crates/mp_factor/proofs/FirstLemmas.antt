@@ -1,6 +1,6 @@
 -- The earliest of some faults is one of them, and none of them comes before it.
 use Rattle.std.proofs.Common.{◌≡◌, ℕ, suc, zero, Bool, true, false, List, [], ◌∷◌, Option, Some, None, refl, sym, subst, arith, inl, inr}
-use Rattle.std.specs.Prelude.{◌==◌, ◌&&◌, ◌||◌, nat_lt, ◌⊎◌, Contains, MatchOption, if◌then◌else◌}
+use Rattle.std.specs.Prelude.{◌==◌, ◌&&◌, ◌||◌, nat_lt, ◌⊎◌, Contains, MatchOption, Result, Ok, Err, IfOk, if◌then◌else◌}
 use Rattle.std.proofs.lemmas.Bool.Decides.{nat_tests}
 use Rattle.mp_factor.specs.declared.fault.Fault.{Fault}
 use Rattle.mp_factor.specs.Faults.{is_earlier, earlier, leftmost, rank_of}
@@ -110,3 +110,14 @@ found_first (x ∷ xs) f e = let least = least_from x f xs e in record { among =
 pub found : (faults : List Fault) (answer : Option Fault) → answer ≡ leftmost None faults → MatchOption answer (faults ≡ []) (λ (f : Fault). IsFirst faults f)
 found faults None e = nothing_found faults (sym e)
 found faults (Some f) e = found_first faults f (sym e)
+
+-- where memory was left
+pub found_if : {E : Type 0} → (faults : List Fault) (answer : Result (Option Fault) E) → IfOk answer (λ first. first ≡ leftmost None faults)
+    → IfOk answer (λ first. MatchOption first (faults ≡ []) (λ (f : Fault). IsFirst faults f))
+found_if faults (Ok answer) e = found faults answer e
+found_if faults (Err e') e = tt
+
+pub none_there : (faults : List Fault) (answer : Option Fault) → answer ≡ None
+    → MatchOption answer (faults ≡ []) (λ (f : Fault). IsFirst faults f) → faults ≡ []
+none_there faults None is e = e
+none_there faults (Some f) is e = cc

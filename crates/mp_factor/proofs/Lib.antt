@@ -3,7 +3,7 @@ pub mod Steps
 pub mod ConditionLemmas
 pub mod EffectLemmas
 pub mod NumberLemmas
-pub mod WordLists
+pub mod FirstCostLemmas
 pub mod FirstLemmas
 pub mod OneFirst
 pub mod BuildSteps

@@ -10,6 +10,7 @@ pub mod Conditions
 pub mod Effects
 pub mod Actions
 pub mod Init
+pub mod FirstCosts
 pub mod Sections
 pub mod Files
 pub mod First

@@ -1,6 +1,6 @@
 //! The two files, section by section.
 
-ghost use Rattle.std.specs.Prelude.{◌≡◌, [], None, MatchOption};
+ghost use Rattle.std.specs.Prelude.{◌≡◌, [], None, IfOk, MatchOption};
 ghost use Rattle.mp_sexp.specs.Node.{node_of, nodes_in};
 ghost use Rattle.mp_factor.specs.Faults.{leftmost};
 ghost use Rattle.mp_factor.specs.First.{IsFirst};
@@ -14,7 +14,9 @@ use crate::sections::{goal_fault, metric_fault, requirements_fault, single_name_
 use crate::signatures::{Declared, signatures_fault};
 use crate::trees::{is_headed, is_list, is_word, members, place, word};
 use crate::typed::{ItemKind, typed_fault};
+use mp_list::OutOfMemory;
 use mp_sexp::{Place, Tree};
+use std::alloc::Global;
 
 /// Which of an agent's two files.
 #[derive(Clone, Copy, Debug, PartialEq, Eq)]
@@ -104,18 +106,19 @@ fn other(file: File) -> File
     }
 }
 
-/// The first fault, with those of what a section says behind its first word.
+/// The first fault, with those of what a section says behind its first word. Refuses only for want of memory.
 #[tactic(auto, using(crate::proofs::Steps::leftmost_append), unfolding(crate::specs::Files::content_faults))]
 fn content_fault(
+    alloc: Global,
     least: Option<Fault>,
     kind: SectionKind,
     whole: Place,
     head: &Tree,
     trees: &[Tree],
-) -> Option<Fault>
-    ensures { result ≡ leftmost least (content_faults kind whole (node_of head.now) (nodes_in trees.now)) }
+) -> Result<Option<Fault>, OutOfMemory>
+    ensures { IfOk result (λ first. first ≡ leftmost least (content_faults kind whole (node_of head.now) (nodes_in trees.now))) }
 {
-    match kind {
+    Ok(match kind {
         SectionKind::Requirements => requirements_fault(least, trees),
         SectionKind::Types => typed_fault(least, ItemKind::Names, whole, trees),
         SectionKind::Constants => objects_fault(least, whole, trees),
@@ -124,11 +127,11 @@ fn content_fault(
         SectionKind::Action => action_fault(least, whole, trees),
         SectionKind::Owner => single_name_fault(least, whole, trees),
         SectionKind::Objects => objects_fault(least, whole, trees),
-        SectionKind::Init => init_fault(least, trees),
+        SectionKind::Init => init_fault(alloc, least, trees)?,
         SectionKind::Goal => goal_fault(least, whole, trees),
         SectionKind::Metric => metric_fault(least, head, trees),
         SectionKind::Unknown => with(least, place(head), FaultKind::Unsupported),
-    }
+    })
 }
 
 /// Whether a list that begins with this word stands among these.
@@ -144,50 +147,61 @@ pub fn has_section(trees: &[Tree], keyword: &[u8]) -> bool
     false
 }
 
-/// The first fault, with those of a section that begins with this.
+/// The first fault, with those of a section that begins with this. Refuses only for want of memory.
 #[tactic(auto, using(crate::proofs::Steps::leftmost_append), unfolding(crate::specs::Files::headed_section_faults))]
 fn headed_section_fault(
+    alloc: Global,
     least: Option<Fault>,
     file: File,
     whole: Place,
     head: &Tree,
     trees: &[Tree],
-) -> Option<Fault>
-    ensures { result ≡ leftmost least (headed_section_faults file whole (node_of head.now) (nodes_in trees.now)) }
+) -> Result<Option<Fault>, OutOfMemory>
+    ensures { IfOk result (λ first. first ≡ leftmost least (headed_section_faults file whole (node_of head.now) (nodes_in trees.now))) }
 {
     let kind = section_kind(file, head);
     if is_list(head) {
-        with(least, place(head), FaultKind::Shape)
+        Ok(with(least, place(head), FaultKind::Shape))
     } else if kind == SectionKind::Unknown
         && section_kind(other(file), head) != SectionKind::Unknown
     {
-        with(least, whole, FaultKind::Shape)
+        Ok(with(least, whole, FaultKind::Shape))
     } else {
-        content_fault(least, kind, whole, head, trees)
+        content_fault(alloc, least, kind, whole, head, trees)
     }
 }
 
-/// The first fault, with those of a section by itself.
+/// The first fault, with those of a section by itself. Refuses only for want of memory.
 #[tactic(auto, using(crate::proofs::Steps::leftmost_append), unfolding(crate::specs::Files::section_faults))]
-fn section_fault(least: Option<Fault>, file: File, tree: &Tree) -> Option<Fault>
-    ensures { result ≡ leftmost least (section_faults file (node_of tree.now)) }
+fn section_fault(
+    alloc: Global,
+    least: Option<Fault>,
+    file: File,
+    tree: &Tree,
+) -> Result<Option<Fault>, OutOfMemory>
+    ensures { IfOk result (λ first. first ≡ leftmost least (section_faults file (node_of tree.now))) }
 {
     match members(tree) {
-        [] => with(least, place(tree), FaultKind::Shape),
-        [head, rest @ ..] => headed_section_fault(least, file, place(tree), head, rest),
+        [] => Ok(with(least, place(tree), FaultKind::Shape)),
+        [head, rest @ ..] => headed_section_fault(alloc, least, file, place(tree), head, rest),
     }
 }
 
-/// The first fault, with those of the sections, each by itself.
+/// The first fault, with those of the sections, each by itself. Refuses only for want of memory.
 #[tactic(auto, using(crate::proofs::Steps::leftmost_append), unfolding(crate::specs::Files::sections_faults))]
-fn sections_fault(least: Option<Fault>, file: File, trees: &[Tree]) -> Option<Fault>
-    ensures { result ≡ leftmost least (sections_faults file (nodes_in trees.now)) }
+fn sections_fault(
+    alloc: Global,
+    least: Option<Fault>,
+    file: File,
+    trees: &[Tree],
+) -> Result<Option<Fault>, OutOfMemory>
+    ensures { IfOk result (λ first. first ≡ leftmost least (sections_faults file (nodes_in trees.now))) }
 {
     let mut first = least;
     for tree in trees {
-        first = section_fault(first, file, tree);
+        first = section_fault(alloc, first, file, tree)?;
     }
-    first
+    Ok(first)
 }
 
 /// Whether these are the members of a known section that stands among these too, and may stand once only.
@@ -280,47 +294,56 @@ fn kind_word(file: File) -> &'static [u8]
     }
 }
 
-/// The first fault, with those of the members of the file's list.
+/// The first fault, with those of the members of the file's list. Refuses only for want of memory.
 #[tactic(auto, using(crate::proofs::Steps::leftmost_append), unfolding(crate::specs::Files::parts_faults))]
-fn parts_fault(file: File, whole: Place, trees: &[Tree]) -> Option<Fault>
-    ensures { result ≡ leftmost None (parts_faults file whole (nodes_in trees.now)) }
+fn parts_fault(
+    alloc: Global,
+    file: File,
+    whole: Place,
+    trees: &[Tree],
+) -> Result<Option<Fault>, OutOfMemory>
+    ensures { IfOk result (λ first. first ≡ leftmost None (parts_faults file whole (nodes_in trees.now))) }
 {
     match trees {
-        [] => with(None, whole, FaultKind::Shape),
-        [_] => with(None, whole, FaultKind::Shape),
+        [] => Ok(with(None, whole, FaultKind::Shape)),
+        [_] => Ok(with(None, whole, FaultKind::Shape)),
         [head, title, sections @ ..] => {
             let begun = keyword_fault(None, b"define", head);
             let named = title_fault(begun, kind_word(file), title);
             let owned = missing_domain(named, file, whole, sections);
-            seconds_fault(sections_fault(owned, file, sections), file, sections)
+            let inside = sections_fault(alloc, owned, file, sections)?;
+            Ok(seconds_fault(inside, file, sections))
         }
     }
 }
 
-/// The first fault of a file: none exactly where the file has the shape of a factor's file.
+/// The first fault of a file: none exactly where the file has the shape of a factor's file. Refuses only for want of
+/// memory.
 #[tactic(auto, using(crate::proofs::Steps::leftmost_append), unfolding(crate::specs::Files::file_faults))]
-fn first_fault(file: File, tree: &Tree) -> Option<Fault>
-    ensures { result ≡ leftmost None (file_faults file (node_of tree.now)) }
+fn first_fault(alloc: Global, file: File, tree: &Tree) -> Result<Option<Fault>, OutOfMemory>
+    ensures { IfOk result (λ first. first ≡ leftmost None (file_faults file (node_of tree.now))) }
 {
     if is_list(tree) {
-        parts_fault(file, place(tree), members(tree))
+        parts_fault(alloc, file, place(tree), members(tree))
     } else {
-        with(None, place(tree), FaultKind::Shape)
+        Ok(with(None, place(tree), FaultKind::Shape))
     }
 }
 
 /// The first fault of a domain's tree, by its place and at one place by its kind: none exactly where the tree
-/// has the shape of a factor's domain.
-pub fn domain_fault(tree: &Tree) -> Option<Fault>
-    ensures { MatchOption result (file_faults File.Domain (node_of tree.now) ≡ []) (λ fault. IsFirst (file_faults File.Domain (node_of tree.now)) fault) }
+/// has the shape of a factor's domain. Refuses only for want of memory.
+pub fn domain_fault(alloc: Global, tree: &Tree) -> Result<Option<Fault>, OutOfMemory>
+    ensures { IfOk result (λ first. MatchOption first (file_faults File.Domain (node_of tree.now) ≡ [])
+        (λ fault. IsFirst (file_faults File.Domain (node_of tree.now)) fault)) }
 {
-    first_fault(File::Domain, tree)
+    first_fault(alloc, File::Domain, tree)
 }
 
 /// The first fault of a problem's tree, by its place and at one place by its kind: none exactly where the tree
-/// has the shape of a factor's problem.
-pub fn problem_fault(tree: &Tree) -> Option<Fault>
-    ensures { MatchOption result (file_faults File.Problem (node_of tree.now) ≡ []) (λ fault. IsFirst (file_faults File.Problem (node_of tree.now)) fault) }
+/// has the shape of a factor's problem. Refuses only for want of memory.
+pub fn problem_fault(alloc: Global, tree: &Tree) -> Result<Option<Fault>, OutOfMemory>
+    ensures { IfOk result (λ first. MatchOption first (file_faults File.Problem (node_of tree.now) ≡ [])
+        (λ fault. IsFirst (file_faults File.Problem (node_of tree.now)) fault)) }
 {
-    first_fault(File::Problem, tree)
+    first_fault(alloc, File::Problem, tree)
 }

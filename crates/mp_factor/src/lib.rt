@@ -9,6 +9,7 @@ mod effects;
 mod factor;
 mod fault;
 mod files;
+mod first_costs;
 mod init;
 mod init_values;
 mod laws;

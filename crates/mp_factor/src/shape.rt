@@ -132,10 +132,10 @@ pub fn domain(alloc: Global, tree: &Tree) -> Result<Domain, ShapeRefusal>
     ensures value { IfOk result (λ domain. domain ≡ domain_value (node_of tree.now)) }
     ensures fault { IfErr result (Refuses File.Domain (node_of tree.now)) }
 {
-    if let Some(fault) = domain_fault(tree) {
-        return Err(refusal_of(alloc, fault, tree));
+    match domain_fault(alloc, tree)? {
+        Some(fault) => Err(refusal_of(alloc, fault, tree)),
+        None => Ok(domain_of(alloc, behind_first(members(tree)))?),
     }
-    Ok(domain_of(alloc, behind_first(members(tree)))?)
 }
 
 /// What a problem's tree says, or its first fault by place, and at one place by kind.
@@ -147,8 +147,8 @@ pub fn problem(alloc: Global, tree: &Tree) -> Result<Problem, ShapeRefusal>
     ensures value { IfOk result (λ problem. problem ≡ problem_value (node_of tree.now)) }
     ensures fault { IfErr result (Refuses File.Problem (node_of tree.now)) }
 {
-    if let Some(fault) = problem_fault(tree) {
-        return Err(refusal_of(alloc, fault, tree));
+    match problem_fault(alloc, tree)? {
+        Some(fault) => Err(refusal_of(alloc, fault, tree)),
+        None => Ok(problem_of(alloc, behind_first(members(tree)))?),
     }
-    Ok(problem_of(alloc, behind_first(members(tree)))?)
 }

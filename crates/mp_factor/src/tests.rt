@@ -3,18 +3,18 @@
 ghost use Rattle.std.specs.Prelude.{◌<◌, ◌^◌, length};
 
 use super::*;
-use mp_sexp::{Place, ReadRefusal, read};
+use mp_sexp::{Place, read};
 use std::alloc::Global;
 use std::test::Fail;
 
-fn fault_of(alloc: Global, is_problem: bool, text: &[u8]) -> Result<Option<Fault>, ReadRefusal>
+fn fault_of(alloc: Global, is_problem: bool, text: &[u8]) -> Result<Option<Fault>, Fail>
     requires { length text.now < 2 ^ 31 }
 {
     let tree = read(alloc, text)?;
     Ok(if is_problem {
-        problem_fault(&tree)
+        problem_fault(alloc, &tree)?
     } else {
-        domain_fault(&tree)
+        domain_fault(alloc, &tree)?
     })
 }
 

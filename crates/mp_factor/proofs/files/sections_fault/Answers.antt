@@ -8,4 +8,4 @@ pub loop-tree-preserved : goal.loop-tree-preserved
 unfolding sections_faults
 loop-tree-preserved c =
     goes_on (λ (ns : List Node). sections_faults c.args.file ns) (λ (ns : List Node). sections_faults c.args.file ns) _ _ _ _ c.args.trees.now c.loop-tree.tree-index c.tree-item.result
-    c.loop-tree-test.true c.tree-item.is (λ (ns : List Node). refl) c.section_fault-first.ensures c.loop-tree.invariant
+    c.loop-tree-test.true c.tree-item.is (λ (ns : List Node). refl) c.in_ok-first.ensures c.loop-tree.invariant

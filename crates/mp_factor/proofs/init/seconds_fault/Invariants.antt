@@ -2,8 +2,10 @@ use Rattle.std.proofs.Common.{◌≡◌, [], take, drop}
 use Rattle.mp_sexp.specs.Node.{nodes_in}
 use Rattle.mp_factor.specs.Faults.{leftmost}
 use Rattle.mp_factor.specs.Init.{all_second_faults}
+use Rattle.mp_factor.specs.FirstCosts.{AreFirst}
 use Rattle.mp_factor.proofs.init.seconds_fault.Given as goal
 
-abbrev pub invariant-loop-i : goal.invariant-loop-i
-invariant-loop-i l =
-    leftmost l.first (all_second_faults (nodes_in (take l.i l.trees)) (nodes_in (drop l.i l.trees))) ≡ leftmost l.fn.least (all_second_faults [] (nodes_in l.trees))
+abbrev pub invariant-loop-tree : goal.invariant-loop-tree
+invariant-loop-tree l =
+    (leftmost l.first (all_second_faults (nodes_in (take l.tree-index l.trees)) (nodes_in (drop l.tree-index l.trees))) ≡ leftmost l.fn.least (all_second_faults [] (nodes_in l.trees)))
+    × AreFirst l.costs (nodes_in (take l.tree-index l.trees))
