@@ -5,7 +5,6 @@ pub mod EffectLemmas
 pub mod NumberLemmas
 pub mod FirstCostLemmas
 pub mod FirstLemmas
-pub mod OneFirst
 pub mod BuildSteps
 pub mod AtomLemmas
 pub mod GatherLemmas

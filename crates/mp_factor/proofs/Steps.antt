@@ -6,11 +6,12 @@ use Rattle.std.proofs.lemmas.List.{take_more, map-append}
 use Rattle.mp_sexp.specs.declared.tree.Tree.{Tree}
 use Rattle.mp_sexp.specs.Node.{Node, node_of, nodes_in}
 use Rattle.mp_factor.specs.declared.fault.Fault.{Fault}
-use Rattle.mp_factor.specs.Faults.{leftmost, earlier}
+use Rattle.mp_list.proofs.FirstLemmas as firsts
+use Rattle.mp_list.proofs.Steps as loops
+use Rattle.mp_factor.specs.Faults.{is_earlier, leftmost}
 
 pub leftmost_append : (o : Option Fault) (xs ys : List Fault) → leftmost o (xs ++ ys) ≡ leftmost (leftmost o xs) ys
-leftmost_append o [] ys = refl
-leftmost_append o (x ∷ xs) ys = leftmost_append (Some (earlier o x)) xs ys
+leftmost_append o xs ys = firsts.leftmost_append is_earlier o xs ys
 
 -- a fault that would not be the first one may be there or not
 pub behind_all : (o : Option Fault) (fault : Fault) (b : Bool) → leftmost o (fault ∷ []) ≡ o → leftmost o (if b then fault ∷ [] else []) ≡ o
@@ -50,7 +51,7 @@ one_before trees i tree lt is =
 
 -- what is found in one part, and then in the other
 pub both : (o o' o'' : Option Fault) (xs ys : List Fault) → o' ≡ leftmost o xs → o'' ≡ leftmost o' ys → o'' ≡ leftmost o (xs ++ ys)
-both o o' o'' xs ys first second = second ∙ ap (λ (p : Option Fault). leftmost p ys) first ∙ sym (leftmost_append o xs ys)
+both o o' o'' xs ys first second = loops.both is_earlier o o' o'' xs ys first second
 
 -- all of some trees
 take_whole : (ts : List Tree) → take (length ts) ts ≡ ts

@@ -1,5 +1,8 @@
 -- Faults of a tree, and the first of them by place.
-use Rattle.std.specs.Prelude.{ℕ, ◌==◌, ◌&&◌, ◌||◌, nat_lt, Bool, List, [], ◌∷◌, Option, Some, None, if◌then◌else◌}
+use Rattle.std.specs.Prelude.{ℕ, Bool, List, [], ◌∷◌, Option}
+use Rattle.std.specs.Ordering.{is_lt, nat_cmp}
+use Rattle.std.specs.Cmp.Lexicographic.{slice_cmp}
+use Rattle.mp_list.specs.First.{leftmost as first_of}
 use Rattle.mp_sexp.specs.declared.tree.Place.{Place}
 use Rattle.mp_factor.specs.declared.fault.Fault.{Fault}
 use Rattle.mp_factor.specs.declared.fault.FaultKind.{FaultKind}
@@ -15,23 +18,17 @@ rank_of Cost = 3
 abbrev pub fault_at : Place → FaultKind → Fault
 fault_at place kind = record { place = place; kind = kind }
 
+-- what faults are compared by, the first number first
+abbrev pub order_of : Fault → List ℕ
+order_of fault = fault.place.line ∷ fault.place.column ∷ rank_of fault.kind ∷ []
+
 -- by line, then by column, then by kind
 unfoldable pub is_earlier : Fault → Fault → Bool
-is_earlier a b =
-    nat_lt a.place.line b.place.line
-    || (a.place.line == b.place.line
-    && (nat_lt a.place.column b.place.column
-    || (a.place.column == b.place.column && nat_lt (rank_of a.kind) (rank_of b.kind))))
+is_earlier a b = is_lt (slice_cmp nat_cmp (order_of a) (order_of b))
 
--- the earlier of two faults, the known one where neither is
-abbrev pub earlier : Option Fault → Fault → Fault
-earlier None fault = fault
-earlier (Some known) fault = if is_earlier fault known then fault else known
-
--- the earliest of a known fault and these
+-- the earliest of a known fault and these, the known one where none is earlier
 abbrev pub leftmost : Option Fault → List Fault → Option Fault
-leftmost known [] = known
-leftmost known (fault ∷ faults) = leftmost (Some (earlier known fault)) faults
+leftmost known faults = first_of is_earlier known faults
 
 -- a word or list stands where none of its kind may, or lacks something
 abbrev pub misshapen : Place → List Fault

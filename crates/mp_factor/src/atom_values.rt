@@ -68,7 +68,7 @@ fn term_in(alloc: Global, tree: &Tree) -> Result<Term, OutOfMemory>
 fn terms_in(alloc: Global, trees: &[Tree]) -> Result<TermList, OutOfMemory>
     ensures { IfOk result (λ terms. terms ≡ term_values (nodes_in trees.now)) }
 {
-    let mut terms = List::new(alloc);
+    let mut terms = List::with_capacity(alloc, trees.len())?;
     for tree in trees {
         terms.push(term_in(alloc, tree)?)?;
     }

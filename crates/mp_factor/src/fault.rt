@@ -2,9 +2,10 @@
 
 ghost use Rattle.std.specs.Bool.{OnTrue};
 ghost use Rattle.std.specs.Prelude.{◌≡◌, ◌∷◌, []};
-ghost use Rattle.mp_factor.specs.Faults.{rank_of, is_earlier, leftmost, fault_at};
+ghost use Rattle.mp_factor.specs.Faults.{rank_of, order_of, is_earlier, leftmost, fault_at};
 
 use mp_sexp::Place;
+use std::cmp::Ordering;
 
 /// What is wrong with a word or list.
 #[derive(Clone, Copy, Debug, PartialEq, Eq)]
@@ -27,7 +28,7 @@ pub struct Fault {
 }
 
 /// Which fault at one place is answered: the lowest.
-fn rank(kind: FaultKind) -> u8
+fn rank(kind: FaultKind) -> u32
     ensures { result ≡ rank_of kind }
 {
     match kind {
@@ -38,15 +39,22 @@ fn rank(kind: FaultKind) -> u8
     }
 }
 
+/// The numbers by which faults come one after another.
+fn order(fault: Fault) -> [u32; 3]
+    ensures { result ≡ order_of fault }
+{
+    [fault.place.line, fault.place.column, rank(fault.kind)]
+}
+
 /// Whether a fault comes before another.
-#[tactic(auto, using(crate::proofs::Steps::leftmost_append), unfolding(crate::specs::Faults::is_earlier))]
+#[tactic(auto, unfolding(crate::specs::Faults::is_earlier))]
 fn is_before(a: Fault, b: Fault) -> bool
     ensures { result ≡ is_earlier a b }
 {
-    a.place.line < b.place.line
-        || a.place.line == b.place.line
-            && (a.place.column < b.place.column
-                || a.place.column == b.place.column && rank(a.kind) < rank(b.kind))
+    match order(a).cmp(&order(b)) {
+        Ordering::Less => true,
+        Ordering::Equal | Ordering::Greater => false,
+    }
 }
 
 /// The first fault, when this one is found too.

@@ -10,19 +10,26 @@ use crate::fault::{Fault, FaultKind};
 use mp_list::{Copied, OutOfMemory};
 use mp_sexp::{Name, Place, Tree};
 use std::alloc::Global;
+use thiserror::Error;
 
 /// The first fault of a domain's or problem's tree, or want of memory.
-#[derive(Drop)]
+#[derive(Debug, Drop, Error)]
 pub enum ShapeRefusal {
     /// A word or list, which begins here, has no place in the shape of the file, or lacks something.
+    #[error("shape")]
     Shape(Place),
     /// This word, which stands here, begins something that is not supported.
+    #[error("unsupported")]
     Unsupported(Name, Place),
     /// The parameter that stands here is the thirteenth of its action.
+    #[error("unsupported parameters")]
     Parameters(Place),
     /// The number or increase that begins here is no cost that is allowed: it has decimals other than zeros, is
     /// above 1,000,000, is the seventeenth increase of its action, or is another value of its function.
+    #[error("cost")]
     Cost(Place),
+    /// No memory was left.
+    #[error("out of memory")]
     OutOfMemory,
 }
 

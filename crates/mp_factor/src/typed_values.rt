@@ -43,7 +43,7 @@ pub fn type_in(alloc: Global, tree: &Tree) -> Result<WordList, OutOfMemory>
     if is_list(tree) {
         return words_in(alloc, behind_first(members(tree)));
     }
-    let mut types = List::new(alloc);
+    let mut types = List::with_capacity(alloc, 1)?;
     types.push(word_in(alloc, tree)?)?;
     Ok(types)
 }

@@ -50,7 +50,7 @@ pub fn word_in(alloc: Global, tree: &Tree) -> Result<Word, OutOfMemory>
 pub fn words_in(alloc: Global, trees: &[Tree]) -> Result<WordList, OutOfMemory>
     ensures { IfOk result (λ words. words ≡ word_values (nodes_in trees.now)) }
 {
-    let mut words = List::new(alloc);
+    let mut words = List::with_capacity(alloc, trees.len())?;
     for tree in trees {
         words.push(word_in(alloc, tree)?)?;
     }
