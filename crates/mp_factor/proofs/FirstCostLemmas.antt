@@ -8,6 +8,7 @@ use Rattle.std.specs.Ordering.{nat_cmp, is_eq}
 use Rattle.std.specs.Cmp.Lexicographic.{slice_cmp}
 use Rattle.std.specs.Cmp.{eq_by_cmp_equiv}
 use Rattle.std.specs.Str.{bytes_eq}
+use Rattle.std.proofs.Math.Bool.{and-false}
 use Rattle.std.proofs.lemmas.Bool.{and_parts}
 use Rattle.std.proofs.lemmas.Bool.Decides.{nat_tests}
 use Rattle.std.proofs.lemmas.Cmp.{nat_list_cmp_total, nat_list_eq_equiv}
@@ -50,10 +51,6 @@ some_key' : (w k : List ℕ) → bytes_eq (word_key w ++ k) [] ≡ false
 some_key' [] k = refl
 some_key' (b ∷ bs) k = refl
 
-and_none : (a : Bool) → (a && false) ≡ false
-and_none true = refl
-and_none false = refl
-
 swaps : (a b c : Bool) → (a && (b && c)) ≡ (b && (a && c))
 swaps true b c = refl
 swaps false true c = refl
@@ -67,7 +64,7 @@ pub same_key : (ms ns : List Node) → are_words ns ≡ true → same_words ms n
 unfolding are_words key_of
 same_key [] [] e = refl
 same_key [] (n ∷ ns) e = sym (some_key (word_of n) (key_of ns))
-same_key (m ∷ ms) [] e = sym (ap (λ b. are_words (m ∷ ms) && b) (some_key' (word_of m) (key_of ms)) ∙ and_none (are_words (m ∷ ms)))
+same_key (m ∷ ms) [] e = sym (ap (λ b. are_words (m ∷ ms) && b) (some_key' (word_of m) (key_of ms)) ∙ and-false (are_words (m ∷ ms)))
 same_key (list nodes place ∷ ms) (n ∷ ns) e = refl
 same_key (word a place ∷ ms) (list nodes place' ∷ ns) e = impossible e
 same_key (word a place ∷ ms) (word b place' ∷ ns) e =
@@ -82,7 +79,7 @@ no_words ms [] e = impossible (sym e)
 no_words [] (n ∷ ns) e = refl
 no_words (list nodes place ∷ ms) (n ∷ ns) e = refl
 no_words (word a place ∷ ms) (list nodes place' ∷ ns) e = refl
-no_words (word a place ∷ ms) (word b place' ∷ ns) e = ap (λ (t : Bool). bytes_eq b a && t) (no_words ms ns e) ∙ and_none (bytes_eq b a)
+no_words (word a place ∷ ms) (word b place' ∷ ns) e = ap (λ (t : Bool). bytes_eq b a && t) (no_words ms ns e) ∙ and-false (bytes_eq b a)
 
 by_key : (is words : Bool) (a c : Bool) → a ≡ (words && c) → ((is && true) && a) ≡ ((is && words) && c)
 by_key true words a c e = e
@@ -106,7 +103,7 @@ give_same_key m n e =
 give_none : (m n : Node) → are_words (function_in n) ≡ false → give_same m n ≡ false
 unfolding give_same
 give_none m n none =
-    ap (λ (t : Bool). (is_value m && is_value n) && t) (no_words (function_in m) (function_in n) none) ∙ and_none (is_value m && is_value n)
+    ap (λ (t : Bool). (is_value m && is_value n) && t) (no_words (function_in m) (function_in n) none) ∙ and-false (is_value m && is_value n)
 
 -- ---- values that differ
 

@@ -1,5 +1,5 @@
 -- Faults are in a strict and total order, so that the earliest of some is their first.
-use Rattle.std.proofs.Common.{◌≡◌, ℕ, List, [], ◌∷◌, Option, Some, None, refl, sym, ap, ◌∙◌}
+use Rattle.std.proofs.Common.{◌≡◌, ℕ, zero, suc, List, [], ◌∷◌, Option, Some, None, refl, sym, ap, ◌∙◌}
 use Rattle.std.specs.Prelude.{MatchOption, Result, Ok, Err, IfOk}
 use Rattle.std.specs.Ordering.{nat_cmp}
 use Rattle.std.specs.Cmp.Lexicographic.{slice_cmp}
@@ -14,11 +14,11 @@ use Rattle.mp_factor.specs.declared.fault.FaultKind.TheVariants.{Shape, Unsuppor
 use Rattle.mp_factor.specs.Faults.{rank_of, order_of, is_earlier, leftmost}
 use Rattle.mp_factor.specs.First.{IsFirst}
 
-kind_of : ℕ → FaultKind
-kind_of 0 = Shape
-kind_of 1 = Unsupported
-kind_of 2 = Parameters
-kind_of _ = Cost
+abbrev kind_of : ℕ → FaultKind
+kind_of zero = Shape
+kind_of (suc zero) = Unsupported
+kind_of (suc (suc zero)) = Parameters
+kind_of (suc (suc (suc n))) = Cost
 
 kind_of-rank : (k : FaultKind) → kind_of (rank_of k) ≡ k
 kind_of-rank Shape = refl

@@ -3,8 +3,8 @@
 ghost use Rattle.std.specs.Prelude.{◌<◌, ◌^◌, length};
 
 use super::*;
-use mp_list::OutOfMemory;
-use mp_sexp::{Place, read};
+use mp_list::{Copied, OutOfMemory};
+use mp_sexp::{Place, Tree, read};
 use std::alloc::Global;
 use std::test::Fail;
 
@@ -197,231 +197,107 @@ fn show_refusal(out: &mut Vec<u8>, refusal: &ShapeRefusal) -> Result<(), OutOfMe
     }
 }
 
-/// What a domain's text says, or its refusal.
-fn domain_shown(alloc: Global, text: &[u8]) -> Result<Vec<u8>, Fail>
-    requires { length text.now < 2 ^ 31 }
-{
-    let tree = read(alloc, text)?;
+/// What a copy of a domain says, or the refusal.
+fn domain_shown(alloc: Global, tree: &Tree) -> Result<Vec<u8>, OutOfMemory> {
     let mut out = Vec::new(alloc);
-    match domain(alloc, &tree) {
-        Ok(domain) => show_domain(&mut out, &domain)?,
+    match domain(alloc, tree) {
+        Ok(said) => show_domain(&mut out, &said.copy()?)?,
         Err(refusal) => show_refusal(&mut out, &refusal)?,
     }
     Ok(out)
 }
 
-/// What a problem's text says, or its refusal.
-fn problem_shown(alloc: Global, text: &[u8]) -> Result<Vec<u8>, Fail>
-    requires { length text.now < 2 ^ 31 }
-{
-    let tree = read(alloc, text)?;
+/// What a copy of a problem says, or the refusal.
+fn problem_shown(alloc: Global, tree: &Tree) -> Result<Vec<u8>, OutOfMemory> {
     let mut out = Vec::new(alloc);
-    match problem(alloc, &tree) {
-        Ok(problem) => show_problem(&mut out, &problem)?,
+    match problem(alloc, tree) {
+        Ok(said) => show_problem(&mut out, &said.copy()?)?,
         Err(refusal) => show_refusal(&mut out, &refusal)?,
     }
     Ok(out)
 }
 
-const DECLARATIONS: [(&[u8], &[u8]); 11] = [
-    (b"(define (domain d))", b"d|||||"),
-    (b"(define (domain D) (:TYPES A - B))", b"d| a:b||||"),
+/// What a text says, or its refusal.
+fn shown(alloc: Global, file: File, text: &[u8]) -> Result<Vec<u8>, Fail>
+    requires { length text.now < 2 ^ 31 }
+{
+    let tree = read(alloc, text)?;
+    Ok(match file {
+        File::Domain => domain_shown(alloc, &tree)?,
+        File::Problem => problem_shown(alloc, &tree)?,
+    })
+}
+
+const VALUES: [(File, &[u8], &[u8]); 13] = [
     (
-        b"(define (domain d) (:types a b - c d e - (either f g) h))",
+        File::Domain,
+        b"(define (domain D) (:TYPES A b - c d e - (either f g) h))",
         b"d| a:c b:c d:f:g e:f:g h||||",
     ),
     (
-        b"(define (domain d) (:constants a (:private b c - t e) f - u))",
-        b"d|| a b:t! c:t! e! f:u|||",
-    ),
-    (
+        File::Domain,
         b"(define (domain d) (:constants a b - t (:private) c (:private e - (either t u)) f))",
         b"d|| a:t b:t c e:t:u! f|||",
     ),
     (
+        File::Domain,
         b"(define (domain d) (:predicates (p) (q ?x - t ?y) (:private (r ?x ?y - t)) (s)))",
         b"d||| p() q( ?x:t ?y) r( ?x:t ?y:t)! s()||",
     ),
     (
-        b"(define (domain d) (:predicates (:private) (:private (p) (q)) (:private (r ?x))))",
-        b"d||| p()! q()! r( ?x)!||",
-    ),
-    (
+        File::Domain,
         b"(define (domain d) (:functions (total-cost) - number (:private (f ?x - t) - number (g)) (h)))",
         b"d|||| total-cost() f( ?x:t)! g()! h()|",
     ),
     (
-        b"(define (domain d) (:functions (f)) (:predicates (p)) (:constants c) (:types t))",
-        b"d| t| c| p()| f()|",
+        File::Domain,
+        b"(define (domain d) (:action a :parameters (?x ?y - t) :agent ?g - (either u v)) (:action b :precondition (and (p ?x) (and (q c) ()))))",
+        b"d||||| a( ?g:u:v ?x:t ?y:t)[///] b()[ p( ?x) q( 'c)///]",
     ),
     (
-        b"(define (domain d) (:requirements :typing) (:action a) (:types t) (:action b))",
-        b"d| t|||| a()[///] b()[///]",
-    ),
-    (
-        b"(define (domain delivery) (:types place parcel) (:predicates (at ?p - parcel ?x - place) (:private (pos ?x - place) (road ?x ?y - place))))",
-        b"delivery| place parcel|| at( ?p:parcel ?x:place) pos( ?x:place)! road( ?x:place ?y:place)!||",
-    ),
-];
-
-#[test]
-fn declarations(rt: HostRuntime) -> Result<(), Fail> {
-    for (text, wanted) in DECLARATIONS {
-        assert!(rt; text.len() < 10_000);
-        let shown = domain_shown(rt.alloc(), text)?;
-        assert_eq!(rt; shown.as_slice(), wanted, "{text:?}");
-    }
-    Ok(())
-}
-
-const ACTIONS: [(&[u8], &[u8]); 14] = [
-    (
-        b"(define (domain d) (:action a :parameters () :precondition () :effect ()))",
-        b"d||||| a()[///]",
-    ),
-    (
-        b"(define (domain d) (:action a :parameters (?x ?y - t) :agent ?g - (either u v)))",
-        b"d||||| a( ?g:u:v ?x:t ?y:t)[///]",
-    ),
-    (
-        b"(define (domain d) (:action a :agent ?g - u :precondition (p ?g)))",
-        b"d||||| a( ?g:u)[ p( ?g)///]",
-    ),
-    (
-        b"(define (domain d) (:action a :effect (p) :precondition (q) :parameters (?x)))",
-        b"d||||| a( ?x)[ q()/ p()//]",
-    ),
-    (
-        b"(define (domain d) (:action a :precondition (and (p ?x) (and (q c) ()) (and) (r))))",
-        b"d||||| a()[ p( ?x) q( 'c) r()///]",
-    ),
-    (
-        b"(define (domain d) (:action a :effect (not (p a ?x))))",
-        b"d||||| a()[// p( 'a ?x)/]",
-    ),
-    (
+        File::Domain,
         b"(define (domain d) (:action a :effect (and (and (not (p)) (q)) (and (and (not (r a)))) (s))))",
         b"d||||| a()[/ q() s()/ p() r( 'a)/]",
     ),
     (
-        b"(define (domain d) (:action a :effect (and (p) (not (p)) (p))))",
-        b"d||||| a()[/ p() p()/ p()/]",
+        File::Domain,
+        b"(define (domain d) (:action a :effect (and (increase (total-cost) 2.0) (p) (and (increase (total-cost) (f ?x a))))))",
+        b"d||||| a()[/ p()// 2 f( ?x 'a)]",
     ),
     (
-        b"(define (domain d) (:action a :effect (increase (total-cost) 1000000)))",
-        b"d||||| a()[/// 1000000]",
-    ),
-    (
-        b"(define (domain d) (:action a :effect (and (increase (total-cost) 2.0) (p) (and (increase (total-cost) (f ?x a))) (increase (total-cost) 0))))",
-        b"d||||| a()[/ p()// 2 f( ?x 'a) 0]",
-    ),
-    (
-        b"(define (domain d) (:action a :parameters (?x) :effect (p ?x)) (:action b :precondition (q)))",
-        b"d||||| a( ?x)[/ p( ?x)//] b()[ q()///]",
-    ),
-    (
+        File::Domain,
         b"(define (domain d) (:action a :precondition (OR (p))))",
         b"unsupported or 1:46",
     ),
     (
+        File::Domain,
         b"(define (domain d) (:action a :parameters (?a ?b ?c ?d ?e ?f ?g ?h ?i ?j ?k ?l ?m)))",
         b"parameters 1:80",
     ),
     (
-        b"(define (domain d) (:action a :effect (increase (total-cost) 1000001)))",
-        b"cost 1:62",
-    ),
-];
-
-#[test]
-fn actions(rt: HostRuntime) -> Result<(), Fail> {
-    for (text, wanted) in ACTIONS {
-        assert!(rt; text.len() < 10_000);
-        let shown = domain_shown(rt.alloc(), text)?;
-        assert_eq!(rt; shown.as_slice(), wanted, "{text:?}");
-    }
-    Ok(())
-}
-
-const PROBLEMS: [(&[u8], &[u8]); 10] = [
-    (b"(define (problem p) (:domain d))", b"p|d||||"),
-    (
-        b"(define (problem p) (:domain d) (:objects box - parcel x y - place (:private yard - place)))",
-        b"p|d| box:parcel x:place y:place yard:place!|||",
+        File::Problem,
+        b"(define (problem p) (:domain d) (:init (p) (= (f a b) 3) (q a) (= (total-cost) 0.0) (p) (= (f a b) 3.0)))",
+        b"p|d|| p() q( 'a) p()| f( 'a 'b)=3 total-cost()=0 f( 'a 'b)=3|",
     ),
     (
-        b"(define (problem p) (:domain d) (:init (p) (= (f a b) 3) (q a) (= (total-cost) 0.0) (p)))",
-        b"p|d|| p() q( 'a) p()| f( 'a 'b)=3 total-cost()=0|",
+        File::Problem,
+        b"(define (problem p) (:metric minimize (total-cost)) (:goal (and (p) (q a))) (:init (q)) (:domain E) (:objects o - t (:private u)))",
+        b"p|e| o:t u!| q()|| p() q( 'a)|least",
     ),
     (
-        b"(define (problem p) (:domain d) (:init (= (f a) 1) (= (f b) 2) (= (f a) 1.0)))",
-        b"p|d||| f( 'a)=1 f( 'b)=2 f( 'a)=1|",
-    ),
-    (
-        b"(define (problem p) (:domain d) (:goal (and (p a) (and (q)) ())))",
-        b"p|d|||| p( 'a) q()",
-    ),
-    (
-        b"(define (problem p) (:metric minimize (total-cost)) (:goal (p)) (:init (q)) (:domain E) (:objects o))",
-        b"p|e| o| q()|| p()|least",
-    ),
-    (
+        File::Problem,
         b"(define (problem p) (:domain d) (:init (= (f) 1) (= (f) 2)))",
         b"cost 1:57",
     ),
-    (b"(define (problem p))", b"shape 1:1"),
-    (
-        b"(define (problem p) (:domain d) (:metric maximize (f)))",
-        b"unsupported :metric 1:34",
-    ),
-    (
-        b"(define (problem p)\n (:domain d)\n (:init (not (p))))",
-        b"unsupported not 3:10",
-    ),
+    (File::Problem, b"(define (problem p))", b"shape 1:1"),
 ];
 
 #[test]
-fn problems_said(rt: HostRuntime) -> Result<(), Fail> {
-    for (text, wanted) in PROBLEMS {
+fn values(rt: HostRuntime) -> Result<(), Fail> {
+    for (file, text, wanted) in VALUES {
         assert!(rt; text.len() < 10_000);
-        let shown = problem_shown(rt.alloc(), text)?;
-        assert_eq!(rt; shown.as_slice(), wanted, "{text:?}");
+        let found = shown(rt.alloc(), file, text)?;
+        assert_eq!(rt; found.as_slice(), wanted, "{text:?}");
     }
-    Ok(())
-}
-
-/// Appends a word and its place.
-fn show_placed(out: &mut Vec<u8>, word: &Word) -> Result<(), OutOfMemory> {
-    show(out, word.name.as_slice())?;
-    show_place(out, word.at)?;
-    show(out, b";")
-}
-
-/// The types of a domain and their types, each with its place.
-fn places_shown(alloc: Global, text: &[u8]) -> Result<Vec<u8>, Fail>
-    requires { length text.now < 2 ^ 31 }
-{
-    let tree = read(alloc, text)?;
-    let mut out = Vec::new(alloc);
-    if let Ok(domain) = domain(alloc, &tree) {
-        show_placed(&mut out, &domain.word)?;
-        for typed in domain.types.as_slice() {
-            show_placed(&mut out, &typed.word)?;
-            for word in typed.types.as_slice() {
-                show_placed(&mut out, word)?;
-            }
-        }
-    }
-    Ok(out)
-}
-
-const PLACES: &[u8] = b"(define (domain d)\n (:types a\n  b - (either c e) f))";
-
-const PLACES_SHOWN: &[u8] = b"d 1:17;a 2:10;c 3:15;e 3:17;b 3:3;c 3:15;e 3:17;f 3:20;";
-
-#[test]
-fn places(rt: HostRuntime) -> Result<(), Fail> {
-    let shown = places_shown(rt.alloc(), PLACES)?;
-    assert_eq!(rt; shown.as_slice(), PLACES_SHOWN);
     Ok(())
 }
