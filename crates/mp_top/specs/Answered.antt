@@ -10,9 +10,9 @@ use Rattle.mp_search.specs.declared.answer.Answer.{Answer}
 use Rattle.mp_top.specs.Files.{HoldsFactor}
 use Rattle.mp_top.specs.Outcome.{outcome_text}
 use Rattle.mp_top.specs.Words.{Request}
-use Rattle.mp_top.specs.declared.log.Entry.{Entry}
-use Rattle.mp_top.specs.declared.log.Entry.TheVariants.{Act}
-use Rattle.mp_top.specs.declared.log.Kind.TheVariants.{Expand, Start}
+use Rattle.mp_messages.specs.declared.history.Entry.{Entry}
+use Rattle.mp_messages.specs.declared.history.Entry.TheVariants.{Act}
+use Rattle.mp_messages.specs.declared.history.Kind.TheVariants.{Expand, Start}
 
 -- the files hold a factor for which this answer and plan were found, in so many expansions
 abbrev pub IsFoundIn : Option Files → Request → Answer → ℕ → List PlanStep → Type 0

@@ -1,10 +1,12 @@
 -- The text of an outcome: whole lines, each with a line feed, numbers in decimal without leading zeros.
-use Rattle.std.specs.Prelude.{ℕ, zero, suc, ◌+◌, ◌==◌, List, [], ◌∷◌, ◌++◌, length, codes, decimal, if◌then◌else◌}
-use Rattle.std.specs.List.{flat_map}
+use Rattle.std.specs.Prelude.{ℕ, zero, suc, ◌+◌, ◌==◌, List, [], ◌∷◌, ◌++◌, length, codes, decimal, Option, Some, None, if◌then◌else◌}
+use Rattle.std.specs.List.{filter_map, flat_map, sum_by}
 use Rattle.mp_joint.specs.declared.plan.PlanStep.{PlanStep}
+use Rattle.mp_messages.specs.History.{schedule}
+use Rattle.mp_messages.specs.declared.history.Entry.{Entry}
+use Rattle.mp_messages.specs.declared.history.Entry.TheVariants.{Act, Put, Took}
 use Rattle.mp_search.specs.declared.Answer.{Answer}
 use Rattle.mp_search.specs.declared.Answer.TheVariants.{Nothing, Solved, Unsolvable, Undecided}
-use Rattle.mp_top.specs.declared.log.Entry.{Entry}
 
 -- these lines, one after another
 abbrev pub text_of_lines : List (List ℕ) → List ℕ
@@ -25,9 +27,28 @@ abbrev pub agent_lines : ℕ → List PlanStep → List (List ℕ)
 agent_lines zero plan = []
 agent_lines (suc n) plan = agent_lines n plan ++ (codes "agent " ++ decimal (n + 1)) ∷ share_lines (n + 1) 1 plan
 
--- `events N messages M bytes B`; one agent alone sends nothing
+-- the message of an entry that puts one
+abbrev pub message_put : Entry → Option (List ℕ)
+message_put (Act agent kind) = None
+message_put (Put from to bytes) = Some bytes
+message_put (Took by from bytes) = None
+
+-- the messages that agents put, and the bytes of all of them
+abbrev pub messages : List Entry → List (List ℕ)
+messages log = filter_map message_put log
+
+abbrev pub message_bytes : List Entry → ℕ
+message_bytes log = sum_by length (messages log)
+
+-- a label and a number
+abbrev pub labelled : List ℕ → ℕ → List ℕ
+labelled label number = label ++ decimal number
+
+-- `events N messages M bytes B`: the events are the entries that are acts and receipts
 abbrev pub count_line : List Entry → List ℕ
-count_line log = codes "events " ++ (decimal (length log) ++ codes " messages 0 bytes 0")
+count_line log =
+    labelled (codes "events ") (length (schedule log))
+    ++ (labelled (codes " messages ") (length (messages log)) ++ labelled (codes " bytes ") (message_bytes log))
 
 -- the lines of the outcome of a team of this many agents
 abbrev pub outcome_lines : ℕ → Answer → List PlanStep → List Entry → List (List ℕ)

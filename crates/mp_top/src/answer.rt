@@ -5,12 +5,12 @@ ghost use Rattle.mp_plain.specs.PlainPart.{IsRead};
 ghost use Rattle.mp_top.specs.Answered.{lone_log as lone_log_of};
 ghost use Rattle.mp_top.specs.Decision.{Decides};
 
-use crate::log::{Entry, Kind, Log};
 use crate::outcome::write_outcome;
-use mp_joint::Agent;
 use mp_list::{List, OutOfMemory};
+use mp_messages::{Entry, Kind, Log};
 use mp_plain::{PlainFactor, solve};
 use mp_search::Answer;
+use mp_sets::Agent;
 use std::alloc::Global;
 
 /// How many agents there are.

@@ -2,8 +2,8 @@
 #![tactic(auto)]
 
 mod answer;
+mod counts;
 mod first;
-mod log;
 mod on_files;
 mod on_one_thread;
 mod on_threads;
@@ -15,13 +15,12 @@ mod status;
 mod words;
 
 pub use first::one_first;
-pub use log::{Entry, Kind, Log};
 pub use mp_plain::{PlainFactor, PlainRefusal, plain};
 pub use on_files::run_on_files;
 pub use on_one_thread::run_alone;
 pub use on_threads::run;
 pub use refusal::{Fault, Refusal};
-pub use report::{Bytes, Report, Views};
+pub use report::Report;
 pub use status::Status;
 pub use words::alone;
 

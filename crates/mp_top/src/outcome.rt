@@ -2,12 +2,13 @@
 
 ghost use Rattle.std.specs.Prelude.{◌≡◌, ◌++◌, ◌∷◌, ◌+◌, ◌<◌, ◌^◌, [], length, decimal, OnOk, IfOk, codes};
 ghost use Rattle.std.specs.List.{flat_map};
-ghost use Rattle.mp_top.specs.Outcome.{step_line, share_lines, agent_lines, count_line, text_of_lines, outcome_text};
+ghost use Rattle.mp_top.specs.Outcome.{step_line, share_lines, agent_lines, count_line, labelled, text_of_lines, outcome_text};
 
-use crate::log::Log;
+use crate::counts::count;
 use itoa::Buffer;
 use mp_joint::{JointPlan, PlanStep};
 use mp_list::OutOfMemory;
+use mp_messages::{Entry, Log};
 use mp_search::Answer;
 use std::alloc::Global;
 
@@ -20,7 +21,7 @@ fn push_bytes(text: &mut Vec<u8>, bytes: &[u8]) -> Result<(), OutOfMemory>
 }
 
 /// Appends a number in decimal.
-fn push_number(text: &mut Vec<u8>, number: u64) -> Result<(), OutOfMemory>
+fn push_number(text: &mut Vec<u8>, number: u128) -> Result<(), OutOfMemory>
     ensures { OnOk result (text.new.items ≡ text.old.items ++ decimal number) }
 {
     let mut buffer = Buffer::new();
@@ -32,30 +33,23 @@ fn push_labelled(text: &mut Vec<u8>, label: &[u8], number: u64) -> Result<(), Ou
     ensures { OnOk result (text.new.items ≡ text.old.items ++ (label.now ++ decimal number ++ 10 ∷ [])) }
 {
     push_bytes(text, label)?;
-    push_number(text, number)?;
+    push_number(text, u128::from(number))?;
     push_bytes(text, b"\n")
 }
 
-/// Appends a line of a number between two texts.
-fn push_line(
-    text: &mut Vec<u8>,
-    before: &[u8],
-    number: u64,
-    after: &[u8],
-) -> Result<(), OutOfMemory>
-    ensures { OnOk result (text.new.items ≡ text.old.items ++ (before.now ++ (decimal number ++ after.now) ++ 10 ∷ [])) }
+/// Appends a label and a number.
+fn push_count(text: &mut Vec<u8>, label: &[u8], number: u128) -> Result<(), OutOfMemory>
+    ensures { OnOk result (text.new.items ≡ text.old.items ++ labelled label.now number) }
 {
-    push_bytes(text, before)?;
-    push_number(text, number)?;
-    push_bytes(text, after)?;
-    push_bytes(text, b"\n")
+    push_bytes(text, label)?;
+    push_number(text, number)
 }
 
 /// Appends the line of a step.
 fn push_step(text: &mut Vec<u8>, time: u64, step: &PlanStep) -> Result<(), OutOfMemory>
     ensures { OnOk result (text.new.items ≡ text.old.items ++ (step_line time step.now ++ 10 ∷ [])) }
 {
-    push_number(text, time)?;
+    push_number(text, u128::from(time))?;
     push_bytes(text, b": (")?;
     push_bytes(text, step.action.as_slice())?;
     push_arguments(text, step)?;
@@ -98,10 +92,14 @@ fn push_agents(text: &mut Vec<u8>, agents: u16, plan: &[PlanStep]) -> Result<(),
 }
 
 /// Appends the line that counts events, messages and their bytes.
-fn push_counts(text: &mut Vec<u8>, log: &Log) -> Result<(), OutOfMemory>
+fn push_counts(text: &mut Vec<u8>, log: &[Entry]) -> Result<(), OutOfMemory>
     ensures { OnOk result (text.new.items ≡ text.old.items ++ (count_line log.now ++ 10 ∷ [])) }
 {
-    push_line(text, b"events ", log.len() as u64, b" messages 0 bytes 0")
+    let counts = count(log);
+    push_count(text, b"events ", u128::from(counts.events))?;
+    push_count(text, b" messages ", u128::from(counts.messages))?;
+    push_count(text, b" bytes ", counts.bytes)?;
+    push_bytes(text, b"\n")
 }
 
 /// The text of the outcome of a team of so many agents: the answer, the plan where there is one, and the
@@ -126,6 +124,6 @@ pub(crate) fn write_outcome(
         Answer::Unsolvable => push_bytes(&mut text, b"unsolvable\n")?,
         Answer::Undecided => push_bytes(&mut text, b"undecided\n")?,
     }
-    push_counts(&mut text, log)?;
+    push_counts(&mut text, log.as_slice())?;
     Ok(text)
 }

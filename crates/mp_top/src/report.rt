@@ -2,19 +2,14 @@
 
 ghost use Rattle.mp_top.specs.Report.{IsEmptyReport};
 
-use crate::log::Log;
 use mp_list::List;
+use mp_messages::{Log, Views};
 use mp_search::Answer;
 use std::alloc::Global;
 
-/// Bytes, as a list.
-pub type Bytes = List<u8>;
-
-/// The bytes of each agent's view of the problem, by agent.
-pub type Views = List<Bytes>;
-
-/// What was found, and how: the views that the agents showed one another, the log of what they did, and the
-/// answer. It is empty, with the answer `Nothing`, where a call ends without an outcome.
+/// What was found, and how: what each agent sees of the problem, as the bytes that it could show the others, the
+/// log of what the agents did, and the answer. It is empty, with the answer `Nothing`, where a call ends without
+/// an outcome.
 #[derive(Drop)]
 pub struct Report {
     pub views: Views,

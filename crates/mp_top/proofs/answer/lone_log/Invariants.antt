@@ -1,7 +1,7 @@
 use Rattle.std.proofs.Common.{◌≡◌}
 use Rattle.std.specs.Prelude.{replicate}
-use Rattle.mp_top.specs.declared.log.Entry.TheVariants.{Act}
-use Rattle.mp_top.specs.declared.log.Kind.TheVariants.{Expand}
+use Rattle.mp_messages.specs.declared.history.Entry.TheVariants.{Act}
+use Rattle.mp_messages.specs.declared.history.Kind.TheVariants.{Expand}
 use Rattle.mp_top.proofs.answer.lone_log.Given as goal
 
 abbrev pub invariant-loop : goal.invariant-loop
