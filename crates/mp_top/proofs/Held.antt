@@ -1,15 +1,16 @@
 -- From what was fetched and read to what the files hold.
-use Rattle.std.proofs.Common.{◌≡◌, ℕ, ◌+◌, ◌<◌, ◌≤◌, ◌⊎◌, inl, inr, min, length, take, Option, Some, None, Result, Ok, Err, IfOk, IfErr, IfSome, IsSomeAnd, refl, sym, subst, ap, ◌∙◌, arith}
+use Rattle.std.proofs.Common.{◌≡◌, ◌+◌, ◌<◌, ◌≤◌, inl, inr, min, length, take, Option, Some, None, Result, Ok, Err, IfOk, IfErr, IfSome, IsSomeAnd, refl, sym, subst, ap, ◌∙◌, arith}
 use Rattle.std.proofs.lemmas.List.{length-take, take_all}
 use Rattle.mp_joint.specs.Fact.{Text}
-use Rattle.mp_outside.specs.Source.{Files, IsFrontOf, FaultAt}
+use Rattle.mp_outside.specs.Source.{Files, IsFrontOf, Lacks}
 use Rattle.mp_factor.specs.declared.files.File.{File}
 use Rattle.mp_factor.specs.declared.files.File.TheVariants as file
 use Rattle.mp_factor.specs.FactorParts.{DomainParts, ProblemParts}
 use Rattle.mp_plain.specs.declared.form.PlainFactor.{PlainFactor}
 use Rattle.mp_sexp.specs.declared.refusal.ReadRefusal.{ReadRefusal}
 use Rattle.mp_sexp.specs.declared.refusal.ReadRefusal.TheVariants as text
-use Rattle.mp_top.specs.Cause.{Rests, RestsOnFile, IsTextOf, CannotRead, IsFittingBefore}
+use Rattle.mp_top.specs.Call.{SeenSource}
+use Rattle.mp_top.specs.Cause.{Rests, IsTextOf, IsFittingBefore}
 use Rattle.mp_top.specs.Files.{IsFirst, IsLong, MakesFactor, Reads, ReadsTexts, SaysDomain, SaysProblem, longest_file, text_refusal}
 use Rattle.mp_top.specs.Leads.{Leads}
 use Rattle.mp_top.specs.Reading.{Refuses}
@@ -80,16 +81,20 @@ no_read domain problem other (inr (d, shape, inl h)) = problem_not_read other pr
 no_read domain problem other (inr (d, shape, inr (p, also, h))) = factor_not_read d p other h
 
 -- a refusal of two texts is the first one
-pub texts_first : (held : Option Files) (before now : ℕ) (fault_at : Option Text) (request : Request) (domain problem : Text) (r : Refusal) → IsTextOf held request.domain domain → IsTextOf held request.problem problem → length domain ≤ longest_file → length problem ≤ longest_file → Refuses (ReadsTexts domain problem) r → Rests held before now fault_at request r
-texts_first held before now fault_at request domain problem (why.Read at) d p m n h = absurd (no_read domain problem at h)
-texts_first None before now fault_at request domain problem (why.TooLarge at) d p m n h = tt
-texts_first (Some files) before now fault_at request domain problem (why.TooLarge at) d p m n h = inr (domain, (d, m), inr (problem, (p, n), h))
-texts_first None before now fault_at request domain problem (why.Fault at kind place) d p m n h = tt
-texts_first (Some files) before now fault_at request domain problem (why.Fault at kind place) d p m n h = inr (domain, (d, m), inr (problem, (p, n), h))
-texts_first None before now fault_at request domain problem (why.NotBuilt at) d p m n h = tt
-texts_first (Some files) before now fault_at request domain problem (why.NotBuilt at) d p m n h = inr (domain, (d, m), inr (problem, (p, n), h))
-texts_first held before now fault_at request domain problem why.Write d p m n h = absurd h
-texts_first held before now fault_at request domain problem why.Memory d p m n h = tt
+module _ (files : Files) (request : Request) (domain problem : Text) (d : files request.domain ≡ Some domain) (p : files request.problem ≡ Some problem) (m : length domain ≤ longest_file) (n : length problem ≤ longest_file) where
+  read_whole : (r : Refusal) → ReadsTexts domain problem (Err r) → IsFirst files request r
+  read_whole r h = inr (domain, (d, m), inr (problem, (p, n), h))
+
+first_in : (held : Option Files) (request : Request) (domain problem : Text) (r : Refusal) → IsTextOf held request.domain domain → IsTextOf held request.problem problem → length domain ≤ longest_file → length problem ≤ longest_file → ReadsTexts domain problem (Err r) → IfSome held (λ files. IsFirst files request r)
+first_in None request domain problem r d p m n h = tt
+first_in (Some files) request domain problem r d p m n h = read_whole files request domain problem d p m n r h
+
+pub texts_first : (source : SeenSource) (request : Request) (domain problem : Text) (r : Refusal) → IsTextOf source.held request.domain domain → IsTextOf source.held request.problem problem → length domain ≤ longest_file → length problem ≤ longest_file → Refuses (ReadsTexts domain problem) r → Rests source request r
+texts_first source request domain problem (why.Read at) d p m n h = absurd (no_read domain problem at h)
+texts_first source request domain problem (why.TooLarge at) d p m n h = first_in source.held request domain problem (why.TooLarge at) d p m n h
+texts_first source request domain problem (why.Fault at kind place) d p m n h = first_in source.held request domain problem (why.Fault at kind place) d p m n h
+texts_first source request domain problem (why.NotBuilt at) d p m n h = first_in source.held request domain problem (why.NotBuilt at) d p m n h
+texts_first source request domain problem why.Memory d p m n h = tt
 
 some_and : {A : Type 0} (o : Option A) (P Q : A → Type 0) → ((x : A) → P x → Q x) → IsSomeAnd o P → IsSomeAnd o Q
 some_and None P Q f h = absurd h
@@ -120,28 +125,14 @@ long_first files request file.Problem fits long =
     let domain = fitting_text (files request.domain) fits in
     inr (domain.0, (domain.1, domain.2), inl (refl, long))
 
--- why a file cannot be read, where those before it fit
-cannot_read : (held : Option Files) (first before now : ℕ) (fault_at : Option Text) (request : Request) (at : File) → first ≤ before → IfSome held (λ files. IsFittingBefore files request at) → IsSomeAnd held (λ files. files (name_in request at) ≡ None) ⊎ ((before < now) × FaultAt held fault_at (Some (name_in request at))) → CannotRead held first now fault_at request at
-cannot_read None first before now fault_at request at le fits (inl absent) = absurd absent
-cannot_read (Some files) first before now fault_at request at le fits (inl absent) = inl (absent_first files request at fits absent)
-cannot_read held first before now fault_at request at le fits (inr fault) =
-    let risen : before < now = fault.0 in
-    inr (record { count = omega arith; place = fault.1; others = fits })
+-- a file that the source does not hold, or at which it had a fault, cannot be read, where those before it fit
+pub absent_file : (held : Option Files) (request : Request) (at : File) → IfSome held (λ files. IsFittingBefore files request at) → Lacks held (name_in request at) → IsSomeAnd held (λ files. IsFirst files request (why.Read at))
+absent_file None request at fits absent = absurd absent
+absent_file (Some files) request at fits absent = absent_first files request at fits absent
 
-too_large : (held : Option Files) (request : Request) (at : File) → IfSome held (λ files. IsFittingBefore files request at) → IfSome held (λ files. IsLong (files (name_in request at))) → IfSome held (λ files. IsFirst files request (why.TooLarge at))
+pub too_large : (held : Option Files) (request : Request) (at : File) → IfSome held (λ files. IsFittingBefore files request at) → IfSome held (λ files. IsLong (files (name_in request at))) → IfSome held (λ files. IsFirst files request (why.TooLarge at))
 too_large None request at fits long = tt
 too_large (Some files) request at fits long = long_first files request at fits long
-
--- a refusal of a file is the first one, where the files before it fit
-pub file_first : (held : Option Files) (first before now : ℕ) (fault_at : Option Text) (request : Request) (at : File) (r : Refusal) → first ≤ before → IfSome held (λ files. IsFittingBefore files request at) → RestsOnFile held before now fault_at request at r → Rests held first now fault_at request r
-file_first held first before now fault_at request at (why.Read other) le fits h =
-    subst (λ a. CannotRead held first now fault_at request a) (sym h.0) (cannot_read held first before now fault_at request at le fits h.1)
-file_first held first before now fault_at request at (why.TooLarge other) le fits h =
-    subst (λ a. IfSome held (λ files. IsFirst files request (why.TooLarge a))) (sym h.0) (too_large held request at fits h.1)
-file_first held first before now fault_at request at (why.Fault other kind place) le fits h = absurd h
-file_first held first before now fault_at request at (why.NotBuilt other) le fits h = absurd h
-file_first held first before now fault_at request at why.Write le fits h = absurd h
-file_first held first before now fault_at request at why.Memory le fits h = tt
 
 -- nothing stands before the domain's file
 pub none_before : (held : Option Files) (request : Request) → IfSome held (λ files. IsFittingBefore files request file.Domain)

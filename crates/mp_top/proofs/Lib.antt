@@ -1,7 +1,7 @@
 pub mod Decided
 pub mod Held
+pub mod Kept
 pub mod One
 pub mod ReadingLemmas
 pub mod Said
-pub mod Tells
 pub mod WordLemmas

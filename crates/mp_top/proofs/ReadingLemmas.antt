@@ -10,7 +10,6 @@ stops first next (why.Read at) h = inl h
 stops first next (why.TooLarge at) h = inl h
 stops first next (why.Fault at kind place) h = inl h
 stops first next (why.NotBuilt at) h = inl h
-stops first next why.Write h = absurd h
 stops first next why.Memory h = tt
 
 -- and what the next one refuses behind its value
@@ -19,7 +18,6 @@ goes_on first next x (why.Read at) leads h = inr (x, leads, h)
 goes_on first next x (why.TooLarge at) leads h = inr (x, leads, h)
 goes_on first next x (why.Fault at kind place) leads h = inr (x, leads, h)
 goes_on first next x (why.NotBuilt at) leads h = inr (x, leads, h)
-goes_on first next x why.Write leads h = absurd h
 goes_on first next x why.Memory leads h = tt
 
 -- a reading leads to one thing alone

@@ -57,7 +57,6 @@ Fetches found at (Err (why.Read other)) = (other ≡ at) × (found ≡ None)
 Fetches found at (Err (why.TooLarge other)) = (other ≡ at) × IsLong found
 Fetches found at (Err (why.Fault other kind place)) = ⊥
 Fetches found at (Err (why.NotBuilt other)) = ⊥
-Fetches found at (Err why.Write) = ⊥
 Fetches found at (Err why.Memory) = ⊥
 
 -- what the reader's refusal of a file's text is here
@@ -136,7 +135,6 @@ HasPlainForm factor (Err (why.TooLarge at)) = ⊥
 HasPlainForm factor (Err (why.Fault at kind place)) = ⊥
 HasPlainForm factor (Err (why.NotBuilt file.Domain)) = is_plain_domain factor.domain ≡ false
 HasPlainForm factor (Err (why.NotBuilt file.Problem)) = (is_plain_domain factor.domain ≡ true) × (is_plain_problem factor.problem ≡ false)
-HasPlainForm factor (Err why.Write) = ⊥
 HasPlainForm factor (Err why.Memory) = ⊥
 
 -- a domain and a problem lead to their factor

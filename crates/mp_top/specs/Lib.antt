@@ -1,12 +1,13 @@
 pub mod Answered
+pub mod Call
 pub mod Cause
 pub mod Decision
 pub mod Files
+pub mod Keeps
 pub mod Leads
 pub mod Outcome
 pub mod Reading
 pub mod Refusal
 pub mod Report
-pub mod Run
 pub mod Status
 pub mod Words

@@ -1,8 +1,6 @@
 -- Why a call ends without an outcome: its status, and the line that says so.
-use Rattle.std.specs.Prelude.{◌≡◌, ℕ, [], ◌∷◌, ◌++◌, codes, decimal, Option}
-use Rattle.std.specs.Io.KnownBytes.{Appends}
+use Rattle.std.specs.Prelude.{[], ◌∷◌, ◌++◌, codes, decimal}
 use Rattle.mp_joint.specs.Fact.{Text}
-use Rattle.mp_outside.specs.Sink.{AppendsBeginning}
 use Rattle.mp_factor.specs.declared.files.File.{File}
 use Rattle.mp_factor.specs.declared.files.File.TheVariants.{Domain, Problem}
 use Rattle.mp_sexp.specs.declared.tree.Place.{Place}
@@ -29,7 +27,6 @@ status_of (why.Read file) = status.Read
 status_of (why.TooLarge file) = status.TooLarge
 status_of (why.Fault file kind place) = status.Refused
 status_of (why.NotBuilt file) = status.Refused
-status_of why.Write = status.Write
 status_of why.Memory = status.Memory
 
 -- the code and name of a fault
@@ -85,10 +82,4 @@ line_of request (why.Read file) = read_line (name_in request file)
 line_of request (why.TooLarge file) = too_large_line (name_in request file)
 line_of request (why.Fault file kind place) = fault_line (name_in request file) kind place
 line_of request (why.NotBuilt file) = not_built_line (name_in request file)
-line_of request why.Write = write_line
 line_of request why.Memory = memory_line
-
--- a sink gained a beginning of this text, and all of it where its count of faults did not rise
-abbrev pub Says : {E : Type 0} → (E → Option Text) → (E → ℕ) → E → E → Text → Type 0
-Says written faults old new text =
-    AppendsBeginning (written old) (written new) text × (faults new ≡ faults old → Appends (written old) (written new) text)

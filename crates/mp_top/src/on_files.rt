@@ -1,5 +1,10 @@
 //! The top call over real files: what the program does with the words of its command line.
 
+ghost use Rattle.std.specs.Prelude.{◌≡◌, map, string_bytes, MatchOption, vec_items};
+ghost use Rattle.mp_top.specs.Call.{seen_sink, Says};
+ghost use Rattle.mp_top.specs.Keeps.{KeepsUnseen};
+ghost use Rattle.mp_top.specs.Refusal.{memory_line};
+
 use crate::on_threads::run;
 use crate::refusal::tell_memory;
 use crate::report::Report;
@@ -19,7 +24,11 @@ pub fn run_on_files<R: Files + Threads + Wait + Sync, K: Sink, E: Sink>(
     words: Option<Vec<String>>,
     out: &mut K,
     err: &mut E,
-) -> Status {
+) -> Status
+    ensures { let told = seen_sink E.written E.faults err.old err.new in
+        MatchOption words ((result ≡ Status.Memory) × (out.new ≡ out.old) × Says told memory_line)
+        (λ words. KeepsUnseen (map string_bytes words.items) (seen_sink K.written K.faults out.old out.new) told result) }
+{
     let Some(words) = words else {
         tell_memory(err);
         return Status::Memory;

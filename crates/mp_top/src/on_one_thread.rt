@@ -1,21 +1,19 @@
 //! The whole of the program on one thread.
 
-ghost use Rattle.std.specs.Prelude.{◌≡◌, ◌<◌, ◌↔◌, ℕ, List, None, true, map, string_bytes, IfOk, IfErr};
-ghost use Rattle.std.specs.Io.KnownBytes.{Appends};
-ghost use Rattle.mp_outside.specs.Sink.{AppendsBeginning};
+ghost use Rattle.std.specs.Prelude.{◌≡◌, ◌<◌, ℕ, List, Some, true, map, string_bytes, IfOk, IfErr};
 ghost use Rattle.mp_plain.specs.PlainPart.{IsRead};
+ghost use Rattle.mp_top.specs.Call.{Call, seen_source, seen_sink};
 ghost use Rattle.mp_top.specs.Cause.{Rests};
-ghost use Rattle.mp_top.specs.Decision.{Decides};
-ghost use Rattle.mp_top.specs.Answered.{IsOutcome};
-ghost use Rattle.mp_top.specs.Refusal.{asked, line_of, Says, write_line};
+ghost use Rattle.mp_top.specs.Decision.{Decides, DecidesFiles, Publishes};
+ghost use Rattle.mp_top.specs.Keeps.{Keeps, answer_status};
+ghost use Rattle.mp_top.specs.Refusal.{asked, status_of};
 ghost use Rattle.mp_top.specs.Report.{IsEmptyReport};
-ghost use Rattle.mp_top.specs.Run.{Prints, PrintsFor, IsLine, IsLineFor, answer_status, published_line, CannotReadFile, DecidesFiles, Publishes, TellsFirst, TellsFirstOf};
 ghost use Rattle.mp_top.specs.Words.{request_of, is_alone};
 
 use crate::answer::{Decision, answer_factor};
 use crate::first::one_first;
 use crate::reads::plain_of_files;
-use crate::refusal::{Refusal, tell_words};
+use crate::refusal::{Refusal, tell_words, tell_write};
 use crate::report::Report;
 use crate::status::Status;
 use crate::words::{Request, parse_words};
@@ -43,7 +41,9 @@ fn decide<S: Source>(
     request: &Request<'_>,
 ) -> Result<Decision, Refusal>
     ensures outcome { IfOk result (DecidesFiles (S.held source.old) (asked request.now)) }
-    ensures cause { IfErr result (Rests (S.held source.old) (S.faults source.old) (S.faults source.new) (S.fault_at source.new) (asked request.now)) }
+    ensures cause { IfErr result (Rests (seen_source S.held S.faults S.fault_at source.old source.new) (asked request.now)) }
+    ensures no_fault { IfOk result (λ _. S.faults source.new ≡ S.faults source.old) }
+    ensures fault { IfErr result (λ r. S.faults source.old < S.faults source.new → status_of r ≡ Status.Read) }
 {
     let factor = plain_of_files(alloc, source, request)?;
     answered(alloc, &factor)
@@ -64,26 +64,24 @@ fn status_of_answer(answer: Answer) -> Status
 /// Keeps the decision in the report and writes its text.
 fn publish<K: Sink, E: Sink>(
     decision: Decision,
-    request: &Request<'_>,
     out: &mut K,
     err: &mut E,
     report: &mut Report,
 ) -> Status
     ensures report { (report.new.answer ≡ decision.answer) × (report.new.log ≡ decision.log) × (report.new.views ≡ report.old.views) }
-    ensures written { Publishes (K.written out.old) (K.written out.new) (K.faults out.old) (K.faults out.new) decision result }
-    ensures line { Says E.written E.faults err.old err.new (published_line result) }
+    ensures told { Publishes (seen_sink K.written K.faults out.old out.new) (seen_sink E.written E.faults err.old err.new) decision result }
 {
     let Decision { answer, log, text } = decision;
     report.answer = answer;
     report.log = log;
     if put(out, text.as_slice()).is_err() {
-        Refusal::Write.tell(request, err);
+        tell_write(err);
         return Status::Write;
     }
     status_of_answer(answer)
 }
 
-/// Answers accepted words: the outcome on `out` and in the report, or the line of a refusal on `err`.
+/// Answers words that ask for this: the outcome on `out` and in the report, or the line of a refusal on `err`.
 fn answer_request<S: Source, K: Sink, E: Sink>(
     alloc: Global,
     request: &Request<'_>,
@@ -92,16 +90,19 @@ fn answer_request<S: Source, K: Sink, E: Sink>(
     err: &mut E,
     report: &mut Report,
 ) -> Status
-    requires empty { IsEmptyReport report.old }
-    ensures printed { PrintsFor (S.held source.old) (asked request.now) report.old report.new (K.written out.old) (K.written out.new) result }
-    ensures line { (line : List ℕ)
-        × IsLineFor (S.held source.old) (asked request.now) (S.faults source.old) (S.faults source.new) (S.fault_at source.new) (K.faults out.old) (K.faults out.new) result line
-        × Says E.written E.faults err.old err.new line }
-    ensures first { TellsFirst E.written E.faults (S.held source.old) (asked request.now) err.old err.new result }
+    requires { IsEmptyReport report.old }
+    ensures { (ws : List (List ℕ)) → request_of ws ≡ Some (asked request.now) → Keeps (record {
+        words = ws;
+        source = seen_source S.held S.faults S.fault_at source.old source.new;
+        out = seen_sink K.written K.faults out.old out.new;
+        err = seen_sink E.written E.faults err.old err.new;
+        before = report.old;
+        report = report.new;
+        status = result }) }
 {
     one_first();
     match decide(alloc, source, request) {
-        Ok(decision) => publish(decision, request, out, err, report),
+        Ok(decision) => publish(decision, out, err, report),
         Err(refusal) => {
             refusal.tell(request, err);
             refusal.status()
@@ -123,23 +124,14 @@ pub fn run_alone<S: Source, K: Sink, E: Sink>(
 ) -> Status
     requires alone { is_alone (map string_bytes words.now) ≡ true }
     requires empty { IsEmptyReport report.old }
-    // Which words are refused.
-    ensures words { (result ≡ Status.Words) ↔ (request_of (map string_bytes words.now) ≡ None) }
-
-    // Where a file cannot be read, and where the output cannot be written.
-    ensures read { result ≡ Status.Read → CannotReadFile (S.held source.old) (map string_bytes words.now) (S.faults source.old) (S.faults source.new) (S.fault_at source.new) }
-    ensures write { result ≡ Status.Write → K.faults out.old < K.faults out.new }
-
-    // What is printed, and what the report holds.
-    ensures printed { Prints (S.held source.old) (map string_bytes words.now) report.old report.new (K.written out.old) (K.written out.new) result }
-
-    // The line on `err`, and what it rests on.
-    ensures line { (line : List ℕ)
-        × IsLine (S.held source.old) (map string_bytes words.now) (S.faults source.old) (S.faults source.new) (S.fault_at source.new) (K.faults out.old) (K.faults out.new) result line
-        × Says E.written E.faults err.old err.new line }
-
-    // The first refusal by the files comes, but for faults of reading and want of memory.
-    ensures first { TellsFirstOf E.written E.faults (S.held source.old) (map string_bytes words.now) err.old err.new result }
+    ensures { Keeps (record {
+        words = map string_bytes words.now;
+        source = seen_source S.held S.faults S.fault_at source.old source.new;
+        out = seen_sink K.written K.faults out.old out.new;
+        err = seen_sink E.written E.faults err.old err.new;
+        before = report.old;
+        report = report.new;
+        status = result }) }
 {
     match parse_words(words) {
         Some(request) => answer_request(alloc, &request, source, out, err, report),

@@ -1,17 +1,19 @@
 //! The two files of a request, read as one factor, and that brought into plain form.
 
-ghost use Rattle.std.specs.Prelude.{◌≡◌, ◌≤◌, Some, Ok, IfOk, IfErr, IfSome, length, vec_len};
+ghost use Rattle.std.specs.Prelude.{◌≡◌, ◌<◌, ◌≤◌, Some, Ok, IfOk, IfErr, IfSome, length, vec_len};
 ghost use Rattle.mp_factor.specs.FileValues.{domain_value, problem_value};
 ghost use Rattle.mp_plain.specs.PlainPart.{IsRead};
 ghost use Rattle.mp_sexp.specs.Node.{node_of};
 ghost use Rattle.mp_sexp.specs.Spelling.{HasTree};
-ghost use Rattle.mp_top.specs.Cause.{Rests, RestsOnFile, IsTextOf};
+ghost use Rattle.mp_top.specs.Call.{seen_source};
+ghost use Rattle.mp_top.specs.Cause.{IsFittingBefore, IsTextOf, Rests};
 ghost use Rattle.mp_top.specs.Files.{Checks, HasPlainForm, HasShape, MakesFactor, Reads, ReadsTexts, SaysDomain, SaysProblem, Spells, longest_file, told_check, told_shape};
 ghost use Rattle.mp_top.specs.Leads.{Leads};
 ghost use Rattle.mp_top.specs.Reading.{Refuses, Then};
-ghost use Rattle.mp_top.specs.Refusal.{asked, name_in};
+ghost use Rattle.mp_top.specs.Refusal.{asked, name_in, status_of};
 
 use crate::refusal::{Fault, Refusal};
+use crate::status::Status;
 use crate::words::Request;
 use mp_factor::{Domain, File, Problem, ShapeRefusal, domain, problem};
 use mp_outside::{FetchRefusal, Source, fetch};
@@ -23,17 +25,20 @@ use std::alloc::Global;
 /// The greatest number of bytes of a factor file.
 const LONGEST: usize = 4_194_304;
 
-/// The text of one of the two files. At most one byte more is read than a factor file may have.
+/// The text of one of the two files, where those before it fit. At most one byte more is read than a factor file
+/// may have.
 fn text_of<S: Source>(
     alloc: Global,
     source: &mut S,
     request: &Request<'_>,
     file: File,
 ) -> Result<Vec<u8>, Refusal>
+    requires { IfSome (S.held source.old) (λ files. IsFittingBefore files (asked request.now) file) }
     ensures text { IfOk result (λ text. IsTextOf (S.held source.old) (name_in (asked request.now) file) text.items) }
     ensures short { IfOk result (λ text. vec_len text ≤ longest_file) }
-    ensures cause { IfErr result (RestsOnFile (S.held source.old) (S.faults source.old) (S.faults source.new) (S.fault_at source.new) (asked request.now) file) }
-    ensures later { S.faults source.old ≤ S.faults source.new }
+    ensures cause { IfErr result (Rests (seen_source S.held S.faults S.fault_at source.old source.new) (asked request.now)) }
+    ensures no_fault { IfOk result (λ _. S.faults source.new ≡ S.faults source.old) }
+    ensures fault { IfErr result (λ r. S.faults source.old < S.faults source.new → status_of r ≡ Status.Read) }
     ensures held { S.held source.new ≡ S.held source.old }
 {
     match fetch(alloc, source, request.name(file), LONGEST) {
@@ -200,8 +205,9 @@ pub(crate) fn plain_of_files<S: Source>(
 ) -> Result<PlainFactor, Refusal>
     ensures factor { IfOk result (λ plain. IfSome (S.held source.old) (λ files. Leads (Reads files (asked request.now)) plain)) }
     ensures read { IfOk result IsRead }
-    ensures cause { IfErr result (Rests (S.held source.old) (S.faults source.old) (S.faults source.new) (S.fault_at source.new) (asked request.now)) }
-    ensures later { S.faults source.old ≤ S.faults source.new }
+    ensures cause { IfErr result (Rests (seen_source S.held S.faults S.fault_at source.old source.new) (asked request.now)) }
+    ensures no_fault { IfOk result (λ _. S.faults source.new ≡ S.faults source.old) }
+    ensures fault { IfErr result (λ r. S.faults source.old < S.faults source.new → status_of r ≡ Status.Read) }
 {
     let domain = text_of(alloc, source, request, File::Domain)?;
     let problem = text_of(alloc, source, request, File::Problem)?;

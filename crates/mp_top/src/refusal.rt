@@ -2,7 +2,8 @@
 
 ghost use Rattle.std.specs.Prelude.{◌≡◌, ◌++◌, ◌∷◌, [], codes};
 ghost use Rattle.std.specs.List.{flat_map};
-ghost use Rattle.mp_top.specs.Refusal.{status_of, line_of, name_in, text_of_fault, word_of_fault, words_line, memory_line, fault_line, Says, asked};
+ghost use Rattle.mp_top.specs.Call.{seen_sink, Says};
+ghost use Rattle.mp_top.specs.Refusal.{status_of, line_of, name_in, text_of_fault, word_of_fault, words_line, memory_line, write_line, fault_line, asked};
 
 use crate::status::Status;
 use crate::words::Request;
@@ -76,7 +77,7 @@ impl Fault {
     }
 }
 
-/// Why a call of accepted words ends without an outcome.
+/// Why a call of accepted words ends without an outcome, before anything is written.
 #[derive(Drop)]
 pub enum Refusal {
     /// The file is not held, or reading it failed.
@@ -87,8 +88,6 @@ pub enum Refusal {
     Fault(File, Fault, Place),
     /// The file is not of the form that is built so far.
     NotBuilt(File),
-    /// A write to the output failed.
-    Write,
     /// No memory was left.
     Memory,
 }
@@ -103,14 +102,13 @@ impl Refusal {
             Refusal::TooLarge(_) => Status::TooLarge,
             Refusal::Fault(_, _, _) => Status::Refused,
             Refusal::NotBuilt(_) => Status::Refused,
-            Refusal::Write => Status::Write,
             Refusal::Memory => Status::Memory,
         }
     }
 
     /// Writes the line that says so, without taking memory. A fault of the sink changes nothing else.
     pub(crate) fn tell<E: Sink>(&self, request: &Request<'_>, err: &mut E)
-        ensures { Says E.written E.faults err.old err.new (line_of (asked request.now) self.now) }
+        ensures { Says (seen_sink E.written E.faults err.old err.new) (line_of (asked request.now) self.now) }
     {
         match self {
             Refusal::Read(file) => {
@@ -146,7 +144,6 @@ impl Refusal {
                     ],
                 )
             }
-            Refusal::Write => say(err, &[b"maplan: cannot write\n"]),
             Refusal::Memory => tell_memory(err),
         }
     }
@@ -154,21 +151,28 @@ impl Refusal {
 
 /// Writes the line for words that are not accepted.
 pub(crate) fn tell_words<E: Sink>(err: &mut E)
-    ensures { Says E.written E.faults err.old err.new words_line }
+    ensures { Says (seen_sink E.written E.faults err.old err.new) words_line }
 {
     say(err, &[b"maplan: words\n"])
 }
 
+/// Writes the line for a failed write.
+pub(crate) fn tell_write<E: Sink>(err: &mut E)
+    ensures { Says (seen_sink E.written E.faults err.old err.new) write_line }
+{
+    say(err, &[b"maplan: cannot write\n"])
+}
+
 /// Writes the line for want of memory.
 pub(crate) fn tell_memory<E: Sink>(err: &mut E)
-    ensures { Says E.written E.faults err.old err.new memory_line }
+    ensures { Says (seen_sink E.written E.faults err.old err.new) memory_line }
 {
     say(err, &[b"maplan: out of memory\n"])
 }
 
 /// Writes the line of a fault at a place of a file.
 fn tell_fault<E: Sink>(err: &mut E, name: &[u8], fault: &Fault, place: Place)
-    ensures { Says E.written E.faults err.old err.new (fault_line name.now fault.now place) }
+    ensures { Says (seen_sink E.written E.faults err.old err.new) (fault_line name.now fault.now place) }
 {
     let mut line = Buffer::new();
     let mut column = Buffer::new();
@@ -186,7 +190,7 @@ fn say_fault<'a, E: Sink>(
     text: &'a [u8],
     word: &'a [u8],
 )
-    ensures { Says E.written E.faults err.old err.new
+    ensures { Says (seen_sink E.written E.faults err.old err.new)
         (codes "maplan: " ++ (name.now ++ (codes ":" ++ (line.now ++ (codes ":" ++ (column.now ++ (codes ": " ++ (text.now ++ (word.now ++ 10 ∷ []))))))))) }
 {
     say(
@@ -208,7 +212,7 @@ fn say_fault<'a, E: Sink>(
 
 /// Writes these texts as far as the sink takes them.
 fn say<E: Sink>(sink: &mut E, texts: &[&[u8]])
-    ensures { Says E.written E.faults sink.old sink.new (flat_map (λ t. t.now) texts.now) }
+    ensures { Says (seen_sink E.written E.faults sink.old sink.new) (flat_map (λ t. t.now) texts.now) }
 {
     let _ = put_all(sink, texts);
 }

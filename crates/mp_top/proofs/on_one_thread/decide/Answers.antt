@@ -1,9 +1,9 @@
-use Rattle.mp_top.specs.Cause.{Rests}
-use Rattle.mp_top.specs.Decision.{Decides}
-use Rattle.mp_top.specs.Refusal.{asked}
-use Rattle.mp_top.specs.Run.{DecidesFiles}
-use Rattle.mp_top.specs.declared.refusal.Refusal.TheVariants as why
 use Rattle.std.proofs.Common.{◌≡◌}
+use Rattle.mp_top.specs.Call.{seen_source}
+use Rattle.mp_top.specs.Cause.{Rests}
+use Rattle.mp_top.specs.Decision.{Decides, DecidesFiles}
+use Rattle.mp_top.specs.Refusal.{asked}
+use Rattle.mp_top.specs.declared.refusal.Refusal.TheVariants as why
 use Rattle.mp_top.proofs.Decided.{decided, memory_rests}
 use Rattle.mp_top.proofs.Held.{weaker, weaker_err}
 use Rattle.mp_top.proofs.on_one_thread.decide.Goals as goal
@@ -18,9 +18,8 @@ returns-clause-outcome g c =
 
 pub returns-clause-cause : goal.returns-clause-cause
 returns-clause-cause g c =
-    let held = g.S.Source.held c.args.source.now in
+    let source = seen_source g.S.Source.held g.S.Source.faults g.S.Source.fault_at c.args.source.now c.plain_of_files.new.source in
     let request = asked c.args.request.now in
-    weaker_err c.answered.result (λ r. r ≡ why.Memory)
-    (Rests held (g.S.Source.faults c.args.source.now) (g.S.Source.faults c.plain_of_files.new.source) (g.S.Source.fault_at c.plain_of_files.new.source) request)
-    (λ r is. memory_rests held (g.S.Source.faults c.args.source.now) (g.S.Source.faults c.plain_of_files.new.source) (g.S.Source.fault_at c.plain_of_files.new.source) request r is)
+    weaker_err c.answered.result (λ r. r ≡ why.Memory) (Rests source request)
+    (λ r is. memory_rests source request r is)
     c.answered.ensures.memory

@@ -1,4 +1,5 @@
 use Rattle.std.proofs.Common.{◌≤◌, length, IfSome, sym, subst, arith}
+use Rattle.mp_top.specs.Call.{seen_source}
 use Rattle.mp_top.specs.Cause.{Rests, IsTextOf}
 use Rattle.mp_top.specs.Files.{Reads, ReadsTexts, longest_file}
 use Rattle.mp_top.specs.Leads.{Leads}
@@ -25,19 +26,16 @@ returns-clause-factor g c =
 
 pub returns-clause-cause : goal.returns-clause-cause
 returns-clause-cause g c =
-    let held = g.S.Source.held c.args.source.now in
+    let source = seen_source g.S.Source.held g.S.Source.faults g.S.Source.fault_at c.args.source.now c.text_of-2.new.source in
     let request = asked c.args.request.now in
-    let before = g.S.Source.faults c.args.source.now in
-    let now = g.S.Source.faults c.text_of-2.new.source in
-    let fault_at = g.S.Source.fault_at c.text_of-2.new.source in
-    let d : IsTextOf held request.domain c.as_slice.result.now =
-    subst (λ t. IsTextOf held request.domain t) (sym c.as_slice.ensures.value) c.in_ok-domain.ensures.text in
-    let p : IsTextOf held request.problem c.as_slice-2.result.now =
+    let d : IsTextOf source.held request.domain c.as_slice.result.now =
+    subst (λ t. IsTextOf source.held request.domain t) (sym c.as_slice.ensures.value) c.in_ok-domain.ensures.text in
+    let p : IsTextOf source.held request.problem c.as_slice-2.result.now =
     subst (λ h. IsTextOf h request.problem c.as_slice-2.result.now) c.in_ok-domain.ensures.held
     (subst (λ t. IsTextOf (g.S.Source.held c.text_of.new.source) request.problem t) (sym c.as_slice-2.ensures.value) c.in_ok-problem.ensures.text) in
     let m : length c.as_slice.result.now ≤ longest_file = omega (arith, c.as_slice.ensures.len, c.in_ok-domain.ensures.short) in
     let n : length c.as_slice-2.result.now ≤ longest_file = omega (arith, c.as_slice-2.ensures.len, c.in_ok-problem.ensures.short) in
     weaker_err c.plain_of_texts.result (Refuses (ReadsTexts c.as_slice.result.now c.as_slice-2.result.now))
-    (Rests held before now fault_at request)
-    (λ r h. texts_first held before now fault_at request c.as_slice.result.now c.as_slice-2.result.now r d p m n h)
+    (Rests source request)
+    (λ r h. texts_first source request c.as_slice.result.now c.as_slice-2.result.now r d p m n h)
     c.plain_of_texts.ensures.cause
