@@ -148,9 +148,11 @@ pub record Reported (call : Call) (d : Decision) : Type 0 where
   pub views : call.report.views ≡ []
 
 is_outcome : (call : Call) (request : Request) (d : Decision) → DecidesFiles call.source.held request d → Reported call d → IsOutcomeFor call request d.text.items
-is_outcome call request d h kept =
-    (subst (λ a. IsOutcome call.source.held request a call.report.log d.text.items) (sym kept.answer)
-    (subst (λ l. IsOutcome call.source.held request d.answer l d.text.items) (sym kept.log) h), kept.views)
+is_outcome call request d h kept = (
+  subst (λ a. IsOutcome call.source.held request a call.report.log d.text.items) (sym kept.answer)
+      (subst (λ l. IsOutcome call.source.held request d.answer l d.text.items) (sym kept.log) h),
+  kept.views,
+)
 
 printed_answer : (call : Call) (request : Request) (s : Status) → IsAnswerStatus s → PrintsAnswer call request → PrintsFor call request s
 printed_answer call request s (inl is) h = subst (λ x. PrintsFor call request x) (sym is) h

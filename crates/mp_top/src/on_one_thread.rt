@@ -92,13 +92,14 @@ fn answer_request<S: Source, K: Sink, E: Sink>(
 ) -> Status
     requires { IsEmptyReport report.old }
     ensures { (ws : List (List ℕ)) → request_of ws ≡ Some (asked request.now) → Keeps (record {
-        words = ws;
-        source = seen_source S.held S.faults S.fault_at source.old source.new;
-        out = seen_sink K.written K.faults out.old out.new;
-        err = seen_sink E.written E.faults err.old err.new;
-        before = report.old;
-        report = report.new;
-        status = result }) }
+      words = ws;
+      source = seen_source S.held S.faults S.fault_at source.old source.new;
+      out = seen_sink K.written K.faults out.old out.new;
+      err = seen_sink E.written E.faults err.old err.new;
+      before = report.old;
+      report = report.new;
+      status = result;
+    }) }
 {
     one_first();
     match decide(alloc, source, request) {
@@ -125,13 +126,14 @@ pub fn run_alone<S: Source, K: Sink, E: Sink>(
     requires alone { is_alone (map string_bytes words.now) ≡ true }
     requires empty { IsEmptyReport report.old }
     ensures { Keeps (record {
-        words = map string_bytes words.now;
-        source = seen_source S.held S.faults S.fault_at source.old source.new;
-        out = seen_sink K.written K.faults out.old out.new;
-        err = seen_sink E.written E.faults err.old err.new;
-        before = report.old;
-        report = report.new;
-        status = result }) }
+      words = map string_bytes words.now;
+      source = seen_source S.held S.faults S.fault_at source.old source.new;
+      out = seen_sink K.written K.faults out.old out.new;
+      err = seen_sink E.written E.faults err.old err.new;
+      before = report.old;
+      report = report.new;
+      status = result;
+    }) }
 {
     match parse_words(words) {
         Some(request) => answer_request(alloc, &request, source, out, err, report),

@@ -30,13 +30,14 @@ pub fn run<R: Threads + Wait + Sync, S: Source, K: Sink, E: Sink, G: Gate + Sync
 ) -> Status
     requires { IsEmptyReport report.old }
     ensures { Keeps (record {
-        words = map string_bytes words.now;
-        source = seen_source S.held S.faults S.fault_at source.old source.new;
-        out = seen_sink K.written K.faults out.old out.new;
-        err = seen_sink E.written E.faults err.old err.new;
-        before = report.old;
-        report = report.new;
-        status = result }) }
+      words = map string_bytes words.now;
+      source = seen_source S.held S.faults S.fault_at source.old source.new;
+      out = seen_sink K.written K.faults out.old out.new;
+      err = seen_sink E.written E.faults err.old err.new;
+      before = report.old;
+      report = report.new;
+      status = result;
+    }) }
 {
     // No accepted words need the runtime or the gate yet.
     let _ = rt;
