@@ -2,6 +2,7 @@
 #![tactic(auto)]
 
 mod answer;
+mod command;
 mod counts;
 mod first;
 mod on_files;
@@ -14,6 +15,7 @@ mod report;
 mod status;
 mod words;
 
+pub use command::run_command;
 pub use first::one_first;
 pub use mp_plain::{PlainFactor, PlainRefusal, plain};
 pub use on_files::run_on_files;
