@@ -118,10 +118,6 @@ union-none s = same_numbers _ _ (λ q. sym (set.contains-union nat_cmp_total s _
     or_false true = refl
     or_false false = refl
 
--- one number that is in the one set and not in the other
-pub is_subset_not : (s t : Numbers) (q : ℕ) → set.contains s q ≡ true → set.contains t q ≡ false → set.is_subset s t ≡ false
-is_subset_not s t q here there = false_from_ne_true _ (λ e. false≢true (sym there ∙ set.is_subset-contains nat_cmp_total s t e q here))
-
 -- two sets are one exactly where each has the members of the other
 pub same_itself : (s : Numbers) → same s s ≡ true
 same_itself s =

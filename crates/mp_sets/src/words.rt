@@ -49,7 +49,8 @@ fn eight_are_equal(words: &[u64], others: &[u64], from: usize) -> bool
 /// Whether each bit of a list is a bit of the other, which has the same length.
 pub(crate) fn are_within(words: &[u64], others: &[u64]) -> bool
     requires { length words.now ≡ length others.now }
-    ensures { IsTrue result ↔ ((x : ℕ) → IsTrue (has_bit words.now x) → IsTrue (has_bit others.now x)) }
+    ensures { IsTrue result
+        ↔ ((x : ℕ) → IsTrue (has_bit words.now x) → IsTrue (has_bit others.now x)) }
 {
     let mut done = 0;
     while words.len() - done >= 8 {
