@@ -34,12 +34,84 @@ const FILES: [(&str, &[u8]); 5] = [
 
 const LAMP: [&str; 6] = ["solve", "--one", "--h", "blind", "lamp-d", "lamp-p"];
 
+const DARK: [&str; 6] = ["solve", "--one", "--h", "blind", "dark-d", "lamp-p"];
+
+const ABSENT: [&str; 6] = ["solve", "--one", "--h", "blind", "or-d", "none"];
+
+const FAULTY: [&str; 6] = ["solve", "--one", "--h", "blind", "or-d", "lamp-p"];
+
+const OTHER: [&str; 6] = ["solve", "--one", "--h", "blind", "lamp-d", "cheap-p"];
+
 /// The outcome of the lamp.
 const PRESSED: &[u8] = b"cost 1\nlength 1\nagent 1\n1: (press)\nevents 2 messages 0 bytes 0\n";
 
-fn source(alloc: Global, greatest: usize, failing: &[u64]) -> Result<MemSource, Fail>
-    requires { 0 < greatest }
-{
+const NO_DOMAIN: &[u8] = b"maplan: cannot read lamp-d\n";
+
+const NO_PROBLEM: &[u8] = b"maplan: cannot read lamp-p\n";
+
+const NO_WRITE: &[u8] = b"maplan: cannot write\n";
+
+/// Words; the call of the source, of `out` and of `err` that fails, 0 for none; the code of the status; how many
+/// entries the log has; the text on `out` and the line on `err`. The source gives up to 1000 bytes a call, so that each
+/// file takes three calls: it is begun, read, and found to be at its end. `out` takes 8 bytes a call, `err` 5.
+type Trial = (
+    &'static [&'static str],
+    [u64; 3],
+    u8,
+    usize,
+    &'static [u8],
+    &'static [u8],
+);
+
+const TRIALS: [Trial; 17] = [
+    (&[], [0, 0, 0], 3, 0, b"", b"maplan: words\n"),
+    (&LAMP, [0, 0, 0], 0, 2, PRESSED, b""),
+    (
+        &DARK,
+        [0, 0, 0],
+        1,
+        2,
+        b"unsolvable\nevents 2 messages 0 bytes 0\n",
+        b"",
+    ),
+    (&ABSENT, [0, 0, 0], 4, 0, b"", b"maplan: cannot read none\n"),
+    (
+        &FAULTY,
+        [0, 0, 0],
+        5,
+        0,
+        b"",
+        b"maplan: or-d:1:79: F5 unsupported or\n",
+    ),
+    (
+        &OTHER,
+        [0, 0, 0],
+        5,
+        0,
+        b"",
+        b"maplan: cheap-p: not built\n",
+    ),
+    (&LAMP, [1, 0, 0], 4, 0, b"", NO_DOMAIN),
+    (&LAMP, [2, 0, 0], 4, 0, b"", NO_DOMAIN),
+    (&LAMP, [3, 0, 0], 4, 0, b"", NO_DOMAIN),
+    (&LAMP, [4, 0, 0], 4, 0, b"", NO_PROBLEM),
+    (&LAMP, [5, 0, 0], 4, 0, b"", NO_PROBLEM),
+    (&LAMP, [6, 0, 0], 4, 0, b"", NO_PROBLEM),
+    (&LAMP, [0, 1, 0], 7, 2, b"", NO_WRITE),
+    (&LAMP, [0, 2, 0], 7, 2, b"cost 1\nl", NO_WRITE),
+    (
+        &LAMP,
+        [0, 8, 0],
+        7,
+        2,
+        b"cost 1\nlength 1\nagent 1\n1: (press)\nevents 2 messages 0 b",
+        NO_WRITE,
+    ),
+    (&[], [0, 0, 1], 3, 0, b"", b""),
+    (&[], [0, 0, 2], 3, 0, b"", b"mapla"),
+];
+
+fn source(alloc: Global, failing: u64) -> Result<MemSource, Fail> {
     let mut files = List::new(alloc);
     for (name, text) in FILES {
         files.push(NamedText {
@@ -47,13 +119,13 @@ fn source(alloc: Global, greatest: usize, failing: &[u64]) -> Result<MemSource, 
             text: text.to_vec(alloc)?,
         })?;
     }
-    Ok(MemSource::new(files, greatest, failing.to_vec(alloc)?))
+    Ok(MemSource::new(files, 1000, [failing].to_vec(alloc)?))
 }
 
-fn sink(alloc: Global, greatest: usize, failing: &[u64]) -> Result<MemSink, Fail>
+fn sink(alloc: Global, greatest: usize, failing: u64) -> Result<MemSink, Fail>
     requires { 0 < greatest }
 {
-    Ok(MemSink::new(alloc, greatest, failing.to_vec(alloc)?))
+    Ok(MemSink::new(alloc, greatest, [failing].to_vec(alloc)?))
 }
 
 fn owned(alloc: Global, words: &[&str]) -> Result<Vec<String>, Fail> {
@@ -81,129 +153,45 @@ fn answer(
     Ok((status, report))
 }
 
-/// Words, the code of the status that they end with, the text on `out`, the line on `err`, and how many entries the
-/// log has.
-const CALLS: [(&[&str], u8, &[u8], &[u8], usize); 6] = [
-    (&[], 3, b"", b"maplan: words\n", 0),
-    (&LAMP, 0, PRESSED, b"", 2),
-    (
-        &["solve", "--one", "--h", "blind", "dark-d", "lamp-p"],
-        1,
-        b"unsolvable\nevents 2 messages 0 bytes 0\n",
-        b"",
-        2,
-    ),
-    (
-        &["solve", "--one", "--h", "blind", "or-d", "none"],
-        4,
-        b"",
-        b"maplan: cannot read none\n",
-        0,
-    ),
-    (
-        &["solve", "--one", "--h", "blind", "or-d", "lamp-p"],
-        5,
-        b"",
-        b"maplan: or-d:1:79: F5 unsupported or\n",
-        0,
-    ),
-    (
-        &["solve", "--one", "--h", "blind", "lamp-d", "cheap-p"],
-        5,
-        b"",
-        b"maplan: cheap-p: not built\n",
-        0,
-    ),
-];
+/// Whether a call comes out as its row says.
+fn comes_out(alloc: Global, trial: &Trial) -> Result<bool, Fail> {
+    let (words, [read, write, told], code, entries, text, line) = *trial;
+    let mut files = source(alloc, read)?;
+    let mut out = sink(alloc, 8, write)?;
+    let mut err = sink(alloc, 5, told)?;
+    let (status, report) = answer(alloc, words, &mut files, &mut out, &mut err)?;
+    let is_told = status.code() == code && report.log.len() == entries;
+    Ok(is_told && out.bytes() == text && err.bytes() == line)
+}
 
 #[test]
 fn calls(rt: HostRuntime) -> Result<(), Fail> {
-    let alloc = rt.alloc();
     one_first();
-    for (words, code, text, line, entries) in CALLS {
-        let mut files = source(alloc, 7, &[])?;
-        let mut out = sink(alloc, 7, &[])?;
-        let mut err = sink(alloc, 7, &[])?;
-        let (status, report) = answer(alloc, words, &mut files, &mut out, &mut err)?;
-        assert_eq!(rt; status.code(), code, "{line:?}");
-        assert_eq!(rt; out.bytes(), text);
-        assert_eq!(rt; err.bytes(), line);
-        assert_eq!(rt; report.log.len(), entries);
+    for (row, trial) in TRIALS.iter().enumerate() {
+        assert!(rt; comes_out(rt.alloc(), trial)?, "row {row}");
     }
     Ok(())
+}
+
+/// Whether the report of the lamp has an expansion, a start and the answer.
+fn reports_the_lamp(alloc: Global) -> Result<bool, Fail> {
+    let mut files = source(alloc, 0)?;
+    let mut out = sink(alloc, 8, 0)?;
+    let mut err = sink(alloc, 5, 0)?;
+    let (_, report) = answer(alloc, &LAMP, &mut files, &mut out, &mut err)?;
+    let solved = Answer::Solved { cost: 1, length: 1 };
+    let is_log = match report.log.as_slice() {
+        [Entry::Act(a, Kind::Expand), Entry::Act(b, Kind::Start)] => {
+            *a == Agent::first() && *b == Agent::first()
+        }
+        _ => false,
+    };
+    Ok(is_log && report.answer == solved && report.views.len() == 0)
 }
 
 #[test]
 fn the_report_of_the_lamp(rt: HostRuntime) -> Result<(), Fail> {
-    let alloc = rt.alloc();
-    let mut files = source(alloc, 1000, &[])?;
-    let mut out = sink(alloc, 1000, &[])?;
-    let mut err = sink(alloc, 1000, &[])?;
-    let (_, report) = answer(alloc, &LAMP, &mut files, &mut out, &mut err)?;
-    let solved = Answer::Solved { cost: 1, length: 1 };
-    assert_eq!(rt; report.answer, solved);
-    assert_eq!(rt; report.views.len(), 0);
-    let [
-        Entry::Act(first, Kind::Expand),
-        Entry::Act(second, Kind::Start),
-    ] = report.log.as_slice()
-    else {
-        return Err(Fail::from("an expansion and a start"));
-    };
-    assert_eq!(rt; *first, Agent::first());
-    assert_eq!(rt; *second, Agent::first());
-    Ok(())
-}
-
-/// In pieces of up to 1000 bytes each file takes three calls: it is begun, read, and found to be at its end.
-#[test]
-fn a_source_that_fails(rt: HostRuntime) -> Result<(), Fail> {
-    let alloc = rt.alloc();
-    for call in 1..7u64 {
-        let mut files = source(alloc, 1000, &[call])?;
-        let mut out = sink(alloc, 1000, &[])?;
-        let mut err = sink(alloc, 1000, &[])?;
-        let (status, _) = answer(alloc, &LAMP, &mut files, &mut out, &mut err)?;
-        let line: &[u8] = if call <= 3 {
-            b"maplan: cannot read lamp-d\n"
-        } else {
-            b"maplan: cannot read lamp-p\n"
-        };
-        assert_eq!(rt; status, Status::Read, "call {call}");
-        assert_eq!(rt; err.bytes(), line);
-        assert_eq!(rt; out.bytes().len(), 0);
-    }
-    Ok(())
-}
-
-/// A sink that takes eight bytes a call and fails at one of its calls holds what it took before.
-#[test]
-fn a_sink_that_fails(rt: HostRuntime) -> Result<(), Fail> {
-    let alloc = rt.alloc();
-    for (call, held) in [(1, 0), (2, 8), (5, 32), (8, 56)] {
-        let mut files = source(alloc, 1000, &[])?;
-        let mut out = sink(alloc, 8, &[call])?;
-        let mut err = sink(alloc, 1000, &[])?;
-        let (status, report) = answer(alloc, &LAMP, &mut files, &mut out, &mut err)?;
-        assert!(rt; held <= PRESSED.len());
-        assert_eq!(rt; status, Status::Write, "call {call}");
-        assert_eq!(rt; out.bytes(), &PRESSED[..held]);
-        assert_eq!(rt; err.bytes(), b"maplan: cannot write\n".as_slice());
-        assert_eq!(rt; report.log.len(), 2);
-    }
-    Ok(())
-}
-
-/// A failing error sink changes no status.
-#[test]
-fn an_error_sink_that_fails(rt: HostRuntime) -> Result<(), Fail> {
-    let alloc = rt.alloc();
-    let mut files = source(alloc, 1000, &[])?;
-    let mut out = sink(alloc, 1000, &[])?;
-    let mut err = sink(alloc, 5, &[2])?;
-    let (status, _) = answer(alloc, &[], &mut files, &mut out, &mut err)?;
-    assert_eq!(rt; status, Status::Words);
-    assert_eq!(rt; err.bytes(), b"mapla".as_slice());
+    assert!(rt; reports_the_lamp(rt.alloc())?);
     Ok(())
 }
 
@@ -212,15 +200,21 @@ fn an_empty_file_of_the_system(rt: HostRuntime) -> Result<(), Fail> {
     let alloc = rt.alloc();
     let words = ["solve", "--one", "--h", "blind", "/dev/null", "/dev/null"];
     let words = owned(alloc, &words)?;
-    let mut out = sink(alloc, 1000, &[])?;
-    let mut err = sink(alloc, 1000, &[])?;
+    let mut out = sink(alloc, 1000, 0)?;
+    let mut err = sink(alloc, 1000, 0)?;
     let status = run_on_files(&rt, alloc, Some(words), &mut out, &mut err);
-    assert_eq!(rt; status, Status::Refused);
-    assert_eq!(rt;
-        err.bytes(),
-        b"maplan: /dev/null:1:1: F2 unbalanced\n".as_slice()
-    );
-    let status = run_on_files(&rt, alloc, None, &mut out, &mut err);
-    assert_eq!(rt; status, Status::Memory);
+    let line = b"maplan: /dev/null:1:1: F2 unbalanced\n";
+    let is_refused = status == Status::Refused && err.bytes() == line.as_slice();
+    assert!(rt; is_refused && out.bytes().is_empty());
+    Ok(())
+}
+
+#[test]
+fn words_that_took_all_memory(rt: HostRuntime) -> Result<(), Fail> {
+    let mut out = sink(rt.alloc(), 1000, 0)?;
+    let mut err = sink(rt.alloc(), 1000, 0)?;
+    let status = run_on_files(&rt, rt.alloc(), None, &mut out, &mut err);
+    let is_told = err.bytes() == b"maplan: out of memory\n".as_slice();
+    assert!(rt; status == Status::Memory && is_told);
     Ok(())
 }
