@@ -17,5 +17,5 @@ decided None request plain d led h = record { plan = h.plan; expansions = h.expa
 decided (Some files) request plain d (factor, reads, makes) h =
     record { plan = h.plan; expansions = h.expansions; found = (factor, reads, h.found factor makes); decided = h.decided; run = h.run; printed = h.printed }
 
-pub memory_rests : (source : SeenSource) (request : Request) (r : Refusal) → r ≡ why.Memory → Rests source request r
+pub memory_rests : (source : SeenSource) (request : Request) (r : Refusal) → r ≡ why.OutOfMemory → Rests source request r
 memory_rests source request r is = subst (λ x. Rests source request x) (sym is) tt

@@ -94,7 +94,7 @@ texts_first source request domain problem (why.Read at) d p m n h = absurd (no_r
 texts_first source request domain problem (why.TooLarge at) d p m n h = first_in source.held request domain problem (why.TooLarge at) d p m n h
 texts_first source request domain problem (why.Fault at kind place) d p m n h = first_in source.held request domain problem (why.Fault at kind place) d p m n h
 texts_first source request domain problem (why.NotBuilt at) d p m n h = first_in source.held request domain problem (why.NotBuilt at) d p m n h
-texts_first source request domain problem why.Memory d p m n h = tt
+texts_first source request domain problem why.OutOfMemory d p m n h = tt
 
 some_and : {A : Type 0} (o : Option A) (P Q : A → Type 0) → ((x : A) → P x → Q x) → IsSomeAnd o P → IsSomeAnd o Q
 some_and None P Q f h = absurd h

@@ -75,28 +75,28 @@ not_words (why.Read at) is = absurd (cc)
 not_words (why.TooLarge at) is = absurd (cc)
 not_words (why.Fault at kind place) is = absurd (cc)
 not_words (why.NotBuilt at) is = absurd (cc)
-not_words why.Memory is = absurd (cc)
+not_words why.OutOfMemory is = absurd (cc)
 
 not_write : (r : Refusal) → status_of r ≡ status.Write → ⊥
 not_write (why.Read at) is = absurd (cc)
 not_write (why.TooLarge at) is = absurd (cc)
 not_write (why.Fault at kind place) is = absurd (cc)
 not_write (why.NotBuilt at) is = absurd (cc)
-not_write why.Memory is = absurd (cc)
+not_write why.OutOfMemory is = absurd (cc)
 
 cannot_read : (source : SeenSource) (request : Request) (r : Refusal) → Rests source request r → status_of r ≡ status.Read → (at : File) × CannotRead source request at
 cannot_read source request (why.Read at) h is = (at, h)
 cannot_read source request (why.TooLarge at) h is = absurd (cc)
 cannot_read source request (why.Fault at kind place) h is = absurd (cc)
 cannot_read source request (why.NotBuilt at) h is = absurd (cc)
-cannot_read source request why.Memory h is = absurd (cc)
+cannot_read source request why.OutOfMemory h is = absurd (cc)
 
 nothing_printed : (call : Call) (request : Request) (r : Refusal) → PrintsNothing call → PrintsFor call request (status_of r)
 nothing_printed call request (why.Read at) h = h
 nothing_printed call request (why.TooLarge at) h = h
 nothing_printed call request (why.Fault at kind place) h = h
 nothing_printed call request (why.NotBuilt at) h = h
-nothing_printed call request why.Memory h = h
+nothing_printed call request why.OutOfMemory h = h
 
 -- the refusal that comes is the first one
 module _ (one : OneFirst) (call : Call) (request : Request) where
@@ -114,7 +114,7 @@ module _ (one : OneFirst) (call : Call) (request : Request) where
   tells_first (why.TooLarge at) h is says = first_told call.source.held (why.TooLarge at) h is says
   tells_first (why.Fault at kind place) h is says = first_told call.source.held (why.Fault at kind place) h is says
   tells_first (why.NotBuilt at) h is says = first_told call.source.held (why.NotBuilt at) h is says
-  tells_first why.Memory h is says = always call.source.held _ (λ files s other. inr (inl is))
+  tells_first why.OutOfMemory h is says = always call.source.held _ (λ files s other. inr (inl is))
 
 -- a refusal
 pub kept_refusal : OneFirst → (call : Call) (request : Request) (r : Refusal) → request_of call.words ≡ Some request → Rests call.source request r → (call.source.before < call.source.now → status_of r ≡ status.Read) → call.status ≡ status_of r → Unwritten call → Says call.err (line_of request r) → Keeps call

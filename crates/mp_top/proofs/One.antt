@@ -41,7 +41,7 @@ fetched_none at (Err (why.Read other)) h = ap (λ a. Err (why.Read a)) h.0
 fetched_none at (Err (why.TooLarge other)) h = absurd h.1
 fetched_none at (Err (why.Fault other kind place)) h = absurd h
 fetched_none at (Err (why.NotBuilt other)) h = absurd h
-fetched_none at (Err why.Memory) h = absurd h
+fetched_none at (Err why.OutOfMemory) h = absurd h
 
 fetched_short : (text : Text) (at : File) (v : Result Text Refusal) → length text ≤ longest_file → Fetches (Some text) at v → v ≡ Ok text
 fetched_short text at (Ok t) le h = cc
@@ -49,7 +49,7 @@ fetched_short text at (Err (why.Read other)) le h = absurd (cc)
 fetched_short text at (Err (why.TooLarge other)) le h = absurd (omega (arith, le, h.1))
 fetched_short text at (Err (why.Fault other kind place)) le h = absurd h
 fetched_short text at (Err (why.NotBuilt other)) le h = absurd h
-fetched_short text at (Err why.Memory) le h = absurd h
+fetched_short text at (Err why.OutOfMemory) le h = absurd h
 
 fetched_long : (text : Text) (at : File) (v : Result Text Refusal) → longest_file < length text → Fetches (Some text) at v → v ≡ Err (why.TooLarge at)
 fetched_long text at (Ok t) lt h =
@@ -60,7 +60,7 @@ fetched_long text at (Err (why.Read other)) lt h = absurd (cc)
 fetched_long text at (Err (why.TooLarge other)) lt h = ap (λ a. Err (why.TooLarge a)) h.0
 fetched_long text at (Err (why.Fault other kind place)) lt h = absurd h
 fetched_long text at (Err (why.NotBuilt other)) lt h = absurd h
-fetched_long text at (Err why.Memory) lt h = absurd h
+fetched_long text at (Err why.OutOfMemory) lt h = absurd h
 
 short_or_long : (n m : ℕ) → (n ≤ m) ⊎ (m < n)
 short_or_long zero m = inl (omega arith)
@@ -126,7 +126,7 @@ plain_both f (Err (why.TooLarge at)) d p h = absurd h
 plain_both f (Err (why.Fault at kind place)) d p h = absurd h
 plain_both f (Err (why.NotBuilt file.Domain)) d p h = let impossible : ⊥ = cc in absurd impossible
 plain_both f (Err (why.NotBuilt file.Problem)) d p h = let no = h.1 in let impossible : ⊥ = cc in absurd impossible
-plain_both f (Err why.Memory) d p h = absurd h
+plain_both f (Err why.OutOfMemory) d p h = absurd h
 
 other_domain : (f : Factor) (v : Result Factor Refusal) → is_plain_domain f.domain ≡ false → HasPlainForm f v → v ≡ Err (why.NotBuilt file.Domain)
 other_domain f (Ok g) d h = let yes = h.1 in let impossible : ⊥ = cc in absurd impossible
@@ -135,7 +135,7 @@ other_domain f (Err (why.TooLarge at)) d h = absurd h
 other_domain f (Err (why.Fault at kind place)) d h = absurd h
 other_domain f (Err (why.NotBuilt file.Domain)) d h = refl
 other_domain f (Err (why.NotBuilt file.Problem)) d h = let yes = h.0 in let impossible : ⊥ = cc in absurd impossible
-other_domain f (Err why.Memory) d h = absurd h
+other_domain f (Err why.OutOfMemory) d h = absurd h
 
 other_problem : (f : Factor) (v : Result Factor Refusal) → is_plain_domain f.domain ≡ true → is_plain_problem f.problem ≡ false → HasPlainForm f v → v ≡ Err (why.NotBuilt file.Problem)
 other_problem f (Ok g) d p h = let yes = h.2 in let impossible : ⊥ = cc in absurd impossible
@@ -144,7 +144,7 @@ other_problem f (Err (why.TooLarge at)) d p h = absurd h
 other_problem f (Err (why.Fault at kind place)) d p h = absurd h
 other_problem f (Err (why.NotBuilt file.Domain)) d p h = let impossible : ⊥ = cc in absurd impossible
 other_problem f (Err (why.NotBuilt file.Problem)) d p h = refl
-other_problem f (Err why.Memory) d p h = absurd h
+other_problem f (Err why.OutOfMemory) d p h = absurd h
 
 form_by : (f : Factor) (a b : Bool) (v w : Result Factor Refusal) → is_plain_domain f.domain ≡ a → is_plain_problem f.problem ≡ b → HasPlainForm f v → HasPlainForm f w → v ≡ w
 form_by f false b v w d p h k = other_domain f v d h ∙ sym (other_domain f w d k)

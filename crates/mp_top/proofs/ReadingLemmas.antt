@@ -10,7 +10,7 @@ stops first next (why.Read at) h = inl h
 stops first next (why.TooLarge at) h = inl h
 stops first next (why.Fault at kind place) h = inl h
 stops first next (why.NotBuilt at) h = inl h
-stops first next why.Memory h = tt
+stops first next why.OutOfMemory h = tt
 
 -- and what the next one refuses behind its value
 pub goes_on : {X Y : Type 0} → (first : Reading X) (next : X → Reading Y) (x : X) (r : Refusal) → first (Ok x) → Refuses (next x) r → Refuses (Then first next) r
@@ -18,7 +18,7 @@ goes_on first next x (why.Read at) leads h = inr (x, leads, h)
 goes_on first next x (why.TooLarge at) leads h = inr (x, leads, h)
 goes_on first next x (why.Fault at kind place) leads h = inr (x, leads, h)
 goes_on first next x (why.NotBuilt at) leads h = inr (x, leads, h)
-goes_on first next x why.Memory leads h = tt
+goes_on first next x why.OutOfMemory leads h = tt
 
 -- a reading leads to one thing alone
 abbrev pub IsOne : {X : Type 0} → Reading X → Type 0

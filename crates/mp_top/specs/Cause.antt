@@ -39,7 +39,7 @@ Rests source request (why.Read at) = CannotRead source request at
 Rests source request (why.TooLarge at) = ComesFirst source request (why.TooLarge at)
 Rests source request (why.Fault at kind place) = ComesFirst source request (why.Fault at kind place)
 Rests source request (why.NotBuilt at) = ComesFirst source request (why.NotBuilt at)
-Rests source request why.Memory = Unit {0}
+Rests source request why.OutOfMemory = Unit {0}
 
 -- where the source tells, this is the text of the file
 abbrev pub IsTextOf : Option Files → Text → Text → Type 0

@@ -57,7 +57,7 @@ Fetches found at (Err (why.Read other)) = (other ≡ at) × (found ≡ None)
 Fetches found at (Err (why.TooLarge other)) = (other ≡ at) × IsLong found
 Fetches found at (Err (why.Fault other kind place)) = ⊥
 Fetches found at (Err (why.NotBuilt other)) = ⊥
-Fetches found at (Err why.Memory) = ⊥
+Fetches found at (Err why.OutOfMemory) = ⊥
 
 -- what the reader's refusal of a file's text is here
 abbrev pub text_refusal : File → ReadRefusal → Refusal
@@ -65,7 +65,7 @@ text_refusal at (text.Char place) = why.Fault at fault.Char place
 text_refusal at (text.Unbalanced place) = why.Fault at fault.Unbalanced place
 text_refusal at (text.Trailing place) = why.Fault at fault.Trailing place
 text_refusal at (text.Deep place) = why.Fault at fault.Deep place
-text_refusal at text.OutOfMemory = why.Memory
+text_refusal at text.OutOfMemory = why.OutOfMemory
 
 -- a text leads to its tree
 abbrev pub Spells : File → Text → Reading Node
@@ -88,7 +88,7 @@ told_shape at (shapes.Shape place) = why.Fault at fault.Shape place
 told_shape at (shapes.Unsupported word place) = why.Fault at (fault.Unsupported word) place
 told_shape at (shapes.Parameters place) = why.Fault at fault.Parameters place
 told_shape at (shapes.Cost place) = why.Fault at fault.Cost place
-told_shape at shapes.OutOfMemory = why.Memory
+told_shape at shapes.OutOfMemory = why.OutOfMemory
 
 -- a tree that has the shape of such a file leads to what it says
 abbrev pub HasShape : {X : Type 0} → File → Node → X → Reading X
@@ -120,7 +120,7 @@ told_check (refused.WrongDomain found) = why.Fault found.file (fault.WrongDomain
 told_check (refused.UnknownName found) = why.Fault found.file (fault.Unknown found.name) found.at
 told_check (refused.Arity found) = why.Fault found.file (fault.Arity found.name) found.at
 told_check (refused.Twice found) = why.Fault found.file (fault.Twice found.name) found.at
-told_check refused.OutOfMemory = why.Memory
+told_check refused.OutOfMemory = why.OutOfMemory
 
 -- a domain and a problem in which nothing is wrong lead to their factor
 abbrev pub Checks : DomainParts → ProblemParts → Reading Factor
@@ -135,7 +135,7 @@ HasPlainForm factor (Err (why.TooLarge at)) = ⊥
 HasPlainForm factor (Err (why.Fault at kind place)) = ⊥
 HasPlainForm factor (Err (why.NotBuilt file.Domain)) = is_plain_domain factor.domain ≡ false
 HasPlainForm factor (Err (why.NotBuilt file.Problem)) = (is_plain_domain factor.domain ≡ true) × (is_plain_problem factor.problem ≡ false)
-HasPlainForm factor (Err why.Memory) = ⊥
+HasPlainForm factor (Err why.OutOfMemory) = ⊥
 
 -- a domain and a problem lead to their factor
 abbrev pub MakesFactor : DomainParts → ProblemParts → Reading Factor

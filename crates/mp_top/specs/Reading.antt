@@ -17,4 +17,4 @@ Refuses reading (why.Read at) = reading (Err (why.Read at))
 Refuses reading (why.TooLarge at) = reading (Err (why.TooLarge at))
 Refuses reading (why.Fault at kind place) = reading (Err (why.Fault at kind place))
 Refuses reading (why.NotBuilt at) = reading (Err (why.NotBuilt at))
-Refuses reading why.Memory = Unit {0}
+Refuses reading why.OutOfMemory = Unit {0}

@@ -27,7 +27,7 @@ status_of (why.Read file) = status.Read
 status_of (why.TooLarge file) = status.TooLarge
 status_of (why.Fault file kind place) = status.Refused
 status_of (why.NotBuilt file) = status.Refused
-status_of why.Memory = status.Memory
+status_of why.OutOfMemory = status.Memory
 
 -- the code and name of a fault
 abbrev pub text_of_fault : Fault → Text
@@ -82,4 +82,4 @@ line_of request (why.Read file) = read_line (name_in request file)
 line_of request (why.TooLarge file) = too_large_line (name_in request file)
 line_of request (why.Fault file kind place) = fault_line (name_in request file) kind place
 line_of request (why.NotBuilt file) = not_built_line (name_in request file)
-line_of request why.Memory = memory_line
+line_of request why.OutOfMemory = memory_line

@@ -26,11 +26,11 @@ use std::alloc::Global;
 fn answered(alloc: Global, factor: &PlainFactor) -> Result<Decision, Refusal>
     requires { IsRead factor.now }
     ensures outcome { IfOk result (Decides factor.now) }
-    ensures memory { IfErr result (λ refusal. refusal ≡ Refusal.Memory) }
+    ensures memory { IfErr result (λ refusal. refusal ≡ Refusal.OutOfMemory) }
 {
     match answer_factor(alloc, factor) {
         Ok(decision) => Ok(decision),
-        Err(_) => Err(Refusal::Memory),
+        Err(_) => Err(Refusal::OutOfMemory),
     }
 }
 

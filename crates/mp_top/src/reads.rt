@@ -46,7 +46,7 @@ fn text_of<S: Source>(
         Ok(text) => Ok(text),
         Err(FetchRefusal::Absent) => Err(Refusal::Read(file)),
         Err(FetchRefusal::Failed) => Err(Refusal::Read(file)),
-        Err(FetchRefusal::OutOfMemory) => Err(Refusal::Memory),
+        Err(FetchRefusal::OutOfMemory) => Err(Refusal::OutOfMemory),
     }
 }
 
@@ -62,7 +62,7 @@ fn tree_of(alloc: Global, text: &[u8], file: File) -> Result<Tree, Refusal>
         Err(ReadRefusal::Unbalanced(place)) => Err(Refusal::Fault(file, Fault::Unbalanced, place)),
         Err(ReadRefusal::Trailing(place)) => Err(Refusal::Fault(file, Fault::Trailing, place)),
         Err(ReadRefusal::Deep(place)) => Err(Refusal::Fault(file, Fault::Deep, place)),
-        Err(ReadRefusal::OutOfMemory) => Err(Refusal::Memory),
+        Err(ReadRefusal::OutOfMemory) => Err(Refusal::OutOfMemory),
     }
 }
 
@@ -77,7 +77,7 @@ fn refusal_of_shape(file: File, refusal: ShapeRefusal) -> Refusal
         }
         ShapeRefusal::Parameters(place) => Refusal::Fault(file, Fault::Parameters, place),
         ShapeRefusal::Cost(place) => Refusal::Fault(file, Fault::Cost, place),
-        ShapeRefusal::OutOfMemory => Refusal::Memory,
+        ShapeRefusal::OutOfMemory => Refusal::OutOfMemory,
     }
 }
 
@@ -98,7 +98,7 @@ fn refusal_of_check(refusal: CheckRefusal) -> Refusal
         CheckRefusal::Twice(Found { file, at, name }) => {
             Refusal::Fault(file, Fault::Twice(name), at)
         }
-        CheckRefusal::OutOfMemory => Refusal::Memory,
+        CheckRefusal::OutOfMemory => Refusal::OutOfMemory,
     }
 }
 
@@ -163,7 +163,7 @@ fn plain_form(alloc: Global, factor: &CheckedFactor) -> Result<PlainFactor, Refu
     match plain(alloc, factor) {
         Ok(form) => Ok(form),
         Err(PlainRefusal::NotBuilt(file)) => Err(Refusal::NotBuilt(file)),
-        Err(PlainRefusal::OutOfMemory) => Err(Refusal::Memory),
+        Err(PlainRefusal::OutOfMemory) => Err(Refusal::OutOfMemory),
     }
 }
 

@@ -89,7 +89,7 @@ pub enum Refusal {
     /// The file is not of the form that is built so far.
     NotBuilt(File),
     /// No memory was left.
-    Memory,
+    OutOfMemory,
 }
 
 impl Refusal {
@@ -102,7 +102,7 @@ impl Refusal {
             Refusal::TooLarge(_) => Status::TooLarge,
             Refusal::Fault(_, _, _) => Status::Refused,
             Refusal::NotBuilt(_) => Status::Refused,
-            Refusal::Memory => Status::Memory,
+            Refusal::OutOfMemory => Status::Memory,
         }
     }
 
@@ -144,7 +144,7 @@ impl Refusal {
                     ],
                 )
             }
-            Refusal::Memory => tell_memory(err),
+            Refusal::OutOfMemory => tell_memory(err),
         }
     }
 }

@@ -20,6 +20,6 @@ pub returns-clause-cause : goal.returns-clause-cause
 returns-clause-cause g c =
     let source = seen_source g.S.Source.held g.S.Source.faults g.S.Source.fault_at c.args.source.now c.plain_of_files.new.source in
     let request = asked c.args.request.now in
-    weaker_err c.answered.result (λ r. r ≡ why.Memory) (Rests source request)
+    weaker_err c.answered.result (λ r. r ≡ why.OutOfMemory) (Rests source request)
     (λ r is. memory_rests source request r is)
     c.answered.ensures.memory

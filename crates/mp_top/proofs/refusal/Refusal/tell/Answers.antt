@@ -12,5 +12,5 @@ returns-in-Fault g c = rw (c.in-Fault.is, ← c.name-in-Fault.ensures, ← c.as_
 pub returns-in-NotBuilt : goal.returns-in-NotBuilt
 returns-in-NotBuilt g c = rw (c.in-NotBuilt.is, ← c.name-in-NotBuilt.ensures, ← c.as_bytes-in-NotBuilt.ensures.value) c.say-in-NotBuilt.ensures
 
-pub returns-in-Memory : goal.returns-in-Memory
-returns-in-Memory g c = rw c.in-Memory.is c.tell_memory.ensures
+pub returns-in-OutOfMemory : goal.returns-in-OutOfMemory
+returns-in-OutOfMemory g c = rw c.in-OutOfMemory.is c.tell_memory.ensures
