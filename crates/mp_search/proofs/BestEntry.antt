@@ -6,7 +6,7 @@ use Rattle.std.proofs.lemmas.Bool.{false_from_ne_true, true_from_ne_false, le-le
 use Rattle.mp_search.specs.declared.entry.Entry.{Entry}
 use Rattle.mp_search.specs.Facts.{Facts, is_same}
 use Rattle.mp_search.specs.Record.{is_known, best_entry, best_cost, has_at_most, is_cheaper}
-use Rattle.mp_search.proofs.FactsLemmas.{is_same-from, is_same-true}
+use Rattle.mp_sets.proofs.SetLemmas.{Decides-same}
 use Rattle.mp_search.proofs.LeastLemmas.{IsFirstLeast, first_least_is, is_cheaper_order}
 use Rattle.mp_search.proofs.Chosen.{IsLeastAt, least_at, none_at}
 use Rattle.mp_search.proofs.Kept.{known-entry, unknown-cheaper}
@@ -18,7 +18,7 @@ by_best : (es : List Entry) (s : Facts) (g : ℕ) (best : Option ℕ) → best_e
 by_best es s g None h =
     false_from_ne_true (is_known es s g)
     (λ known. let k = known-entry es s g known in
-    none_at (λ e. is_same e.key s) is_cheaper es (subst (IsFirstLeast (λ e. is_same e.key s) is_cheaper es (length es)) h (best_entry_is es s)) k.0 k.1 k.2 (is_same-from k.1.key s k.3))
+    none_at (λ e. is_same e.key s) is_cheaper es (subst (IsFirstLeast (λ e. is_same e.key s) is_cheaper es (length es)) h (best_entry_is es s)) k.0 k.1 k.2 ((Decides-same k.1.key s).1 k.3))
 by_best es s g (Some at) h =
     let x = least_at (λ e. is_same e.key s) is_cheaper es at (subst (IsFirstLeast (λ e. is_same e.key s) is_cheaper es (length es)) h (best_entry_is es s)) in
     by_cost x.0 x.1 ∙ ap (λ (o : Option Entry). has_at_most (option_map (λ e. e.g) o) g) (sym x.1.stands)
@@ -27,8 +27,8 @@ by_best es s g (Some at) h =
     by_cost e x =
         ⊎_elim
         (λ below. false_from_ne_true (is_known es s g) (λ known. let k = known-entry es s g known in
-        absurd (omega (arith, below, k.4, ltb-false k.1.g e.g (x.least k.0 k.1 k.2 (is_same-from k.1.key s k.3))))) ∙ sym (lt-leb e.g g below))
-        (λ above. true_from_ne_false (is_known es s g) (λ unknown. absurd (omega (arith, above, unknown-cheaper es s g unknown at e x.stands (is_same-true e.key s x.passing)))) ∙ sym (le-leb e.g g above))
+        absurd (omega (arith, below, k.4, ltb-false k.1.g e.g (x.least k.0 k.1 k.2 ((Decides-same k.1.key s).1 k.3))))) ∙ sym (lt-leb e.g g below))
+        (λ above. true_from_ne_false (is_known es s g) (λ unknown. absurd (omega (arith, above, unknown-cheaper es s g unknown at e x.stands ((Decides-same e.key s).0 x.passing)))) ∙ sym (le-leb e.g g above))
         (cases_lt g e.g)
 
 pub known-best : (es : List Entry) (s : Facts) (g : ℕ) → is_known es s g ≡ has_at_most (best_cost es s) g

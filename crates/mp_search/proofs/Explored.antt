@@ -1,7 +1,7 @@
 -- An expansion keeps what best-first search keeps.
-use Rattle.std.proofs.Common.{◌≡◌, ℕ, zero, suc, ◌<◌, ◌≤◌, ◌+◌, ◌^◌, true, false, cond, ltb, List, [], ◌∷◌, map, Option, Some, None, ◌⊎◌, refl, sym, ap, ◌∙◌, subst, arith, length, ⊎_elim, inl, inr}
+use Rattle.std.proofs.Common.{◌≡◌, ℕ, zero, suc, ◌<◌, ◌≤◌, ◌+◌, ◌^◌, true, false, ltb, List, [], ◌∷◌, map, Option, Some, None, ◌⊎◌, refl, sym, ap, ◌∙◌, subst, arith, length, ⊎_elim, inl, inr}
 use Rattle.std.specs.List.{slice_get}
-use Rattle.std.specs.Option.{option_and_then, option_map, option_map_or}
+use Rattle.std.specs.Option.{option_map}
 use Rattle.std.proofs.lemmas.Option.{slice_get-map, none-some, same_Some}
 use Rattle.std.proofs.lemmas.Bool.{cond-true, cond-false, cases_Bool, and_parts, and_cases, not-true, not-false, ltb-false, both_ways, cond_both}
 use Rattle.mp_search.specs.declared.entry.Entry.{Entry}
@@ -10,7 +10,10 @@ use Rattle.mp_search.specs.declared.entry.Origin.TheVariants.{Own}
 use Rattle.mp_search.specs.declared.task.PlainTask.{PlainTask}
 use Rattle.mp_search.specs.declared.task.Action.{Action}
 use Rattle.mp_search.specs.Facts.{Facts}
-use Rattle.mp_search.specs.Task.{start, applies, after, state_after, task_cost}
+use Rattle.mp_search.specs.Task.{start, applies, after, step_after, system, state_after, task_cost}
+use Rattle.mp_runs.proofs.Costs.{plan_cost-cons}
+use Rattle.mp_runs.proofs.Runs.{run-none, run-first, run_parts}
+use Rattle.mp_search.proofs.PlanSteps.{step_taken, step_parts, step_cost_is}
 use Rattle.mp_search.specs.Record.{kept, is_kept, new_entry, is_known, offer, offer_valued, offer_all, closed, expansion, Heuristic, IsAdmissible}
 use Rattle.mp_search.proofs.Reached.{Reached, reached}
 use Rattle.mp_search.proofs.JustifiedLemmas.{map-reached-kept, map-reached-closed}
@@ -25,32 +28,25 @@ use Rattle.mp_search.proofs.ListLemmas.{slice_get-append_left}
 module _ (task : PlainTask) where
   -- each way is a plan, and each plan a way
   pub plan_of : (way : List (ℕ × Facts)) (s t : Facts) → Way task s way t → (plan : List ℕ) × (state_after task s plan ≡ Some t) × (task_cost task plan ≡ way_cost task way)
-  plan_of [] s t h = ([], ap Some h, refl)
+  plan_of [] s t h = ([], run-none (step_after task) s ∙ ap Some h, refl)
   plan_of (p ∷ way) s t h =
       let n = h.0.0 in
       let a = h.0.1 in
       let rest = plan_of way p.1 t h.1 in (
         n ∷ rest.0,
-        ap (option_and_then (λ b. cond (applies b s) (state_after task (after b s) rest.0) None)) h.0.2
-            ∙ ap (λ b. cond b (state_after task (after a s) rest.0) None) h.0.3
-            ∙ ap (λ (u : Facts). state_after task u rest.0) (sym h.0.4) ∙ rest.1,
-        ap (λ (o : Option Action). option_map_or (λ b. b.cost) o 0 + task_cost task rest.0) h.0.2 ∙ omega (arith, h.0.5, rest.2),
+        run-first (step_after task) s p.1 n rest.0 (step_taken task n a s h.0.2 h.0.3 ∙ ap Some (sym h.0.4)) ∙ rest.1,
+        plan_cost-cons (system task) n rest.0 ∙ ap (λ (c : ℕ). c + task_cost task rest.0) (step_cost_is task n a h.0.2) ∙ omega (arith, h.0.5, rest.2),
       )
 
-  way_step : (n : ℕ) (plan : List ℕ) (s t : Facts) (o : Option Action) → slice_get task.actions n ≡ o → option_and_then (λ b. cond (applies b s) (state_after task (after b s) plan) None) o ≡ Some t →
-      (a : Action) × (slice_get task.actions n ≡ Some a) × (applies a s ≡ true) × (state_after task (after a s) plan ≡ Some t)
-  way_step n plan s t None own h = absurd (none-some t h)
-  way_step n plan s t (Some a) own h =
-      ⊎_elim (λ may. (a, own, may, sym (cond-true _ _ None may) ∙ h)) (λ may_not. absurd (none-some t (sym (cond-false _ (state_after task (after a s) plan) None may_not) ∙ h))) (cases_Bool (applies a s))
-
   pub way_of : (plan : List ℕ) (s t : Facts) → state_after task s plan ≡ Some t → (way : List (ℕ × Facts)) × Way task s way t × (way_cost task way ≡ task_cost task plan)
-  way_of [] s t h = ([], same_Some s t h, refl)
+  way_of [] s t h = ([], same_Some s t (sym (run-none (step_after task) s) ∙ h), refl)
   way_of (n ∷ plan) s t h =
-      let q = way_step n plan s t (slice_get task.actions n) refl h in
-      let rest = way_of plan (after q.0 s) t q.3 in (
-        (q.0.cost, after q.0 s) ∷ rest.0,
-        ((n, q.0, q.1, q.2, refl, refl), rest.1),
-        omega (arith, rest.2, ap (λ (o : Option Action). option_map_or (λ b. b.cost) o 0) q.1),
+      let parts = run_parts (step_after task) s t n plan h in
+      let q = step_parts task n s parts.0 parts.1 in
+      let rest = way_of plan parts.0 t parts.2 in (
+        (q.action.cost, parts.0) ∷ rest.0,
+        ((n, q.action, q.own, q.may, sym q.is, refl), rest.1),
+        omega (arith, rest.2, step_cost_is task n q.action q.own, plan_cost-cons (system task) n plan),
       )
 
 module _ (task : PlainTask) (value : Heuristic) (admissible : IsAdmissible task value) (cap : ℕ) where

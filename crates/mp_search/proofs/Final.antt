@@ -22,7 +22,8 @@ use Rattle.mp_search.specs.Run.{Search, Event, expand, begin_snapshot, Ending, p
 use Rattle.std.proofs.lemmas.List.{replicate_more}
 use Rattle.mp_search.proofs.GoalLemmas.{best_goal_solves}
 use Rattle.mp_search.proofs.Chosen.{IsVerdict, at_limit, by_goal, without, verdict_is, IsLeastAt}
-use Rattle.mp_search.proofs.Runs.{run-none, run-push, step-expand, step-snapshot, some_then, expansion_of, snapshot_of}
+use Rattle.mp_search.proofs.Runs.{run-push, step-expand, step-snapshot, expansion_of, snapshot_of}
+use Rattle.mp_runs.proofs.Runs.{run-none, run_parts}
 use Rattle.mp_search.proofs.Sound.{IsSound, IsSound-run, expanded-le}
 use Rattle.mp_search.proofs.Explored.{plan_witness}
 use Rattle.mp_search.proofs.ListLemmas.{element_within}
@@ -99,24 +100,23 @@ module _ (limit : ℕ) (task : PlainTask) where
 
   only_from : (events : List Event) (n : ℕ) (p q r : Search) → p.ending ≡ None → run blind limit task p (replicate n expand) ≡ Some q → q.ending ≡ None → can_expand limit task q ≡ false →
       run blind limit task p events ≡ Some r → IsSome r.ending → events ≡ schedule n
-  unfolding run
-  only_from [] n p q r going_on h still over k is = absurd (none_some r.ending (ap (λ (x : Search). x.ending) (sym (same_Some p r k)) ∙ going_on) is)
+  only_from [] n p q r going_on h still over k is = absurd (none_some r.ending (ap (λ (x : Search). x.ending) (sym (same_Some p r (sym (run-none (step blind limit task) p) ∙ k))) ∙ going_on) is)
   only_from (expand ∷ events) zero p q r going_on h still over k is =
-      let next = some_then (λ x. run blind limit task x events) (step blind limit task p expand) r k in
-      absurd (both_ways _ (ap (can_expand limit task) (same_Some p q h) ∙ over) (expansion_of blind limit task p next.0 next.1).able)
+      let next = run_parts (step blind limit task) p r expand events k in
+      absurd (both_ways _ (ap (can_expand limit task) (same_Some p q (sym (run-none (step blind limit task) p) ∙ h)) ∙ over) (expansion_of blind limit task p next.0 next.1).able)
   only_from (expand ∷ events) (suc n) p q r going_on h still over k is =
-      let next = some_then (λ x. run blind limit task x events) (step blind limit task p expand) r k in
-      let other = some_then (λ x. run blind limit task x (replicate n expand)) (step blind limit task p expand) q h in
+      let next = run_parts (step blind limit task) p r expand events k in
+      let other = run_parts (step blind limit task) p q expand (replicate n expand) h in
       ap (λ (es : List Event). expand ∷ es) (only_from events n next.0 q r (ap (λ (x : Search). x.ending) (expansion_of blind limit task p next.0 next.1).is ∙ going_on) (ap (λ x. run blind limit task x (replicate n expand)) (same_Some next.0 other.0 (sym next.1 ∙ other.1)) ∙ other.2) still over next.2 is)
   only_from (begin_snapshot ∷ []) zero p q r going_on h still over k is = refl
   only_from (begin_snapshot ∷ (e ∷ events)) zero p q r going_on h still over k is =
-      let next = some_then (λ x. run blind limit task x (e ∷ events)) (step blind limit task p begin_snapshot) r k in
-      let later = some_then (λ x. run blind limit task x events) (step blind limit task next.0 e) r next.2 in
+      let next = run_parts (step blind limit task) p r begin_snapshot (e ∷ events) k in
+      let later = run_parts (step blind limit task) next.0 r e events next.2 in
       let snap = snapshot_of blind limit task p next.0 next.1 in
       absurd (ended_stays next.0 later.0 e (ap (λ (x : Search). is_none x.ending) snap.is ∙ verdict_given limit task p (verdict_is limit task p going_on snap.over)) later.1)
   only_from (begin_snapshot ∷ events) (suc n) p q r going_on h still over k is =
-      let next = some_then (λ x. run blind limit task x events) (step blind limit task p begin_snapshot) r k in
-      let other = some_then (λ x. run blind limit task x (replicate n expand)) (step blind limit task p expand) q h in
+      let next = run_parts (step blind limit task) p r begin_snapshot events k in
+      let other = run_parts (step blind limit task) p q expand (replicate n expand) h in
       absurd (both_ways _ (snapshot_of blind limit task p next.0 next.1).over (expansion_of blind limit task p other.0 other.1).able)
 
   -- each legal run that ends is that of the schedule
@@ -135,7 +135,7 @@ IsRun-more limit task es new n at h below chosen within is =
 
 -- the run of no event
 pub IsRun-none : (limit : ℕ) (task : PlainTask) (es : List Entry) → es ≡ started blind (start task) → IsRun limit task es 0
-IsRun-none limit task es is = run-none blind limit task (first blind task) ∙ ap (λ (xs : List Entry). Some (going xs 0)) (sym is)
+IsRun-none limit task es is = run-none (step blind limit task) (first blind task) ∙ ap (λ (xs : List Entry). Some (going xs 0)) (sym is)
 
 -- what a run has led to is sound
 pub IsRun-sound : (limit : ℕ) (task : PlainTask) → IsSmall task → limit < 2 ^ 60 → (es : List Entry) (n : ℕ) → IsRun limit task es n → IsSound task (going es n)

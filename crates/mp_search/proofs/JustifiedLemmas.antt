@@ -2,7 +2,7 @@
 -- says, at the cost that it says.
 use Rattle.std.proofs.Common.{◌≡◌, ℕ, zero, suc, ◌<◌, ◌+◌, ◌^◌, Bool, true, false, ◌&&◌, cond, List, [], ◌∷◌, ◌++◌, map, Option, Some, None, refl, sym, ap, ◌∙◌, subst, arith, length, get_or, ⊎_elim}
 use Rattle.std.specs.List.{slice_get}
-use Rattle.std.specs.Option.{option_and_then, option_map_or, option_map}
+use Rattle.std.specs.Option.{option_map}
 use Rattle.std.proofs.lemmas.List.Elements.{All-map, All-push, All-set}
 use Rattle.std.proofs.lemmas.Option.{slice_get-map, slice_get_within, same_Some, none-some, get_or_from_slice_get}
 use Rattle.std.proofs.lemmas.Bool.{cond_both, and_parts, ltb-true}
@@ -13,7 +13,9 @@ use Rattle.mp_search.specs.declared.entry.Origin.TheVariants.{Root, Own}
 use Rattle.mp_search.specs.declared.task.Action.{Action}
 use Rattle.mp_search.specs.declared.task.PlainTask.{PlainTask}
 use Rattle.mp_search.specs.Facts.{Facts, is_same}
-use Rattle.mp_search.specs.Task.{start, applies, after, state_after, task_cost}
+use Rattle.mp_search.specs.Task.{start, applies, after, step_after, state_after, task_cost}
+use Rattle.mp_runs.proofs.Runs.{run-none}
+use Rattle.mp_search.proofs.PlanSteps.{state_after-push, task_cost-push}
 use Rattle.mp_search.specs.Record.{is_open, replaced, kept, is_kept, new_entry, offer, offer_valued, offer_all, closed, expansion, Heuristic, f, IsBounded}
 use Rattle.mp_search.specs.Walk.{OriginsAreEarlier, IsEarlier, path, up_to}
 use Rattle.mp_search.proofs.Reached.{Reached, reached, Follows, IsJustified}
@@ -43,14 +45,6 @@ pub map-reached-closed : (es : List Entry) (at : ℕ) (e : Entry) → slice_get 
 map-reached-closed [] at e h = refl
 map-reached-closed (x ∷ es) zero e h = ap (λ y. reached y ∷ map reached es) (sym (same_Some x e h))
 map-reached-closed (x ∷ es) (suc at) e h = ap (λ (rs : List Reached). reached x ∷ rs) (map-reached-closed es at e h)
-
-same_cond : (b : Bool) (x y : Option Facts) (t u : Facts) → (x ≡ Some t → y ≡ Some u) → cond b x None ≡ Some t → cond b y None ≡ Some u
-same_cond true x y t u follows h = follows h
-same_cond false x y t u follows h = absurd (none-some t h)
-
-same_then : (o : Option Action) (x y : Action → Option Facts) (t u : Facts) → ((b : Action) → x b ≡ Some t → y b ≡ Some u) → option_and_then x o ≡ Some t → option_and_then y o ≡ Some u
-same_then None x y t u follows h = absurd (none-some t h)
-same_then (Some b) x y t u follows h = follows b h
 
 -- the entry of what was reached
 pub entry_at : (es : List Entry) (k : ℕ) (r : Reached) → slice_get (map reached es) k ≡ Some r → (e : Entry) × (slice_get es k ≡ Some e) × (reached e ≡ r)
@@ -117,20 +111,6 @@ module _ (task : PlainTask) where
       by_origin Root p = tt
       by_origin (Own n from) p = p.2
 
-  -- a plan and one action more
-  state_after-push : (plan : List ℕ) (n : ℕ) (a : Action) (s t : Facts) → state_after task s plan ≡ Some t → slice_get task.actions n ≡ Some a → applies a t ≡ true →
-      state_after task s (plan ++ n ∷ []) ≡ Some (after a t)
-  state_after-push [] n a s t h own may =
-      ap (option_and_then (λ b. cond (applies b s) (state_after task (after b s) []) None)) own
-      ∙ ap (λ (u : Facts). cond (applies a u) (Some (after a u)) None) (same_Some s t h)
-      ∙ ap (λ b. cond b (Some (after a t)) None) may
-  state_after-push (m ∷ plan) n a s t h own may =
-      same_then (slice_get task.actions m) _ _ t (after a t) (λ b. same_cond (applies b s) _ _ t (after a t) (λ k. state_after-push plan n a (after b s) t k own may)) h
-
-  task_cost-push : (plan : List ℕ) (n : ℕ) (a : Action) → slice_get task.actions n ≡ Some a → task_cost task (plan ++ n ∷ []) ≡ task_cost task plan + a.cost
-  task_cost-push [] n a own = ap (λ (o : Option Action). option_map_or (λ b. b.cost) o 0 + 0) own ∙ omega arith
-  task_cost-push (m ∷ plan) n a own = ap (λ (k : ℕ). option_map_or (λ b. b.cost) (slice_get task.actions m) 0 + k) (task_cost-push plan n a own) ∙ omega arith
-
   -- the path to an entry may be taken from the start, ends in its state and costs its cost
   pub path_holds : (es : List Entry) → IsJustified task (map reached es) → (n i : ℕ) (e : Entry) → i < n → slice_get es i ≡ Some e →
       (state_after task (start task) (path es i) ≡ Some e.key) × (task_cost task (path es i) ≡ e.g)
@@ -142,12 +122,12 @@ module _ (task : PlainTask) where
       by_origin : (o : Origin) → Follows task (map reached es) i e.key e.g o →
           ((k : ℕ) (d : Entry) → k < i → slice_get es k ≡ Some d → (state_after task (start task) (path es k) ≡ Some d.key) × (task_cost task (path es k) ≡ d.g)) →
           (state_after task (start task) (up_to (path es) o) ≡ Some e.key) × (task_cost task (up_to (path es) o) ≡ e.g)
-      by_origin Root p before = (ap Some (sym p.0), sym p.1)
+      by_origin Root p before = (run-none (step_after task) (start task) ∙ ap Some (sym p.0), sym p.1)
       by_origin (Own m from) p before =
           let d = entry_at es from p.0 p.3 in
           let q = before from d.0 p.2 d.1 in (
-            state_after-push (path es from) m p.1 (start task) p.0.0 (q.0 ∙ ap (λ (r : Reached). Some r.0) d.2) p.4 p.5 ∙ ap Some (sym p.6),
-            task_cost-push (path es from) m p.1 p.4 ∙ ap (λ (k : ℕ). k + p.1.cost) (q.1 ∙ ap (λ (r : Reached). r.1) d.2) ∙ sym p.7,
+            state_after-push task (path es from) m p.1 (start task) p.0.0 (q.0 ∙ ap (λ (r : Reached). Some r.0) d.2) p.4 p.5 ∙ ap Some (sym p.6),
+            task_cost-push task (path es from) m p.1 p.4 ∙ ap (λ (k : ℕ). k + p.1.cost) (q.1 ∙ ap (λ (r : Reached). r.1) d.2) ∙ sym p.7,
           )
 
 -- cost and value stay below the limit

@@ -13,7 +13,7 @@ use Rattle.mp_search.specs.declared.task.Action.{Action}
 use Rattle.mp_search.specs.Facts.{Facts, is_same}
 use Rattle.mp_search.specs.Task.{start, applies, after, is_goal}
 use Rattle.mp_search.specs.Record.{is_open, replaced, kept, new_entry, is_known, closed}
-use Rattle.mp_search.proofs.FactsLemmas.{is_same-true, is_same-from}
+use Rattle.mp_sets.proofs.SetLemmas.{Decides-same}
 use Rattle.mp_search.proofs.BestFirst as laws
 use Rattle.mp_search.proofs.ListLemmas.{slice_get-append_left, slice_get_push_cases, map_at, slice_get_end, set_cases, set_stays, set_there}
 use Rattle.mp_search.proofs.MarkLemmas.{opened}
@@ -63,7 +63,7 @@ module _ (task : PlainTask) where
 pub known-entry : (es : List Entry) (s : Facts) (g : ℕ) → is_known es s g ≡ true → (k : ℕ) × (e : Entry) × (slice_get es k ≡ Some e) × (e.key ≡ s) × (e.g ≤ g)
 known-entry [] s g h = cc
 known-entry (e ∷ es) s g h =
-    ⊎_elim (λ here. let p = and_parts _ _ here in (zero, e, refl, is_same-true e.key s p.0, leb-true e.g g p.1))
+    ⊎_elim (λ here. let p = and_parts _ _ here in (zero, e, refl, (Decides-same e.key s).0 p.0, leb-true e.g g p.1))
     (λ later. let q = known-entry es s g later in (suc q.0, q.1, q.2, q.3, q.4))
     (or_cases _ _ h)
 
@@ -75,7 +75,7 @@ pub unknown-cheaper : (es : List Entry) (s : Facts) (g : ℕ) → is_known es s 
 unknown-cheaper [] s g h k e here is = absurd (none-some e here)
 unknown-cheaper (x ∷ es) s g h zero e here is =
     let same = same_Some x e here in
-    ⊎_elim (λ other. absurd (both_ways _ other (is_same-from x.key s (ap (λ (y : Entry). y.key) same ∙ is))))
+    ⊎_elim (λ other. absurd (both_ways _ other ((Decides-same x.key s).1 (ap (λ (y : Entry). y.key) same ∙ is))))
     (λ more. omega (arith, leb-false x.g g more, ap (λ (y : Entry). y.g) same))
     (and_cases _ _ (or_parts _ _ h).0)
 unknown-cheaper (x ∷ es) s g h (suc k) e here is = unknown-cheaper es s g (or_parts _ _ h).1 k e here is
@@ -85,11 +85,11 @@ module _ (task : PlainTask) where
   replaced_alike s e = ⊎_elim
       (λ t. let p = and_parts _ _ t in let is = cond-true _ (record e { mark = Replaced }) e t in (
         record { state_is = ap (λ (x : Entry). x.key) is; cost_is = ap (λ (x : Entry). x.g) is; estimate_is = ap (λ (x : Entry). x.h) is },
-        inr (opened e.mark p.0, ap (λ (x : Entry). x.mark) is, is_same-true e.key s p.1),
+        inr (opened e.mark p.0, ap (λ (x : Entry). x.mark) is, (Decides-same e.key s).0 p.1),
       ))
       (λ t. let is = cond-false _ (record e { mark = Replaced }) e t in (
         record { state_is = ap (λ (x : Entry). x.key) is; cost_is = ap (λ (x : Entry). x.g) is; estimate_is = ap (λ (x : Entry). x.h) is },
-        inl (ap (λ (x : Entry). x.mark) is, λ open_mark same. both_ways _ t (and_from _ _ (ap is_open open_mark) (is_same-from e.key s same))),
+        inl (ap (λ (x : Entry). x.mark) is, λ open_mark same. both_ways _ t (and_from _ _ (ap is_open open_mark) ((Decides-same e.key s).1 same))),
       ))
       (cases_Bool (is_open e.mark && is_same e.key s))
 

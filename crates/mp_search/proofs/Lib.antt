@@ -3,7 +3,6 @@ pub mod BestFirst
 pub mod Chosen
 pub mod Each
 pub mod Explored
-pub mod FactsLemmas
 pub mod Final
 pub mod GoalLemmas
 pub mod JustifiedLemmas
@@ -15,6 +14,7 @@ pub mod ListLemmas
 pub mod MarkLemmas
 pub mod Numbering
 pub mod PlacesLemmas
+pub mod PlanSteps
 pub mod Reached
 pub mod Runs
 pub mod Sound

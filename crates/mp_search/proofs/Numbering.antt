@@ -4,7 +4,7 @@ use Rattle.std.proofs.Math.Nat.{pow-suc}
 use Rattle.std.proofs.lemmas.Bool.{cases_lt, false_from_ne_true}
 use Rattle.std.specs.FinSet.{contains}
 use Rattle.mp_search.specs.Facts.{Facts}
-use Rattle.mp_search.proofs.FactsLemmas.{same_facts}
+use Rattle.mp_sets.proofs.SetLemmas.{same_numbers}
 
 -- a set's facts are below a number
 abbrev pub IsWithin : ℕ → Facts → Type 0
@@ -38,7 +38,7 @@ number-same (suc n) s t e q h =
 
 -- sets below a number that have one number are one
 pub same_by_number : (n : ℕ) (s t : Facts) → IsWithin n s → IsWithin n t → number n s ≡ number n t → s ≡ t
-same_by_number n s t hs ht e = same_facts s t (λ q.
+same_by_number n s t hs ht e = same_numbers s t (λ q.
     ⊎_elim (λ below. number-same n s t e q below)
     (λ above. false_from_ne_true (contains s q) (λ h. absurd (omega (arith, hs q h))) ∙ sym (false_from_ne_true (contains t q) (λ h. absurd (omega (arith, ht q h)))))
     (cases_lt q n))

@@ -1,9 +1,10 @@
 -- Runs: what each step does, what each step keeps, and the one schedule.
-use Rattle.std.proofs.Common.{◌≡◌, ℕ, ◌<◌, ◌+◌, Bool, true, false, not, ◌&&◌, cond, List, [], ◌∷◌, ◌++◌, Option, Some, None, refl, sym, ap, ◌∙◌, subst}
+use Rattle.std.proofs.Common.{◌≡◌, ℕ, ◌<◌, ◌+◌, Bool, true, false, not, ◌&&◌, cond, List, [], ◌∷◌, ◌++◌, Option, Some, None, refl, sym, ap, ◌∙◌}
 use Rattle.std.specs.List.{slice_get}
 use Rattle.std.specs.Option.{option_and_then, option_map, is_some, is_none}
 use Rattle.std.proofs.lemmas.Option.{none-some, same_Some}
 use Rattle.std.proofs.lemmas.Bool.{cond-true, and_parts, and_from, not-true, not_from_false, leb-false, lt-leb}
+use Rattle.mp_runs.proofs.Runs as runs
 use Rattle.mp_search.specs.declared.entry.Entry.{Entry}
 use Rattle.mp_search.specs.declared.task.PlainTask.{PlainTask}
 use Rattle.mp_search.specs.Record.{Heuristic, expansion, next_open}
@@ -76,26 +77,16 @@ module _ (value : Heuristic) (limit : ℕ) (task : PlainTask) where
   -- what each step keeps, each run keeps
   pub run_keeps : (I : Search → Type 0) → ((r q : Search) → IsExpansion value limit task r q → I r → I q) → ((r q : Search) → IsSnapshot limit task r q → I r → I q) →
       (events : List Event) (r q : Search) → run value limit task r events ≡ Some q → I r → I q
-  unfolding run
-  run_keeps I by_expansion by_snapshot [] r q h i = subst I (same_Some r q h) i
-  run_keeps I by_expansion by_snapshot (expand ∷ events) r q h i =
-      let next = some_then (λ p. run value limit task p events) (step value limit task r expand) q h in
-      run_keeps I by_expansion by_snapshot events next.0 q next.2 (by_expansion r next.0 (expansion_of r next.0 next.1) i)
-  run_keeps I by_expansion by_snapshot (begin_snapshot ∷ events) r q h i =
-      let next = some_then (λ p. run value limit task p events) (step value limit task r begin_snapshot) q h in
-      run_keeps I by_expansion by_snapshot events next.0 q next.2 (by_snapshot r next.0 (snapshot_of r next.0 next.1) i)
-
-  pub run-none : (r : Search) → run value limit task r [] ≡ Some r
-  unfolding run
-  run-none r = refl
+  run_keeps I by_expansion by_snapshot events r q h i = runs.run_keeps (step value limit task) I keeps events r q i h
+    where
+      keeps : (r q : Search) (e : Event) → I r → step value limit task r e ≡ Some q → I q
+      keeps r q expand i h = by_expansion r q (expansion_of r q h) i
+      keeps r q begin_snapshot i h = by_snapshot r q (snapshot_of r q h) i
 
   -- a run and one event more
   pub run-push : (events : List Event) (e : Event) (r p q : Search) → run value limit task r events ≡ Some p → step value limit task p e ≡ Some q → run value limit task r (events ++ e ∷ []) ≡ Some q
-  unfolding run
-  run-push [] e r p q h k = ap (option_and_then (λ x. Some x)) (ap (λ x. step value limit task x e) (same_Some r p h) ∙ k)
-  run-push (d ∷ events) e r p q h k =
-      let next = some_then (λ x. run value limit task x events) (step value limit task r d) p h in
-      ap (option_and_then (λ x. run value limit task x (events ++ e ∷ []))) next.1 ∙ run-push events e next.0 p q next.2 k
+  run-push events e r p q h k =
+      runs.run-after (step value limit task) r p events (e ∷ []) h ∙ runs.run-one (step value limit task) p e ∙ k
 
   -- one expansion more
   pub step-expand : (r : Search) (at : ℕ) (e : Entry) → r.ending ≡ None → r.expanded < limit → next_open task r.entries ≡ Some at → slice_get r.entries at ≡ Some e →

@@ -1,12 +1,6 @@
 -- The set of the places at which a list of truth values is true.
-use Rattle.std.specs.Prelude.{ℕ, zero, suc, Bool, false, List, length, slice_index_or, if◌then◌else◌}
-use Rattle.std.specs.Ordering.{nat_cmp}
-use Rattle.std.specs.FinSet.{FinSet, empty, insert}
+use Rattle.std.specs.Prelude.{Bool, false, List, length, slice_index_or}
+use Rattle.mp_sets.specs.Numbers.{Numbers, numbers_below}
 
--- the places below a number
-unfoldable pub places_below : List Bool → ℕ → FinSet nat_cmp
-places_below holds zero = empty
-places_below holds (suc n) = if slice_index_or holds n false then insert (places_below holds n) n else places_below holds n
-
-abbrev pub places : List Bool → FinSet nat_cmp
-places holds = places_below holds (length holds)
+abbrev pub places : List Bool → Numbers
+places holds = numbers_below (length holds) (λ k. slice_index_or holds k false)

@@ -2,6 +2,7 @@
 -- one; the snapshot is that of Chandy and Lamport 1985, which one agent takes at once).
 use Rattle.std.specs.Prelude.{ℕ, ◌+◌, ◌≡◌, nat_lt, nat_le, Bool, false, ◌&&◌, not, is_some, is_none, IsSome, Option, Some, None, option_and_then, option_map, List, [], ◌∷◌, ◌++◌, length, slice_get, replicate, if◌then◌else◌}
 use Rattle.std.specs.Option.{option_map_or}
+use Rattle.mp_runs.specs.Run as fold
 use Rattle.mp_search.specs.declared.answer.Answer.{Answer}
 use Rattle.mp_search.specs.declared.answer.Answer.TheVariants.{Solved, Unsolvable, Undecided}
 use Rattle.mp_search.specs.declared.entry.Entry.{Entry}
@@ -91,9 +92,8 @@ step value limit task r begin_snapshot =
     if is_none r.ending && not (can_expand limit task r) then Some (record r { ending = verdict (findings limit task r) }) else None
 
 -- the record after events, one after another: none where one of them may not be done
-unfoldable pub run : Heuristic → ℕ → PlainTask → Search → List Event → Option Search
-run value limit task r [] = Some r
-run value limit task r (e ∷ events) = option_and_then (λ q. run value limit task q events) (step value limit task r e)
+abbrev pub run : Heuristic → ℕ → PlainTask → Search → List Event → Option Search
+run value limit task r events = fold.run (step value limit task) r events
 
 -- so many expansions and then a snapshot
 abbrev pub schedule : ℕ → List Event

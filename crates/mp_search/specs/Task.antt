@@ -1,7 +1,9 @@
 -- Ground STRIPS tasks with action costs (Fikes and Nilsson 1971; PDDL 3.1), in numbers.
-use Rattle.std.specs.Prelude.{ℕ, ◌+◌, ◌<◌, ◌≤◌, ◌≡◌, ◌^◌, Bool, Option, Some, None, option_and_then, List, [], ◌∷◌, length, slice_get, All, IsTrue, IsSomeAnd, if◌then◌else◌}
+use Rattle.std.specs.Prelude.{ℕ, ◌<◌, ◌≤◌, ◌≡◌, ◌^◌, Bool, Option, Some, None, option_and_then, List, length, slice_get, All, if◌then◌else◌}
 use Rattle.std.specs.Option.{option_map_or}
 use Rattle.std.specs.FinSet as set
+use Rattle.mp_runs.specs.System as plans
+use Rattle.mp_runs.specs.System.{System, IsPlanFrom, plan_cost}
 use Rattle.mp_search.specs.Facts.{Facts, all_true}
 use Rattle.mp_search.specs.declared.task.Action.{Action}
 use Rattle.mp_search.specs.declared.task.PlainTask.{PlainTask}
@@ -26,21 +28,29 @@ start task = set.from_list task.start
 abbrev pub is_goal : PlainTask → Facts → Bool
 is_goal task s = all_true s task.goal
 
--- the state after actions, one after another, by their numbers: none where a number is no action, or an
--- action may not be applied in its turn
+-- the state after the action of a number: none where the number is no action, or the action may not be applied
+abbrev pub step_after : PlainTask → Facts → ℕ → Option Facts
+step_after task s n = option_and_then (successor s) (slice_get task.actions n)
+
+-- what the action of a number costs
+abbrev pub step_cost : PlainTask → ℕ → ℕ
+step_cost task n = option_map_or (λ a. a.cost) (slice_get task.actions n) 0
+
+-- a task as a transition system
+abbrev pub system : PlainTask → System Facts ℕ
+system task = record { after = step_after task; cost = step_cost task; is_goal = is_goal task }
+
+-- the state after actions, one after another, by their numbers: none where one may not be applied in its turn
 abbrev pub state_after : PlainTask → Facts → List ℕ → Option Facts
-state_after task s [] = Some s
-state_after task s (n ∷ ns) =
-    option_and_then (λ a. if applies a s then state_after task (after a s) ns else None) (slice_get task.actions n)
+state_after task s plan = plans.state_after (system task) s plan
 
 -- a plan solves where each action may be applied in its turn from the start and the goals are true at the end
 abbrev pub TaskSolves : PlainTask → List ℕ → Type 0
-TaskSolves task plan = IsSomeAnd (state_after task (start task) plan) (λ s. IsTrue (is_goal task s))
+TaskSolves task plan = IsPlanFrom (system task) (start task) plan
 
 -- what a plan costs: the sum of its actions' costs
 abbrev pub task_cost : PlainTask → List ℕ → ℕ
-task_cost task [] = 0
-task_cost task (n ∷ ns) = option_map_or (λ a. a.cost) (slice_get task.actions n) 0 + task_cost task ns
+task_cost task plan = plan_cost (system task) plan
 
 -- an action over so many facts, of cost 1
 pub record IsSmallAction (facts : ℕ) (a : Action) : Type 0 where

@@ -1,6 +1,6 @@
 //! Small tasks with answers that were worked out by hand from the rules of the search.
 
-use crate::{Action, Answer, PlainTask, is_small, uniform};
+use crate::{Action, Alone, Answer, PlainTask, is_small, uniform};
 use mp_list::{List, OutOfMemory};
 use std::alloc::Global;
 use std::test::Fail;
@@ -216,32 +216,52 @@ fn task_of(alloc: Global, case: &Case) -> Result<PlainTask, OutOfMemory> {
     })
 }
 
+/// What the search answers, where the task is small.
+fn answered(alloc: Global, case: &Case) -> Result<Option<Alone>, OutOfMemory> {
+    let task = task_of(alloc, case)?;
+    if !is_small(&task) {
+        return Ok(None);
+    }
+    Ok(Some(uniform(alloc, &task)?))
+}
+
+/// Whether an answer is that of the case.
+fn is_of(alone: Option<Alone>, case: &Case) -> bool {
+    let Some(alone) = alone else {
+        return false;
+    };
+    alone.answer == case.answer
+        && alone.expanded == case.expanded
+        && alone.plan.as_slice() == case.plan
+}
+
 #[test]
 fn answers_are_those_worked_out_by_hand(rt: HostRuntime) -> Result<(), Fail> {
     for case in CASES {
-        let task = task_of(rt.alloc(), case)?;
-        assert!(rt; is_small(&task), "{}", case.name);
-        let alone = uniform(rt.alloc(), &task)?;
-        assert_eq!(rt; alone.answer, case.answer, "{}", case.name);
-        assert_eq!(rt; alone.plan.as_slice(), case.plan, "{}", case.name);
-        assert_eq!(rt; alone.expanded, case.expanded, "{}", case.name);
+        assert!(rt; is_of(answered(rt.alloc(), case)?, case), "{}", case.name);
     }
     Ok(())
 }
 
-#[test]
-fn a_task_is_small_only_with_few_facts_and_unit_costs(rt: HostRuntime) -> Result<(), Fail> {
-    let alloc = rt.alloc();
-    let mut task = PlainTask {
-        facts: 17,
+/// Whether a task of so many facts and this goal is small.
+fn is_small_with(alloc: Global, facts: u32, goal: &[u32]) -> Result<bool, OutOfMemory> {
+    Ok(is_small(&PlainTask {
+        facts,
         start: List::new(alloc),
-        goal: List::new(alloc),
+        goal: list(alloc, goal)?,
         actions: List::new(alloc),
-    };
-    assert!(rt; !is_small(&task));
-    task.facts = 16;
-    assert!(rt; is_small(&task));
-    task.goal.push(16)?;
-    assert!(rt; !is_small(&task));
+    }))
+}
+
+#[test]
+fn a_task_is_small_only_with_few_facts(rt: HostRuntime) -> Result<(), Fail> {
+    for (facts, goal, small) in [
+        (17, &[][..], false),
+        (16, &[][..], true),
+        (16, &[15][..], true),
+        (16, &[16][..], false),
+    ] {
+        assert_eq!(rt; is_small_with(rt.alloc(), facts, goal)?, small, "{facts}");
+    }
     Ok(())
 }

@@ -1,11 +1,12 @@
-use Rattle.std.proofs.Common.{ℕ, List, sym, ap, ◌∙◌}
+use Rattle.std.proofs.Common.{ℕ, List, ap, ◌∙◌}
 use Rattle.std.proofs.lemmas.List.{take_all}
 use Rattle.std.specs.FinSet.{difference, from_list}
-use Rattle.mp_search.proofs.PlacesLemmas.{difference-none, union-none, add_step, delete_step}
+use Rattle.mp_sets.proofs.SetLemmas.{difference-none, union-none}
+use Rattle.mp_search.proofs.PlacesLemmas.{add_step, delete_step}
 use Rattle.mp_search.proofs.state.State.after.Goals as goal
 
 pub deletes-init : goal.deletes-init
-deletes-init c = (c.self.told, c.self.view_is ∙ sym (difference-none c.args.self.now))
+deletes-init c = (c.self.told, c.self.view_is ∙ difference-none c.args.self.now)
 
 pub deletes-preserved : goal.deletes-preserved
 deletes-preserved c =
@@ -16,7 +17,7 @@ adds-init c = (
   c.deletes.invariant.0,
   c.deletes.invariant.1
       ∙ ap (λ (xs : List ℕ). difference c.args.self.now (from_list xs)) (take_all c.deletes.fact-index c.args.del.now c.deletes-test.false)
-      ∙ sym (union-none (difference c.args.self.now (from_list c.args.del.now))),
+      ∙ union-none (difference c.args.self.now (from_list c.args.del.now)),
 )
 
 pub adds-preserved : goal.adds-preserved
