@@ -1,5 +1,5 @@
 -- Instances: ground actions of STRIPS with a cost (PDDL 3.1, action costs).
-use Rattle.std.specs.Prelude.{ℕ, Bool, ◌&&◌, ◌||◌, not, List}
+use Rattle.std.specs.Prelude.{ℕ, Bool, ◌&&◌, ◌||◌, not, List, Option, Some, None, if◌then◌else◌}
 use Rattle.std.specs.List.{list_all}
 use Rattle.mp_joint.specs.declared.fact.NamedFact.{NamedFact}
 use Rattle.mp_joint.specs.Fact.{is_among}
@@ -27,3 +27,7 @@ applies i s = all_true s i.pre
 -- is true.
 abbrev pub after : Instance → State → State
 after i s = λ f. is_among f i.add || (s f && not (is_among f i.del))
+
+-- the state after an instance: none where it may not be applied
+abbrev pub successor : State → Instance → Option State
+successor s i = if applies i s then Some (after i s) else None

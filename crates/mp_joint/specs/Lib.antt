@@ -1,5 +1,5 @@
 pub mod Fact
-pub mod FactorPart
+pub mod FactorContribution
 pub mod Grounding
 pub mod Instance
 pub mod Plan

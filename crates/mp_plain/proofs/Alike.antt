@@ -1,6 +1,6 @@
--- A plain factor's part is what its factor brings into the united problem.
+-- A plain factor contributes what its factor brings into the united problem.
 use Rattle.std.proofs.Common.{◌≡◌, List, [], ◌∷◌, ◌++◌, length, map, Bool, true, false, not, ◌==◌, nat_le, Option, Some, None, refl, ap, sym, ◌∙◌, subst, All}
-use Rattle.std.proofs.lemmas.Bool.{eqb-true}
+use Rattle.std.proofs.lemmas.Bool.{eqb-true, and_parts, not-true}
 use Rattle.std.proofs.lemmas.List.{nil_from_length}
 use Rattle.std.proofs.lemmas.List.Elements.{All-head, All-tail, filter-append}
 use Rattle.std.specs.List.{filter, find, list_all}
@@ -13,20 +13,18 @@ use Rattle.mp_factor.specs.declared.schema_values.Schema.{Schema}
 use Rattle.mp_factor.specs.declared.signature_values.Signature.{Signature}
 use Rattle.mp_factor.specs.declared.typed_values.Typed.{Typed}
 use Rattle.mp_joint.specs.Fact.{Text, Privates, named}
-use Rattle.mp_joint.specs.FactorPart as joint
-use Rattle.mp_joint.specs.FactorPart.{factor_part, privates_of, instance_of_schema, instance_with, may_stand_for}
+use Rattle.mp_joint.specs.FactorContribution as joint
+use Rattle.mp_joint.specs.FactorContribution.{factor_contribution, privates_of, instance_of_schema, instance_with, may_stand_for}
 use Rattle.mp_joint.specs.Grounding.{fact_of, objects_of, cost_of}
 use Rattle.mp_joint.specs.Instance.{Instance}
 use Rattle.mp_joint.specs.declared.plan.PlanStep.{PlanStep}
 use Rattle.mp_search.specs.declared.answer.Answer.{Answer}
 use Rattle.mp_plain.specs.PlainAnswer.{Answers}
 use Rattle.mp_plain.specs.PlainForm.{Makes, plain_of, plain_action, atom_names, is_plain_domain, is_plain_problem, is_plain_schema, is_plain_signature}
-use Rattle.mp_plain.specs.PlainPart.{action_named, fact, instance, instance_at, no_privates, plain_part}
+use Rattle.mp_plain.specs.PlainContribution.{action_named, fact, instance, instance_at, no_privates, plain_contribution}
 use Rattle.mp_plain.specs.declared.form.PlainAction.{PlainAction}
 use Rattle.mp_plain.specs.declared.form.PlainFactor.{PlainFactor}
-use Rattle.mp_plain.proofs.Bools.{and_left, and_right}
 use Rattle.mp_plain.proofs.NoTerms.{HasNone, NoneInAction, NoTerms}
-use Rattle.mp_plain.proofs.SameParts.{SameParts, same_answers}
 
 -- what the form says of a factor's declarations
 record IsPlain (factor : Factor) : Type 0 where
@@ -36,23 +34,19 @@ record IsPlain (factor : Factor) : Type 0 where
   objects : list_all (λ t. not t.private) factor.problem.objects ≡ true
   metric : factor.problem.metric ≡ false
 
-not_true : (b : Bool) → not b ≡ true → b ≡ false
-not_true true h = absurd (cc)
-not_true false h = refl
-
 plain_declarations : (factor : Factor) → is_plain_domain factor.domain ≡ true → is_plain_problem factor.problem ≡ true → IsPlain factor
 unfolding is_plain_domain is_plain_problem
 plain_declarations factor d p =
-    let few = and_right (nat_le (length factor.domain.predicates) 16) _ d in
-    let predicates = and_right (nat_le (length factor.domain.schemas) (2 ^ 31)) _ few in
-    let functions = and_right (list_all is_plain_signature factor.domain.predicates) _ predicates in
-    let constants = and_right (list_all (λ s. not s.private) factor.domain.functions) _ functions in
+    let few = (and_parts (nat_le (length factor.domain.predicates) 16) _ d).1 in
+    let predicates = (and_parts (nat_le (length factor.domain.schemas) (2 ^ 31)) _ few).1 in
+    let functions = (and_parts (list_all is_plain_signature factor.domain.predicates) _ predicates).1 in
+    let constants = (and_parts (list_all (λ s. not s.private) factor.domain.functions) _ functions).1 in
     record {
-      predicates = and_left _ _ predicates;
-      constants = and_left _ _ constants;
-      schemas = and_right (list_all (λ t. not t.private) factor.domain.constants) _ constants;
-      objects = and_right (not factor.problem.metric) _ p;
-      metric = not_true _ (and_left _ _ p);
+      predicates = (and_parts _ _ predicates).0;
+      constants = (and_parts _ _ constants).0;
+      schemas = (and_parts (list_all (λ t. not t.private) factor.domain.constants) _ constants).1;
+      objects = (and_parts (not factor.problem.metric) _ p).1;
+      metric = not-true _ ((and_parts _ _ p).0);
     }
 
 no_items : {X : Type 0} (xs : List X) → (length xs == 0) ≡ true → xs ≡ []
@@ -62,14 +56,14 @@ no_items xs h = nil_from_length xs (eqb-true (length xs) 0 h)
 none_passes : {X : Type 0} (test : X → Bool) (xs : List X) → list_all (λ x. not (test x)) xs ≡ true → filter test xs ≡ []
 none_passes test [] h = refl
 none_passes test (x ∷ xs) h =
-    let fails : test x ≡ false = not_true _ (and_left _ _ h) in
-    rw fails (none_passes test xs (and_right (not (test x)) _ h))
+    let fails : test x ≡ false = not-true _ ((and_parts _ _ h).0) in
+    rw fails (none_passes test xs ((and_parts (not (test x)) _ h).1))
 
 public_signatures : (signatures : List Signature) → list_all is_plain_signature signatures ≡ true → list_all (λ s. not s.private) signatures ≡ true
 public_signatures [] h = refl
 public_signatures (s ∷ ss) h =
-    let first : not s.private ≡ true = and_right (length s.params == 0) _ (and_left _ _ h) in
-    rw first (public_signatures ss (and_right (is_plain_signature s) _ h))
+    let first : not s.private ≡ true = (and_parts (length s.params == 0) _ ((and_parts _ _ h).0)).1 in
+    rw first (public_signatures ss ((and_parts (is_plain_signature s) _ h).1))
 
 public_objects : (factor : Factor) → IsPlain factor → filter (λ o. o.private) (joint.declared_objects factor) ≡ []
 public_objects factor h =
@@ -119,8 +113,8 @@ at_no_objects : (factor : Factor) → IsPlain factor → (name : Text) (ss : Lis
 at_no_objects factor h name [] plain none = refl
 at_no_objects factor h name (s ∷ ss) plain none =
     here_or_later factor (bytes_eq s.word.name name) s (action_named (map plain_action ss) name) (find (λ t. bytes_eq t.word.name name) ss)
-    (schema_instance factor h s (and_left _ _ plain) (All-head NoneInAction s ss none))
-    (at_no_objects factor h name ss (and_right (is_plain_schema s) _ plain) (All-tail NoneInAction s ss none))
+    (schema_instance factor h s ((and_parts _ _ plain).0) (All-head NoneInAction s ss none))
+    (at_no_objects factor h name ss ((and_parts (is_plain_schema s) _ plain).1) (All-tail NoneInAction s ss none))
 
 none_or_later : (factor : Factor) (objects : List Text) (b : Bool) (s : Schema) (later : Option Schema) → instance_of_schema 1 factor objects s ≡ None → option_and_then (instance_of_schema 1 factor objects) later ≡ None → option_and_then (instance_of_schema 1 factor objects) (if b then Some s else later) ≡ None
 none_or_later factor objects true s later here rest = here
@@ -129,29 +123,29 @@ none_or_later factor objects false s later here rest = rest
 at_objects : (factor : Factor) (name o : Text) (os : List Text) (ss : List Schema) → list_all is_plain_schema ss ≡ true → option_and_then (instance_of_schema 1 factor (o ∷ os)) (find (λ s. bytes_eq s.word.name name) ss) ≡ None
 at_objects factor name o os [] plain = refl
 at_objects factor name o os (s ∷ ss) plain =
-    none_or_later factor (o ∷ os) (bytes_eq s.word.name name) s (find (λ t. bytes_eq t.word.name name) ss) (no_instance factor o os s (and_left _ _ plain))
-    (at_objects factor name o os ss (and_right (is_plain_schema s) _ plain))
+    none_or_later factor (o ∷ os) (bytes_eq s.word.name name) s (find (λ t. bytes_eq t.word.name name) ss) (no_instance factor o os s ((and_parts _ _ plain).0))
+    (at_objects factor name o os ss ((and_parts (is_plain_schema s) _ plain).1))
 
 plain_instances : (factor : Factor) → IsPlain factor → NoTerms factor → (name : Text) (args : List Text) → instance_at (plain_of factor).actions name args ≡ joint.instance_at 1 factor name args
 plain_instances factor h none name [] = at_no_objects factor h name factor.domain.schemas h.schemas none.actions
 plain_instances factor h none name (o ∷ os) = sym (at_objects factor name o os factor.domain.schemas h.schemas)
 
-same_as_read : (factor : Factor) → IsPlain factor → NoTerms factor → SameParts (plain_part (plain_of factor)) (factor_part 1 factor)
+same_as_read : (factor : Factor) → IsPlain factor → NoTerms factor → plain_contribution (plain_of factor) ≡ factor_contribution 1 factor
 same_as_read factor h none =
     let facts = same_facts (privates_of factor) [] (nothing_private factor h) in
-    record {
-      instances = plain_instances factor h none;
-      init = facts factor.problem.init none.init;
-      goals = facts factor.problem.goals none.goals;
+    λ i. record {
+      instance_at = λ name args. plain_instances factor h none name args i;
+      init = facts factor.problem.init none.init i;
+      goals = facts factor.problem.goals none.goals i;
     }
 
 -- a plain factor brings the same into the united problem as the factor that makes it
-pub same_part : (factor : Factor) (plain : PlainFactor) → Makes factor plain → NoTerms factor → SameParts (plain_part plain) (factor_part 1 factor)
-same_part factor plain made none =
-    subst (λ p. SameParts (plain_part p) (factor_part 1 factor)) (sym made.same)
-    (same_as_read factor (plain_declarations factor made.domain made.problem) none)
+pub same_contribution : (factor : Factor) (plain : PlainFactor) → Makes factor plain → NoTerms factor → plain_contribution plain ≡ factor_contribution 1 factor
+same_contribution factor plain made none =
+    ap plain_contribution made.same ∙ same_as_read factor (plain_declarations factor made.domain made.problem) none
 
 -- so that an answer that is right for the plain factor is right for the factor
-pub alike : (factor : Factor) (plain : PlainFactor) → Makes factor plain → NoTerms factor → (answer : Answer) (plan : List PlanStep) → Answers (plain_part plain) answer plan → Answers (factor_part 1 factor) answer plan
+pub alike : (factor : Factor) (plain : PlainFactor) → Makes factor plain → NoTerms factor → (answer : Answer) (plan : List PlanStep)
+    → Answers (plain_contribution plain) answer plan → Answers (factor_contribution 1 factor) answer plan
 alike factor plain made none answer plan right =
-    same_answers (plain_part plain) (factor_part 1 factor) (same_part factor plain made none) answer plan right
+    subst (λ own. Answers own answer plan) (same_contribution factor plain made none) right

@@ -1,5 +1,6 @@
 -- Each atom of a checked factor of a plain domain names a declared predicate and has no terms.
 use Rattle.std.proofs.Common.{◌≡◌, ℕ, ◌==◌, List, [], ◌∷◌, ◌++◌, map, length, Bool, true, false, ◌||◌, Option, Some, None, if◌then◌else◌, All, refl, ap, sym, ◌∙◌, subst, eqb-true}
+use Rattle.std.proofs.lemmas.Bool.{and_parts}
 use Rattle.std.proofs.lemmas.List.Elements.{All-nil, All-cons}
 use Rattle.std.specs.List.{list_all, flat_map}
 use Rattle.std.specs.Str.{bytes_eq}
@@ -22,10 +23,10 @@ use Rattle.mp_typing.specs.Uses.{applied_faults, atom_faults, increase_faults}
 use Rattle.mp_typing.specs.CheckFaults.{check_faults, schema_faults, problem_faults, value_faults}
 use Rattle.mp_joint.specs.Fact.{is_listed}
 use Rattle.mp_plain.specs.PlainForm.{is_plain_signature, is_plain_domain}
-use Rattle.mp_plain.proofs.Bools.{and_left, and_right, same_tests}
 use Rattle.mp_plain.proofs.CheckedParts.{none_in_four, no_faults, plain_domain}
 use Rattle.mp_plain.proofs.Names.{equal_names, names_equal}
 use Rattle.mp_plain.proofs.NoTerms.{HasNone, NoTerms}
+use Rattle.mp_list.proofs.Bools.{same_tests}
 
 -- the names of declared predicates
 abbrev pub predicate_names : List Signature → List (List ℕ)
@@ -41,7 +42,7 @@ names_swapped a b =
     same_tests _ _ (λ h. names_equal b a (sym (equal_names a b h))) (λ h. names_equal a b (sym (equal_names b a h)))
 
 zero_params : (s : Signature) → is_plain_signature s ≡ true → length s.params ≡ 0
-zero_params s h = eqb-true _ _ (and_left _ _ h)
+zero_params s h = eqb-true _ _ ((and_parts _ _ h).0)
 
 -- the first predicate of a name is listed and has no parameters
 listed_by : (test later : Bool) (count n : ℕ) (o : Option ℕ) → count ≡ 0 → (if test then Some count else o) ≡ Some n → (o ≡ Some n → (later ≡ true) × (n ≡ 0)) → ((test || later) ≡ true) × (n ≡ 0)
@@ -53,8 +54,8 @@ unfolding number_of
 number_listed name [] n plain h = absurd (cc)
 number_listed name (s ∷ ss) n plain h =
     subst (λ test. ((test || is_listed name (predicate_names ss)) ≡ true) × (n ≡ 0)) (names_swapped s.word.name name)
-    (listed_by (bytes_eq s.word.name name) (is_listed name (predicate_names ss)) (length s.params) n (number_of name (map arity_entry ss)) (zero_params s (and_left _ _ plain)) h
-    (number_listed name ss n (and_right (is_plain_signature s) _ plain)))
+    (listed_by (bytes_eq s.word.name name) (is_listed name (predicate_names ss)) (length s.params) n (number_of name (map arity_entry ss)) (zero_params s ((and_parts _ _ plain).0)) h
+    (number_listed name ss n ((and_parts (is_plain_signature s) _ plain).1)))
 
 -- a word that is rightly applied is declared with as many parameters
 applied_right : (file : File) (word : Word) (count : ℕ) (o : Option ℕ) → applied_faults file word count o ≡ [] → o ≡ Some count

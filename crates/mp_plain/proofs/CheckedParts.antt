@@ -1,5 +1,6 @@
 -- What is empty in a checked factor, part by part, and what is true of a plain domain.
 use Rattle.std.proofs.Common.{◌≡◌, List, [], ◌++◌, length, true}
+use Rattle.std.proofs.lemmas.Bool.{and_parts}
 use Rattle.std.specs.Prelude.{nat_le, ◌^◌}
 use Rattle.std.specs.List.{list_all, flat_map}
 use Rattle.mp_factor.specs.FactorParts.{DomainParts, ProblemParts}
@@ -7,7 +8,6 @@ use Rattle.mp_factor.proofs.NoFaults.{none_in_first, none_in_second}
 use Rattle.mp_typing.specs.Lookups.{declared}
 use Rattle.mp_typing.specs.CheckFaults.{check_faults, owner_faults, declared_faults, schema_faults, problem_faults}
 use Rattle.mp_plain.specs.PlainForm.{is_plain_signature, is_plain_domain}
-use Rattle.mp_plain.proofs.Bools.{and_left, and_right}
 
 -- the limits and tests of a plain domain
 pub record IsPlain (domain : DomainParts) : Type 0 where
@@ -18,9 +18,9 @@ pub record IsPlain (domain : DomainParts) : Type 0 where
 pub plain_domain : (domain : DomainParts) → is_plain_domain domain ≡ true → IsPlain domain
 unfolding is_plain_domain
 plain_domain domain h =
-    let after_few = and_right (nat_le (length domain.predicates) 16) _ h in
-    let after_schemas = and_right (nat_le (length domain.schemas) (2 ^ 31)) _ after_few in
-    record { few = and_left _ _ h; few_schemas = and_left _ _ after_few; predicates = and_left _ _ after_schemas }
+    let after_few = (and_parts (nat_le (length domain.predicates) 16) _ h).1 in
+    let after_schemas = (and_parts (nat_le (length domain.schemas) (2 ^ 31)) _ after_few).1 in
+    record { few = (and_parts _ _ h).0; few_schemas = (and_parts _ _ after_few).0; predicates = (and_parts _ _ after_schemas).0 }
 
 -- four lists are empty where they make an empty list together
 pub none_in_four : {X : Type 0} → (as' bs cs ds : List X) → as' ++ bs ++ cs ++ ds ≡ [] → (as' ≡ []) × (bs ≡ []) × (cs ≡ []) × (ds ≡ [])

@@ -1,5 +1,6 @@
 -- Names that a checked domain declares once.
 use Rattle.std.proofs.Common.{◌≡◌, ℕ, List, [], ◌∷◌, ◌++◌, map, Bool, true, false, ◌||◌, refl, sym, ◌∙◌, subst}
+use Rattle.std.proofs.lemmas.Bool.{or_parts}
 use Rattle.std.proofs.lemmas.Simd.{map-map}
 use Rattle.std.proofs.lemmas.List.Folds.{list_any-append}
 use Rattle.std.specs.List.{list_any, flat_map}
@@ -17,7 +18,7 @@ use Rattle.mp_typing.specs.Faults.{fault_at}
 use Rattle.mp_typing.specs.Repeats.{is_same, repeat_faults, repeated_faults, object_faults}
 use Rattle.mp_typing.specs.CheckFaults.{declared_faults}
 use Rattle.mp_joint.specs.Fact.{is_listed}
-use Rattle.mp_plain.specs.PlainPart.{are_distinct}
+use Rattle.mp_plain.specs.PlainContribution.{are_distinct}
 use Rattle.mp_plain.proofs.CheckedAtoms.{predicate_names}
 use Rattle.mp_plain.proofs.CheckedParts.{none_in_four}
 
@@ -25,14 +26,10 @@ use Rattle.mp_plain.proofs.CheckedParts.{none_in_four}
 abbrev IsOneOf : Word → List Word → Type 0
 IsOneOf w before = (test : Word → Bool) → list_any test before ≡ false → test w ≡ false
 
-either_false : (a b : Bool) → (a || b) ≡ false → (a ≡ false) × (b ≡ false)
-either_false true b h = absurd (cc)
-either_false false b h = (refl, h)
-
 before_last : (test : Word → Bool) (before : List Word) (w : Word) → list_any test (before ++ w ∷ []) ≡ false → (list_any test before ≡ false) × (test w ≡ false)
 before_last test before w h =
-    let parts = either_false (list_any test before) (test w || false) (sym (list_any-append test before (w ∷ [])) ∙ h) in
-    (parts.0, (either_false (test w) false parts.1).0)
+    let parts = or_parts (list_any test before) (test w || false) (sym (list_any-append test before (w ∷ [])) ∙ h) in
+    (parts.0, (or_parts (test w) false parts.1).0)
 
 -- the names of words
 abbrev word_names : List Word → List (List ℕ)

@@ -10,8 +10,8 @@ use Rattle.mp_factor.specs.declared.factor.Factor.{Factor}
 use Rattle.mp_typing.specs.CheckFaults.{check_faults}
 use Rattle.mp_plain.specs.declared.form.PlainAction.{PlainAction}
 use Rattle.mp_plain.specs.declared.form.PlainFactor.{PlainFactor}
-use Rattle.mp_plain.specs.PlainForm.{is_plain_domain, atom_names, plain_action, plain_actions, plain_of}
-use Rattle.mp_plain.specs.PlainPart.{IsRead, IsWellFormed, are_listed, are_distinct, is_declared}
+use Rattle.mp_plain.specs.PlainForm.{IsRead, is_plain_domain, atom_names, plain_action, plain_actions, plain_of}
+use Rattle.mp_plain.specs.PlainContribution.{IsWellFormed, are_listed, are_distinct, is_declared}
 use Rattle.mp_plain.proofs.CheckedAtoms.{predicate_names, IsChecked, AreChecked, checked_atoms}
 use Rattle.mp_plain.proofs.CheckedParts.{no_faults, plain_domain}
 use Rattle.mp_plain.proofs.DistinctNames.{domain_distinct}

@@ -11,14 +11,13 @@ use Rattle.mp_plain.specs.declared.form.PlainFactor.{PlainFactor}
 use Rattle.mp_plain.specs.Numbered.{numbered, named_plan}
 use Rattle.mp_plain.specs.PlainAnswer.{Answers, IsFound, most_expansions}
 use Rattle.mp_plain.specs.PlainForm.{Makes, plain_of}
-use Rattle.mp_plain.specs.PlainPart.{plain_part, IsWellFormed}
+use Rattle.mp_plain.specs.PlainContribution.{plain_contribution, IsWellFormed}
 use Rattle.mp_plain.proofs.Alike.{alike}
-use Rattle.mp_plain.proofs.Back.{has_numbers}
 use Rattle.mp_plain.proofs.CheckedAtoms.{no_terms}
 use Rattle.mp_plain.proofs.Formed.{read_formed}
-use Rattle.mp_plain.proofs.Runs.{solves, same_cost}
+use Rattle.mp_plain.proofs.Simulations.{solves, same_cost, has_numbers}
 
-right : (plain : PlainFactor) (answer : Answer) (ns : List ℕ) → IsWellFormed plain → IsDecided answer → AnswerHolds (numbered plain) answer ns → IsLeast (numbered plain) answer → Answers (plain_part plain) answer (named_plan plain.actions ns)
+right : (plain : PlainFactor) (answer : Answer) (ns : List ℕ) → IsWellFormed plain → IsDecided answer → AnswerHolds (numbered plain) answer ns → IsLeast (numbered plain) answer → Answers (plain_contribution plain) answer (named_plan plain.actions ns)
 right plain Nothing ns w d a l = absurd d
 right plain (Solved price steps) ns w d a l =
     let costs = same_cost plain w ns a.0 in (
@@ -35,8 +34,8 @@ pub found : (factor : Factor) (plain : PlainFactor) (t : PlainTask) (answer : An
 found factor plain t answer ns n plan m e d a l r o p =
     let w = read_formed plain (factor, m) in
     let task : t ≡ numbered (plain_of factor) = e ∙ ap numbered m.same in
-    let answers : Answers (plain_part plain) answer plan =
-    subst (Answers (plain_part plain) answer) (sym p) (right plain answer ns w d (subst (λ u. AnswerHolds u answer ns) e a) (subst (λ u. IsLeast u answer) e l)) in
+    let answers : Answers (plain_contribution plain) answer plan =
+    subst (Answers (plain_contribution plain) answer) (sym p) (right plain answer ns w d (subst (λ u. AnswerHolds u answer ns) e a) (subst (λ u. IsLeast u answer) e l)) in
     record {
       right = alike factor plain m (no_terms factor m.checked m.domain) answer plan answers;
       numbers = ns;

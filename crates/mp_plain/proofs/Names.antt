@@ -1,6 +1,6 @@
 -- Names and the numbers that stand for them.
 use Rattle.std.proofs.Common.{◌≡◌, ℕ, zero, suc, List, [], ◌∷◌, map, Bool, true, false, ◌||◌, ◌⊎◌, inl, inr, Some, if◌then◌else◌, refl, ap, sym, ◌∙◌, subst, arith, eq-eqb, nat_eq}
-use Rattle.std.proofs.lemmas.Bool.{eqb-true}
+use Rattle.std.proofs.lemmas.Bool.{eqb-true, and_parts, false_from_ne_true, not-true, or_right}
 use Rattle.std.proofs.lemmas.Slice.Eq.{bytes_eq-Decides}
 use Rattle.std.specs.List.{list_any, find}
 use Rattle.std.specs.Prelude.{slice_get, not}
@@ -8,8 +8,8 @@ use Rattle.std.specs.Str.{bytes_eq}
 use Rattle.mp_joint.specs.Fact.{is_among, is_listed, same_fact}
 use Rattle.mp_plain.specs.declared.form.PlainAction.{PlainAction}
 use Rattle.mp_plain.specs.Numbered.{number_in}
-use Rattle.mp_plain.specs.PlainPart.{fact, are_listed, are_distinct}
-use Rattle.mp_plain.proofs.Bools.{and_left, and_right, and_true, same_tests, false_where_not_true}
+use Rattle.mp_plain.specs.PlainContribution.{fact, are_listed, are_distinct}
+use Rattle.mp_list.proofs.Bools.{and_true, same_tests}
 
 pub equal_names : (p q : List ℕ) → bytes_eq p q ≡ true → p ≡ q
 equal_names p q h = (bytes_eq-Decides p q).0 h
@@ -52,18 +52,14 @@ pub numbered_among : (declared names : List (List ℕ)) (p : List ℕ) → are_l
 numbered_among declared [] p h j = refl
 numbered_among declared (n ∷ ns) p h j =
     ap (λ b. b || list_any (λ y. nat_eq y (number_in declared p)) (map (number_in declared) ns))
-    (numbers_compare declared p n j (and_left _ _ h))
-    ∙ ap (λ b. bytes_eq p n || b) (numbered_among declared ns p (and_right (is_listed n declared) _ h) j)
+    (numbers_compare declared p n j ((and_parts _ _ h).0))
+    ∙ ap (λ b. bytes_eq p n || b) (numbered_among declared ns p ((and_parts (is_listed n declared) _ h).1) j)
 
 -- an action's name is among the actions' names
 listed_member : (actions : List PlainAction) (n : ℕ) (a : PlainAction) (name : List ℕ) → slice_get actions n ≡ Some a → bytes_eq name a.name ≡ true → is_listed name (map (λ b. b.name) actions) ≡ true
 listed_member [] n a name h j = absurd (cc)
 listed_member (x ∷ xs) zero a name h j = let e : x ≡ a = cc in subst (λ y. (bytes_eq name y.name || is_listed name (map (λ b. b.name) xs)) ≡ true) (sym e) (rw j refl)
-listed_member (x ∷ xs) (suc n) a name h j = or_later (bytes_eq name x.name) _ (listed_member xs n a name h j)
-  where
-    or_later : (b c : Bool) → c ≡ true → (b || c) ≡ true
-    or_later true c h = refl
-    or_later false c h = h
+listed_member (x ∷ xs) (suc n) a name h j = or_right (bytes_eq name x.name) _ (listed_member xs n a name h j)
 
 -- where the actions have different names, an action is found by its own name
 pub found_by_name : (actions : List PlainAction) (n : ℕ) (a : PlainAction) → are_distinct (map (λ b. b.name) actions) ≡ true → slice_get actions n ≡ Some a → find (λ b. bytes_eq b.name a.name) actions ≡ Some a
@@ -73,9 +69,5 @@ found_by_name (x ∷ xs) zero a d h =
     subst (λ y. (if bytes_eq y.name a.name then Some y else find (λ b. bytes_eq b.name a.name) xs) ≡ Some a) (sym e) (let same : bytes_eq a.name a.name ≡ true = names_equal a.name a.name refl in rw same refl)
 found_by_name (x ∷ xs) (suc n) a d h =
     let differs : bytes_eq x.name a.name ≡ false =
-    false_where_not_true _ (λ same. let e : true ≡ false = sym (listed_member xs n a x.name h same) ∙ not_true _ (and_left _ _ d) in cc) in
-    rw differs (found_by_name xs n a (and_right (not (is_listed x.name (map (λ b. b.name) xs))) _ d) h)
-  where
-    not_true : (b : Bool) → not b ≡ true → b ≡ false
-    not_true true h = absurd (cc)
-    not_true false h = refl
+    false_from_ne_true _ (λ same. let e : true ≡ false = sym (listed_member xs n a x.name h same) ∙ not-true _ ((and_parts _ _ d).0) in cc) in
+    rw differs (found_by_name xs n a ((and_parts (not (is_listed x.name (map (λ b. b.name) xs))) _ d).1) h)

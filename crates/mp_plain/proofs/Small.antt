@@ -1,16 +1,16 @@
 -- The task of a well-formed factor is small.
 use Rattle.std.proofs.Common.{◌≡◌, ℕ, suc, ◌<◌, List, [], ◌∷◌, length, map, Bool, true, false, ◌||◌, refl, sym, subst, Result, Ok, Err, IfOk, arith, if◌then◌else◌}
+use Rattle.std.proofs.lemmas.Bool.{and_parts}
 use Rattle.std.proofs.lemmas.List.{length-map}
 use Rattle.std.specs.List.{list_all, All}
 use Rattle.std.specs.Str.{bytes_eq}
 use Rattle.std.proofs.lemmas.List.Elements.{All-nil, All-cons}
-use Rattle.mp_plain.proofs.Bools.{and_left, and_right}
 use Rattle.mp_joint.specs.Fact.{is_listed}
 use Rattle.mp_search.specs.Task.{IsSmall, IsSmallAction}
 use Rattle.mp_search.specs.declared.task.PlainTask.{PlainTask}
 use Rattle.mp_plain.specs.declared.form.PlainAction.{PlainAction}
 use Rattle.mp_plain.specs.declared.form.PlainFactor.{PlainFactor}
-use Rattle.mp_plain.specs.PlainPart.{IsWellFormed, are_listed, is_declared}
+use Rattle.mp_plain.specs.PlainContribution.{IsWellFormed, are_listed, is_declared}
 use Rattle.mp_plain.specs.Numbered.{number_in, numbered, numbered_action}
 
 below_by : (t l : Bool) (n len : ℕ) → (t || l) ≡ true → (l ≡ true → n < len) → (if t then 0 else suc n) < suc len
@@ -27,14 +27,14 @@ pub numbers_below : (declared names : List (List ℕ)) → are_listed names decl
 numbers_below declared [] h = All-nil (λ f. f < length declared)
 numbers_below declared (n ∷ ns) h =
     All-cons (λ f. f < length declared) (number_in declared n) (map (number_in declared) ns)
-    (number_below declared n (and_left _ _ h))
-    (numbers_below declared ns (and_right (is_listed n declared) _ h))
+    (number_below declared n ((and_parts _ _ h).0))
+    (numbers_below declared ns ((and_parts (is_listed n declared) _ h).1))
 
 action_small : (declared : List (List ℕ)) (a : PlainAction) → is_declared declared a ≡ true → IsSmallAction (length declared) (numbered_action declared a)
 action_small declared a h = record {
-  pre = numbers_below declared a.pre (and_left _ _ h);
-  add = numbers_below declared a.add (and_left _ _ (and_right (are_listed a.pre declared) _ h));
-  del = numbers_below declared a.del (and_right (are_listed a.add declared) _ (and_right (are_listed a.pre declared) _ h));
+  pre = numbers_below declared a.pre ((and_parts _ _ h).0);
+  add = numbers_below declared a.add ((and_parts _ _ ((and_parts (are_listed a.pre declared) _ h).1)).0);
+  del = numbers_below declared a.del ((and_parts (are_listed a.add declared) _ ((and_parts (are_listed a.pre declared) _ h).1)).1);
   unit = refl;
 }
 
@@ -42,8 +42,8 @@ actions_small : (declared : List (List ℕ)) (actions : List PlainAction) → li
 actions_small declared [] h = All-nil (IsSmallAction (length declared))
 actions_small declared (a ∷ as') h =
     All-cons (IsSmallAction (length declared)) (numbered_action declared a) (map (numbered_action declared) as')
-    (action_small declared a (and_left _ _ h))
-    (actions_small declared as' (and_right (is_declared declared a) _ h))
+    (action_small declared a ((and_parts _ _ h).0))
+    (actions_small declared as' ((and_parts (is_declared declared a) _ h).1))
 
 pub numbered_small : (factor : PlainFactor) → IsWellFormed factor → IsSmall (numbered factor)
 numbered_small factor h = record {

@@ -1,4 +1,4 @@
 pub mod Numbered
 pub mod PlainForm
 pub mod PlainAnswer
-pub mod PlainPart
+pub mod PlainContribution

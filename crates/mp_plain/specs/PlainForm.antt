@@ -52,3 +52,7 @@ pub record Makes (factor : Factor) (plain : PlainFactor) : Type 0 where
   pub domain : is_plain_domain factor.domain ≡ true
   pub problem : is_plain_problem factor.problem ≡ true
   pub same : plain ≡ plain_of factor
+
+-- the plain factor that some checked factor makes
+abbrev pub IsRead : PlainFactor → Type 0
+IsRead plain = (factor : Factor) × Makes factor plain

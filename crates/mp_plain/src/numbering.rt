@@ -1,7 +1,7 @@
 //! A plain factor in numbers.
 
 ghost use Rattle.std.specs.Prelude.{◌≡◌, ◌≤◌, IfOk, map, length};
-ghost use Rattle.mp_plain.specs.PlainPart.{IsRead};
+ghost use Rattle.mp_plain.specs.PlainForm.{IsRead};
 ghost use Rattle.mp_plain.specs.Numbered.{number_in, numbered, numbered_action};
 ghost use Rattle.mp_search.specs.Task.{IsSmall};
 

@@ -3,8 +3,7 @@
 ghost use Rattle.std.specs.Prelude.{◌≡◌, IfOk};
 ghost use Rattle.mp_plain.specs.PlainAnswer.{IsFound};
 ghost use Rattle.mp_factor.specs.declared.factor.Factor.{Factor};
-ghost use Rattle.mp_plain.specs.PlainForm.{Makes};
-ghost use Rattle.mp_plain.specs.PlainPart.{IsRead};
+ghost use Rattle.mp_plain.specs.PlainForm.{IsRead, Makes};
 ghost use Rattle.mp_search.specs.Outcome.{IsDecided};
 
 use crate::form::PlainFactor;

@@ -1,10 +1,11 @@
 //! Plain factors from their texts to their tasks and plans in a printed form, by hand.
 
-ghost use Rattle.std.specs.Prelude.{◌<◌, ◌^◌, length};
+ghost use Rattle.std.specs.Prelude.{◌<◌, ◌^◌, length, IfOk};
+ghost use Rattle.mp_plain.specs.PlainForm.{IsRead};
 
 use super::*;
 use crate::numbering::numbered_task;
-use mp_factor::{File, domain, problem};
+use mp_factor::{Domain, File, Problem, domain, problem};
 use mp_list::{List, OutOfMemory};
 use mp_search::{Action, Answer, PlainTask};
 use mp_sexp::read;
@@ -24,23 +25,30 @@ const DOOR: &[u8] =
 const DOOR_PROBLEM: &[u8] =
     b"(define (problem two) (:domain door) (:init (key)) (:goal (and (in) (open))))";
 
+/// What a domain's text says, when nothing is wrong with its shape.
+fn said(alloc: Global, text: &[u8]) -> Result<Domain, Fail>
+    requires { length text.now < 2 ^ 31 }
+{
+    let tree = read(alloc, text)?;
+    domain(alloc, &tree).map_err(|_| Fail::from("a domain"))
+}
+
+/// What a problem's text says, when nothing is wrong with its shape.
+fn posed(alloc: Global, text: &[u8]) -> Result<Problem, Fail>
+    requires { length text.now < 2 ^ 31 }
+{
+    let tree = read(alloc, text)?;
+    problem(alloc, &tree).map_err(|_| Fail::from("a problem"))
+}
+
 /// The factor of two texts, when nothing is wrong with it.
 fn factor(alloc: Global, first: &[u8], second: &[u8]) -> Result<CheckedFactor, Fail>
     requires domain { length first.now < 2 ^ 31 }
     requires problem { length second.now < 2 ^ 31 }
 {
-    let domain_tree = read(alloc, first)?;
-    let problem_tree = read(alloc, second)?;
-    let Ok(said) = domain(alloc, &domain_tree) else {
-        return Err(Fail::from("a domain"));
-    };
-    let Ok(also) = problem(alloc, &problem_tree) else {
-        return Err(Fail::from("a problem"));
-    };
-    match check(alloc, said, also) {
-        Ok(factor) => Ok(factor),
-        Err(_) => Err(Fail::from("nothing wrong")),
-    }
+    let domain = said(alloc, first)?;
+    let problem = posed(alloc, second)?;
+    check(alloc, domain, problem).map_err(|_| Fail::from("nothing wrong"))
 }
 
 fn show(out: &mut Vec<u8>, bytes: &[u8]) -> Result<(), OutOfMemory> {
@@ -77,18 +85,6 @@ fn show_task(out: &mut Vec<u8>, task: &PlainTask) -> Result<(), OutOfMemory> {
     Ok(())
 }
 
-/// Appends the task of a plain factor.
-fn show_numbered(
-    alloc: Global,
-    out: &mut Vec<u8>,
-    checked: &CheckedFactor,
-) -> Result<(), PlainRefusal> {
-    let form = plain(alloc, checked)?;
-    let task = numbered_task(alloc, &form)?;
-    show_task(out, &task)?;
-    Ok(())
-}
-
 /// Appends an answer and the names of the steps of its plan.
 fn show_found(out: &mut Vec<u8>, found: &Found) -> Result<(), OutOfMemory> {
     match found.answer {
@@ -106,16 +102,28 @@ fn show_found(out: &mut Vec<u8>, found: &Found) -> Result<(), OutOfMemory> {
     Ok(())
 }
 
-/// Appends what a search for a plan finds.
-fn show_solved(
+/// The task of a plain factor, and what a search for its plan finds.
+fn shown_form(alloc: Global, form: &PlainFactor) -> Result<Vec<u8>, OutOfMemory>
+    requires { IsRead form.now }
+{
+    let mut out = Vec::new(alloc);
+    show_task(&mut out, &numbered_task(alloc, form)?)?;
+    show_found(&mut out, &solve(alloc, form)?)?;
+    Ok(out)
+}
+
+/// The plain form of two texts, or why there is none.
+fn form(
     alloc: Global,
-    out: &mut Vec<u8>,
-    checked: &CheckedFactor,
-) -> Result<(), PlainRefusal> {
-    let form = plain(alloc, checked)?;
-    let found = solve(alloc, &form)?;
-    show_found(out, &found)?;
-    Ok(())
+    first: &[u8],
+    second: &[u8],
+) -> Result<Result<PlainFactor, PlainRefusal>, Fail>
+    requires domain { length first.now < 2 ^ 31 }
+    requires problem { length second.now < 2 ^ 31 }
+    ensures { IfOk result (λ form. IfOk form IsRead) }
+{
+    let checked = factor(alloc, first, second)?;
+    Ok(plain(alloc, &checked))
 }
 
 /// Task, answer and plan of two texts, or the file that is not of the plain form.
@@ -123,16 +131,19 @@ fn shown(alloc: Global, first: &[u8], second: &[u8]) -> Result<Vec<u8>, Fail>
     requires domain { length first.now < 2 ^ 31 }
     requires problem { length second.now < 2 ^ 31 }
 {
-    let checked = factor(alloc, first, second)?;
-    let mut out = Vec::new(alloc);
-    match show_numbered(alloc, &mut out, &checked) {
-        Ok(()) => {}
-        Err(PlainRefusal::NotBuilt(File::Domain)) => show(&mut out, b"domain")?,
-        Err(PlainRefusal::NotBuilt(File::Problem)) => show(&mut out, b"problem")?,
-        Err(PlainRefusal::OutOfMemory) => show(&mut out, b"memory")?,
+    let refused = match form(alloc, first, second)? {
+        Ok(form) => return Ok(shown_form(alloc, &form)?),
+        Err(refusal) => refusal,
+    };
+    Ok(Vec::from_slice(alloc, refusal_text(refused))?)
+}
+
+fn refusal_text(refusal: PlainRefusal) -> &'static [u8] {
+    match refusal {
+        PlainRefusal::NotBuilt(File::Domain) => b"domain",
+        PlainRefusal::NotBuilt(File::Problem) => b"problem",
+        PlainRefusal::OutOfMemory => b"memory",
     }
-    let _ = show_solved(alloc, &mut out, &checked);
-    Ok(out)
 }
 
 const EMPTY: &[u8] = b"(define (domain d))";
@@ -142,7 +153,7 @@ const NO_MORE: &[u8] = b"(define (problem p) (:domain d))";
 const METRIC: &[u8] = b"(define (problem p) (:domain d) (:metric minimize (total-cost)))";
 
 /// Two texts, and what is shown of them.
-const CASES: [(&[u8], &[u8], &[u8]); 13] = [
+const CASES: &[(&[u8], &[u8], &[u8])] = &[
     (LAMP, LAMP_PROBLEM, b" 0 /0/: solved 11 press"),
     (DOOR, DOOR_PROBLEM, b"0 21 1/2/ 0/1/0: solved 22 turn go"),
     (
@@ -199,7 +210,7 @@ fn plain_factors(rt: HostRuntime) -> Result<(), Fail> {
     for (first, second, wanted) in CASES {
         assert!(rt; first.len() < 10_000 && second.len() < 10_000);
         let found = shown(rt.alloc(), first, second)?;
-        assert_eq!(rt; found.as_slice(), wanted, "{first:?}");
+        assert_eq!(rt; found.as_slice(), *wanted, "{first:?}");
     }
     Ok(())
 }

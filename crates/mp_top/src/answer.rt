@@ -1,7 +1,7 @@
 //! The answer to a plain factor: a search, its log, and the text of its outcome.
 
 ghost use Rattle.std.specs.Prelude.{◌≡◌, IfOk};
-ghost use Rattle.mp_plain.specs.PlainPart.{IsRead};
+ghost use Rattle.mp_plain.specs.PlainForm.{IsRead};
 ghost use Rattle.mp_top.specs.Answered.{lone_log as lone_log_of};
 ghost use Rattle.mp_top.specs.Decision.{Decides};
 

@@ -1,7 +1,7 @@
 //! The whole of the program on one thread.
 
 ghost use Rattle.std.specs.Prelude.{◌≡◌, ◌<◌, ℕ, List, Some, true, map, string_bytes, IfOk, IfErr};
-ghost use Rattle.mp_plain.specs.PlainPart.{IsRead};
+ghost use Rattle.mp_plain.specs.PlainForm.{IsRead};
 ghost use Rattle.mp_top.specs.Call.{Call, seen_source, seen_sink};
 ghost use Rattle.mp_top.specs.Cause.{Rests};
 ghost use Rattle.mp_top.specs.Decision.{Decides, DecidesFiles, Publishes};

@@ -2,7 +2,7 @@
 
 ghost use Rattle.std.specs.Prelude.{◌≡◌, ◌<◌, ◌≤◌, Some, Ok, IfOk, IfErr, IfSome, length, vec_len};
 ghost use Rattle.mp_factor.specs.FileValues.{domain_value, problem_value};
-ghost use Rattle.mp_plain.specs.PlainPart.{IsRead};
+ghost use Rattle.mp_plain.specs.PlainForm.{IsRead};
 ghost use Rattle.mp_sexp.specs.Node.{node_of};
 ghost use Rattle.mp_sexp.specs.Spelling.{HasTree};
 ghost use Rattle.mp_top.specs.Call.{seen_source};

@@ -11,7 +11,7 @@ use Rattle.mp_typing.specs.ObjectList.{object_list}
 use Rattle.mp_joint.specs.Fact.{Text, Privates}
 use Rattle.mp_joint.specs.Grounding.{fact_of, cost_of}
 use Rattle.mp_joint.specs.Instance.{Instance}
-use Rattle.mp_joint.specs.Plan.{Part}
+use Rattle.mp_joint.specs.Plan.{Contribution}
 
 -- constants and objects as they are declared
 abbrev pub declared_objects : Factor → List Typed
@@ -58,9 +58,9 @@ abbrev pub instance_at : ℕ → Factor → Text → List Text → Option Instan
 instance_at agent factor name objects =
     option_and_then (instance_of_schema agent factor objects) (find (λ s. bytes_eq s.word.name name) factor.domain.schemas)
 
--- the part of an agent: its instances, and its initial facts and goals, which have no variables
-abbrev pub factor_part : ℕ → Factor → Part
-factor_part agent factor =
+-- what an agent contributes: its instances, and its initial facts and goals, which have no variables
+abbrev pub factor_contribution : ℕ → Factor → Contribution
+factor_contribution agent factor =
     record {
       instance_at = instance_at agent factor;
       init = map (fact_of agent (privates_of factor) [] []) factor.problem.init;

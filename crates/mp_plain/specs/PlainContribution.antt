@@ -7,9 +7,7 @@ use Rattle.std.specs.Str.{bytes_eq}
 use Rattle.mp_joint.specs.declared.fact.NamedFact.{NamedFact}
 use Rattle.mp_joint.specs.Fact.{Text, Privates, named, is_listed}
 use Rattle.mp_joint.specs.Instance.{Instance}
-use Rattle.mp_joint.specs.Plan.{Part}
-use Rattle.mp_factor.specs.declared.factor.Factor.{Factor}
-use Rattle.mp_plain.specs.PlainForm.{Makes}
+use Rattle.mp_joint.specs.Plan.{Contribution}
 use Rattle.mp_plain.specs.declared.form.PlainAction.{PlainAction}
 use Rattle.mp_plain.specs.declared.form.PlainFactor.{PlainFactor}
 
@@ -33,8 +31,8 @@ abbrev pub instance_at : List PlainAction → Text → List Text → Option Inst
 instance_at actions name [] = option_map instance (action_named actions name)
 instance_at actions name (arg ∷ args) = None
 
-abbrev pub plain_part : PlainFactor → Part
-plain_part factor =
+abbrev pub plain_contribution : PlainFactor → Contribution
+plain_contribution factor =
     record { instance_at = instance_at factor.actions; init = map fact factor.init; goals = map fact factor.goals }
 
 -- all these names are declared
@@ -49,10 +47,6 @@ are_distinct (n ∷ ns) = not (is_listed n ns) && are_distinct ns
 -- an action names declared predicates alone
 abbrev pub is_declared : List Text → PlainAction → Bool
 is_declared declared a = are_listed a.pre declared && (are_listed a.add declared && are_listed a.del declared)
-
--- the plain factor that some checked factor makes
-abbrev pub IsRead : PlainFactor → Type 0
-IsRead plain = (factor : Factor) × Makes factor plain
 
 -- At most sixteen predicates, all different; all actions different, at most 2 ^ 31 of them; every atom declared.
 pub record IsWellFormed (factor : PlainFactor) : Type 0 where
