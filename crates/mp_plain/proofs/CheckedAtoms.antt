@@ -18,7 +18,7 @@ use Rattle.mp_typing.specs.declared.declared.Declared.{Declared}
 use Rattle.mp_typing.specs.Faults.{fault_at}
 use Rattle.mp_typing.specs.Indexed.{number_of}
 use Rattle.mp_typing.specs.Lookups.{arity_entry, declared}
-use Rattle.mp_typing.specs.Repeats.{repeated_faults, object_faults}
+use Rattle.mp_typing.specs.Repeats.{parameter_faults, object_faults}
 use Rattle.mp_typing.specs.Uses.{applied_faults, atom_faults, increase_faults}
 use Rattle.mp_typing.specs.CheckFaults.{check_faults, schema_faults, problem_faults, value_faults}
 use Rattle.mp_joint.specs.Fact.{is_listed}
@@ -92,7 +92,7 @@ schema_checked : (known : Declared) (ss : List Signature) (schema : Schema) → 
 unfolding schema_faults
 schema_checked known ss schema same plain h =
     let faults = atom_faults files.Domain schema.params known in
-    let of_params = repeated_faults files.Domain [] (map (λ (p : Typed). p.word) schema.params) in
+    let of_params = parameter_faults [] schema.params in
     let of_increases = flat_map (increase_faults files.Domain schema.params known) schema.increases in
     let parts = none_in_four of_params (flat_map faults schema.pre) (flat_map faults schema.add) (flat_map faults schema.del) (none_in_first _ of_increases h) in
     record {

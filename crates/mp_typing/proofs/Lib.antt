@@ -9,6 +9,7 @@ pub mod NameSets
 pub mod OneFirst
 pub mod OrderLemmas
 pub mod Ordering
+pub mod ParameterLemmas
 pub mod Passing
 pub mod Placing
 pub mod Reaching

@@ -14,7 +14,7 @@ use Rattle.mp_typing.specs.declared.fault.FaultKind.TheVariants.{WrongDomain}
 use Rattle.mp_typing.specs.Faults.{fault_at}
 use Rattle.mp_typing.specs.Lookups.{declared}
 use Rattle.mp_typing.specs.Uses.{atom_faults, function_faults, increase_faults}
-use Rattle.mp_typing.specs.Repeats.{repeated_faults, object_faults}
+use Rattle.mp_typing.specs.Repeats.{repeated_faults, parameter_faults, object_faults}
 
 -- the problem belongs to the domain
 unfoldable pub owner_faults : Word → Word → List Fault
@@ -23,7 +23,7 @@ owner_faults name owner = if bytes_eq owner.name name.name then [] else fault_at
 -- an action: its parameters, its condition and its effects
 unfoldable pub schema_faults : Declared → Schema → List Fault
 schema_faults known schema =
-    repeated_faults files.Domain [] (map (λ p. p.word) schema.params)
+    parameter_faults [] schema.params
     ++ flat_map (atom_faults files.Domain schema.params known) schema.pre
     ++ flat_map (atom_faults files.Domain schema.params known) schema.add
     ++ flat_map (atom_faults files.Domain schema.params known) schema.del

@@ -1,9 +1,11 @@
 -- Names that are declared more than once.
-use Rattle.std.specs.Prelude.{Bool, true, false, not, ◌&&◌, List, [], ◌∷◌, ◌++◌, Option, Some, None, if◌then◌else◌}
+use Rattle.std.specs.Prelude.{Bool, true, false, not, ◌==◌, nat_lt, ◌&&◌, ◌||◌, List, [], ◌∷◌, ◌++◌, Option, Some, None, if◌then◌else◌}
 use Rattle.std.specs.List.{list_any, find}
 use Rattle.std.specs.Cmp.Lexicographic.{pointwise}
 use Rattle.std.specs.Str.{bytes_eq}
+use Rattle.mp_sexp.specs.declared.tree.Place.{Place}
 use Rattle.mp_factor.specs.declared.files.File.{File}
+use Rattle.mp_factor.specs.declared.files.File.TheVariants.{Domain}
 use Rattle.mp_factor.specs.declared.word.Word.{Word}
 use Rattle.mp_factor.specs.declared.typed_values.Typed.{Typed}
 use Rattle.mp_typing.specs.declared.fault.Fault.{Fault}
@@ -26,6 +28,23 @@ repeat_faults file before word = twice_if (list_any (λ w. is_same w word) befor
 unfoldable pub repeated_faults : File → List Word → List Word → List Fault
 repeated_faults file before [] = []
 repeated_faults file before (w ∷ ws) = repeat_faults file before w ++ repeated_faults file (before ++ w ∷ []) ws
+
+-- a place stands before another in a file
+abbrev pub is_before : Place → Place → Bool
+is_before a b = nat_lt a.line b.line || (a.line == b.line && nat_lt a.column b.column)
+
+-- A parameter that stands between these in a list comes second: one of its name stands before it in the file, or has
+-- its place and comes before it in the list.
+abbrev pub is_second : List Typed → Typed → List Typed → Bool
+is_second before param behind =
+    list_any (λ p. is_same p.word param.word && not (is_before param.word.at p.word.at)) before
+    || list_any (λ p. is_same p.word param.word && is_before p.word.at param.word.at) behind
+
+-- Parameters of an action, behind earlier ones of a list. The agent is the first of that list wherever it stands in the
+-- file, and so it may be the second of its name.
+unfoldable pub parameter_faults : List Typed → List Typed → List Fault
+parameter_faults before [] = []
+parameter_faults before (p ∷ ps) = twice_if (is_second before p ps) Domain p.word ++ parameter_faults (before ++ p ∷ []) ps
 
 -- both private, or both public
 abbrev pub is_same_privacy : Bool → Bool → Bool

@@ -10,6 +10,7 @@ ghost use Rattle.mp_typing.specs.Refused.{RestsOn, refusal_of};
 use crate::checked::CheckedFactor;
 use crate::declared::{Declared, declarations};
 use crate::fault::{Fault, FaultKind, with};
+use crate::parameters::parameters_fault;
 use crate::refusal::CheckRefusal;
 use crate::repeats::{objects_fault, repeated_fault};
 use crate::uses::{atoms_fault, function_fault, increases_fault};
@@ -36,7 +37,6 @@ fn owner_fault(
 /// The first fault, with those of an action. Refuses only for want of memory.
 #[tactic(auto, using(crate::proofs::FirstLemmas::leftmost_append), unfolding(crate::specs::CheckFaults::schema_faults))]
 fn schema_fault(
-    alloc: Global,
     least: Option<Fault>,
     declared: &Declared,
     schema: &Schema,
@@ -45,7 +45,7 @@ fn schema_fault(
 {
     let file = File::Domain;
     let params = schema.params.as_slice();
-    let listed = repeated_fault(alloc, least, file, params)?;
+    let listed = parameters_fault(least, params)?;
     let pre = atoms_fault(listed, file, params, declared, schema.pre.as_slice())?;
     let add = atoms_fault(pre, file, params, declared, schema.add.as_slice())?;
     let del = atoms_fault(add, file, params, declared, schema.del.as_slice())?;
@@ -54,7 +54,6 @@ fn schema_fault(
 
 /// The first fault, with those of actions. Refuses only for want of memory.
 fn schemas_fault(
-    alloc: Global,
     least: Option<Fault>,
     declared: &Declared,
     schemas: &[Schema],
@@ -63,7 +62,7 @@ fn schemas_fault(
 {
     let mut first = least;
     for schema in schemas {
-        first = schema_fault(alloc, first, declared, schema)?;
+        first = schema_fault(first, declared, schema)?;
     }
     Ok(first)
 }
@@ -148,7 +147,7 @@ fn first_fault(
     let declared = declarations(alloc, domain, problem)?;
     let owner = owner_fault(None, &domain.word, &problem.domain)?;
     let names = declared_fault(alloc, owner, &declared, domain, problem)?;
-    let schemas = schemas_fault(alloc, names, &declared, domain.schemas.as_slice())?;
+    let schemas = schemas_fault(names, &declared, domain.schemas.as_slice())?;
     problem_fault(schemas, &declared, domain, problem)
 }
 

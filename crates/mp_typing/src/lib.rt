@@ -10,6 +10,7 @@ mod laws;
 mod membership;
 mod names;
 mod objects;
+mod parameters;
 mod refusal;
 mod repeats;
 mod test_laws;

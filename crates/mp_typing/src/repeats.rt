@@ -88,7 +88,7 @@ pub fn repeated_fault<T: Named>(
 }
 
 /// Whether two words have the same name.
-fn is_same_name(a: &Word, b: &Word) -> bool
+pub fn is_same_name(a: &Word, b: &Word) -> bool
     ensures { result ≡ same_word a.now b.now }
 {
     a.name.as_slice() == b.name.as_slice()

@@ -67,7 +67,7 @@ fn answers(
 const OWNER: &[u8] = b"(define (problem p) (:domain d))";
 
 /// Domains beside a problem that says no more than its domain.
-const DOMAINS: [(&[u8], Wanted); 18] = [
+const DOMAINS: [(&[u8], Wanted); 20] = [
     (b"(define (domain d))", None),
     (
         b"(define (domain e))",
@@ -92,6 +92,14 @@ const DOMAINS: [(&[u8], Wanted); 18] = [
     (
         b"(define (domain d) (:action a :parameters (?x ?y - t ?x)) (:action b :parameters (?x)))",
         Some((Kind::Twice, File::Domain, 1, 54, b"?x")),
+    ),
+    (
+        b"(define (domain d) (:types t) (:action a :parameters (?x) :agent ?x - t))",
+        Some((Kind::Twice, File::Domain, 1, 66, b"?x")),
+    ),
+    (
+        b"(define (domain d) (:types t) (:action a :parameters (?x) :precondition (q) :agent ?x - t))",
+        Some((Kind::Unknown, File::Domain, 1, 74, b"q")),
     ),
     (
         b"(define (domain d) (:constants o - t o - t o - s))",
