@@ -14,10 +14,9 @@ use Rattle.mp_factor.specs.declared.schema_values.Schema.{Schema}
 use Rattle.mp_factor.specs.declared.factor.Factor.{Factor}
 use Rattle.mp_factor.proofs.NoFaults.{not_empty, none_in_first, none_in_second, not_else}
 use Rattle.mp_typing.specs.declared.fault.FaultKind.TheVariants.{Arity}
-use Rattle.mp_typing.specs.declared.declared.Declared.{Declared}
 use Rattle.mp_typing.specs.Faults.{fault_at}
 use Rattle.mp_typing.specs.Indexed.{number_of}
-use Rattle.mp_typing.specs.Lookups.{arity_entry, declared}
+use Rattle.mp_typing.specs.Lookups.{Declared, arity_entry, declared}
 use Rattle.mp_typing.specs.Repeats.{parameter_faults, object_faults}
 use Rattle.mp_typing.specs.Uses.{applied_faults, atom_faults, increase_faults}
 use Rattle.mp_typing.specs.CheckFaults.{check_faults, schema_faults, problem_faults, value_faults}

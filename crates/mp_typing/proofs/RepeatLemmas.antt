@@ -1,68 +1,78 @@
 -- Names that earlier words have, as a loop over the words finds them.
-use Rattle.std.proofs.Common.{◌≡◌, ℕ, suc, ◌+◌, ◌-◌, ◌<◌, ◌≤◌, Bool, true, false, List, [], ◌∷◌, ◌++◌, map, length, get_or, take, drop, Option, Some, None, refl, sym, ap, ◌∙◌, drop-cons, arith}
-use Rattle.std.specs.Prelude.{◌||◌, ◌&&◌, slice_get, if◌then◌else◌}
+use Rattle.std.proofs.Common.{◌≡◌, ℕ, suc, ◌+◌, ◌-◌, ◌<◌, ◌≤◌, Bool, true, false, List, [], ◌∷◌, ◌++◌, map, length, get_or, take, drop, Option, Some, None, refl, sym, ap, subst, ◌∙◌, drop-cons, arith}
+use Rattle.std.specs.Prelude.{◌||◌, ◌&&◌, not, slice_get, if◌then◌else◌}
 use Rattle.std.specs.List.{list_any, find}
-use Rattle.std.specs.Option.{is_some}
 use Rattle.std.specs.Str.{bytes_eq}
 use Rattle.std.specs.Cmp.Lexicographic.{pointwise}
 use Rattle.std.proofs.Math.ListN.{drop_of_length-le}
 use Rattle.std.proofs.lemmas.List.{take_more, map-append}
+use Rattle.std.proofs.lemmas.List.Folds.{list_any-append}
 use Rattle.mp_factor.specs.declared.files.File.{File}
 use Rattle.mp_factor.specs.declared.word.Word.{Word}
 use Rattle.mp_factor.specs.declared.typed_values.Typed.{Typed}
 use Rattle.mp_typing.specs.declared.fault.Fault.{Fault}
-use Rattle.mp_typing.specs.declared.index.Entry.{Entry}
 use Rattle.mp_typing.specs.Faults.{leftmost}
-use Rattle.mp_typing.specs.Indexed.{number_of}
+use Rattle.mp_typing.specs.Indexed.{Entry, number_of}
+use Rattle.mp_typing.specs.Names.{is_among, SameNames}
 use Rattle.mp_typing.specs.Lookups.{counted_from}
 use Rattle.mp_typing.specs.Repeats.{is_same, twice_if, repeat_faults, repeated_faults}
 use Rattle.mp_typing.proofs.FirstLemmas.{leftmost_append}
+use Rattle.mp_typing.proofs.Lists.{swaps}
+use Rattle.mp_typing.proofs.NameSets.{same_either_way}
 
--- a name whose number does not matter
-abbrev pub plain_entry : Word → Entry
-plain_entry w = record { name = w.name; number = 0 }
+-- a set has the names of these words
+abbrev pub Seen : List (List ℕ) → List Word → Type 0
+Seen names words = (name : List ℕ) → is_among names name ≡ list_any (λ (v : Word). bytes_eq v.name name) words
 
-one_more : (b : Bool) (n : ℕ) (o : Option ℕ) (rest : Bool) → is_some o ≡ rest → is_some (if b then Some n else o) ≡ (b || rest)
-one_more true n o rest e = refl
-one_more false n o rest e = e
+pub seen_none : (names : List (List ℕ)) → names ≡ [] → Seen names []
+seen_none names none name = ap (λ (ns : List (List ℕ)). is_among ns name) none
 
--- an index of words knows the names that the words have
-known_among : (w : Word) (ws : List Word) → is_some (number_of w.name (map plain_entry ws)) ≡ list_any (λ (v : Word). is_same v w) ws
-unfolding number_of
-known_among w [] = refl
-known_among w (v ∷ vs) =
-    one_more (bytes_eq v.name w.name) 0 (number_of w.name (map plain_entry vs)) (list_any (λ (u : Word). is_same u w) vs) (known_among w vs)
+-- and of one word more
+pub seen_more : (names more : List (List ℕ)) (words : List Word) (w : Word) → Seen names words → SameNames more (w.name ∷ names) → Seen more (words ++ w ∷ [])
+seen_more names more words w seen adds name =
+    adds name ∙ ap (λ (b : Bool). bytes_eq name w.name || b) (seen name)
+    ∙ ap (λ (b : Bool). b || list_any (λ (v : Word). bytes_eq v.name name) words) (same_either_way name w.name)
+    ∙ swaps (bytes_eq w.name name) (list_any (λ (v : Word). bytes_eq v.name name) words)
+    ∙ sym (list_any-append (λ (v : Word). bytes_eq v.name name) words (w ∷ []))
 
-map_map : {X : Type 0} (C : X → Word) (xs : List X) → map (λ (x : X). plain_entry (C x)) xs ≡ map plain_entry (map C xs)
-map_map C [] = refl
-map_map C (x ∷ xs) = ap (λ (es : List Entry). plain_entry (C x) ∷ es) (map_map C xs)
+twice : (a b : Bool) → a ≡ not b → not a ≡ b
+twice a true e = ap not e
+twice a false e = ap not e
+
+-- the words of the items up to a place, with the one there
+one_more : {X : Type 0} (C : X → Word) (xs : List X) (i : ℕ) (x : X) → i < length xs → x ≡ get_or xs i x → map C (take (i + 1) xs) ≡ map C (take i xs) ++ C x ∷ []
+one_more C xs i x lt is =
+    ap (map C) (take_more xs i x lt ∙ ap (λ (y : _). take i xs ++ y ∷ []) (sym is)) ∙ map-append C (take i xs) (x ∷ [])
 
 -- one item is looked at: whether an earlier one has its name, and what follows
-pub repeats_on : {X : Type 0} (C : X → Word) (file : File) (o o' whole : Option Fault) (xs : List X) (i : ℕ) (x : X) (w : Word) (before : List Entry)
+pub repeats_on : {X : Type 0} (C : X → Word) (file : File) (o o' whole : Option Fault) (xs : List X) (i : ℕ) (x : X) (w : Word) (names : List (List ℕ)) (is_new : Bool)
     → i < length xs → x ≡ get_or xs i x → w ≡ C x
-    → before ≡ map (λ (y : X). plain_entry (C y)) (take i xs)
-    → o' ≡ leftmost o (twice_if (is_some (number_of w.name before)) file w)
+    → Seen names (map C (take i xs)) → is_new ≡ not (is_among names w.name)
+    → o' ≡ leftmost o (twice_if (not is_new) file w)
     → leftmost o (repeated_faults file (map C (take i xs)) (map C (drop i xs))) ≡ whole
     → leftmost o' (repeated_faults file (map C (take (i + 1) xs)) (map C (drop (i + 1) xs))) ≡ whole
 unfolding repeated_faults repeat_faults
-repeats_on C file o o' whole xs i x w before lt is called holds found so_far =
+repeats_on C file o o' whole xs i x w names is_new lt is called seen told found so_far =
     let next : suc i ≡ i + 1 = omega arith in
     let earlier : List Word = map C (take i xs) in
     let later : List Word = map C (drop (suc i) xs) in
-    let known : is_some (number_of (C x).name before) ≡ list_any (λ (v : Word). is_same v (C x)) earlier =
-    ap (λ (es : List Entry). is_some (number_of (C x).name es)) (holds ∙ map_map C (take i xs)) ∙ known_among (C x) earlier in
+    let second : not is_new ≡ list_any (λ (v : Word). is_same v w) earlier = twice is_new (is_among names w.name) told ∙ seen w.name in
     let here : o' ≡ leftmost o (repeat_faults file earlier (C x)) =
-    found ∙ ap (λ (v : Word). leftmost o (twice_if (is_some (number_of v.name before)) file v)) called
-    ∙ ap (λ (b : Bool). leftmost o (twice_if b file (C x))) known in
-    let grown : map C (take (i + 1) xs) ≡ earlier ++ C x ∷ [] =
-    ap (map C) (take_more xs i x lt ∙ ap (λ (y : _). take i xs ++ y ∷ []) (sym is)) ∙ map-append C (take i xs) (x ∷ []) in
+    found ∙ ap (λ (b : Bool). leftmost o (twice_if b file w)) second
+    ∙ ap (λ (v : Word). leftmost o (twice_if (list_any (λ (u : Word). is_same u v) earlier) file v)) called in
     let split : leftmost o (repeated_faults file earlier (map C (drop i xs)))
     ≡ leftmost (leftmost o (repeat_faults file earlier (C x))) (repeated_faults file (earlier ++ C x ∷ []) later) =
     rw (drop-cons xs i x lt, ← is) (leftmost_append o (repeat_faults file earlier (C x)) (repeated_faults file (earlier ++ C x ∷ []) later)) in
     ap (λ (n : ℕ). leftmost o' (repeated_faults file (map C (take (i + 1) xs)) (map C (drop n xs)))) (sym next)
-    ∙ ap (λ (ws : List Word). leftmost o' (repeated_faults file ws later)) grown
+    ∙ ap (λ (ws : List Word). leftmost o' (repeated_faults file ws later)) (one_more C xs i x lt is)
     ∙ ap (λ (p : Option Fault). leftmost p (repeated_faults file (earlier ++ C x ∷ []) later)) here
     ∙ sym split ∙ so_far
+
+pub seen_on : {X : Type 0} (C : X → Word) (xs : List X) (i : ℕ) (x : X) (w : Word) (names more : List (List ℕ))
+    → i < length xs → x ≡ get_or xs i x → w ≡ C x → Seen names (map C (take i xs)) → SameNames more (w.name ∷ names) → Seen more (map C (take (i + 1) xs))
+seen_on C xs i x w names more lt is called seen adds =
+    subst (λ (ws : List Word). Seen more ws) (ap (λ (v : Word). map C (take i xs) ++ v ∷ []) called ∙ sym (one_more C xs i x lt is))
+    (seen_more names more (map C (take i xs)) w seen adds)
 
 and_false : (a b : Bool) → false ≡ b → false ≡ (a && b)
 and_false true b e = e
@@ -135,15 +145,3 @@ unfolding repeated_faults
 repeats_end C file o whole xs i le so_far =
     let all_read : drop i xs ≡ [] = drop_of_length-le xs le in
     sym (ap (λ (ys : List _). leftmost o (repeated_faults file (map C (take i xs)) (map C ys))) all_read) ∙ so_far
-
--- an index of the words so far, with one more
-pub index_grows : {X : Type 0} (C : X → Word) (xs : List X) (i : ℕ) (x : X) (w : Word) (before after : List Entry) (name : List ℕ)
-    → i < length xs → x ≡ get_or xs i x → w ≡ C x → before ≡ map (λ (y : X). plain_entry (C y)) (take i xs) → name ≡ w.name
-    → after ≡ before ++ record { name = name; number = 0 } ∷ []
-    → after ≡ map (λ (y : X). plain_entry (C y)) (take (i + 1) xs)
-index_grows {X} C xs i x w before after name lt is called holds same grown =
-    let entry : X → Entry = λ (y : X). plain_entry (C y) in
-    let one : map entry (take (i + 1) xs) ≡ map entry (take i xs) ++ entry x ∷ [] =
-    ap (map entry) (take_more xs i x lt ∙ ap (λ (y : _). take i xs ++ y ∷ []) (sym is)) ∙ map-append entry (take i xs) (x ∷ []) in
-    grown ∙ ap (λ (es : List Entry). es ++ record { name = name; number = 0 } ∷ []) holds
-    ∙ ap (λ (n : List ℕ). map entry (take i xs) ++ record { name = n; number = 0 } ∷ []) (same ∙ ap (λ (v : Word). v.name) called) ∙ sym one

@@ -8,11 +8,10 @@ use Rattle.mp_factor.specs.declared.typed_values.Typed.{Typed}
 use Rattle.mp_factor.specs.declared.schema_values.Schema.{Schema}
 use Rattle.mp_factor.specs.declared.init_values.Value.{Value}
 use Rattle.mp_factor.specs.FactorParts.{DomainParts, ProblemParts}
-use Rattle.mp_typing.specs.declared.declared.Declared.{Declared}
 use Rattle.mp_typing.specs.declared.fault.Fault.{Fault}
 use Rattle.mp_typing.specs.declared.fault.FaultKind.TheVariants.{WrongDomain}
 use Rattle.mp_typing.specs.Faults.{fault_at}
-use Rattle.mp_typing.specs.Lookups.{declared}
+use Rattle.mp_typing.specs.Lookups.{Declared, declared}
 use Rattle.mp_typing.specs.Uses.{atom_faults, function_faults, increase_faults}
 use Rattle.mp_typing.specs.Repeats.{repeated_faults, parameter_faults, object_faults}
 

@@ -3,8 +3,13 @@ use Rattle.std.specs.Prelude.{ℕ, List, [], ◌∷◌, ◌+◌, ◌++◌, lengt
 use Rattle.mp_factor.specs.declared.typed_values.Typed.{Typed}
 use Rattle.mp_factor.specs.declared.signature_values.Signature.{Signature}
 use Rattle.mp_factor.specs.FactorParts.{DomainParts, ProblemParts}
-use Rattle.mp_typing.specs.declared.index.Entry.{Entry}
-use Rattle.mp_typing.specs.declared.declared.Declared.{Declared}
+use Rattle.mp_typing.specs.Indexed.{Entry}
+
+-- the names that a factor declares: objects with their places, predicates and functions with their numbers of parameters
+pub record Declared : Type 0 where
+  pub objects : List Entry
+  pub predicates : List Entry
+  pub functions : List Entry
 
 -- a predicate or a function with the number of its parameters
 abbrev pub arity_entry : Signature → Entry

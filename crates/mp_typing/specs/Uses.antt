@@ -11,11 +11,11 @@ use Rattle.mp_factor.specs.declared.atom_values.Term.TheVariants.{Variable, Obje
 use Rattle.mp_factor.specs.declared.atom_values.Atom.{Atom}
 use Rattle.mp_factor.specs.declared.effect_values.Increase.{Increase}
 use Rattle.mp_factor.specs.declared.effect_values.Increase.TheVariants.{Number, Function}
-use Rattle.mp_typing.specs.declared.declared.Declared.{Declared}
 use Rattle.mp_typing.specs.declared.fault.Fault.{Fault}
 use Rattle.mp_typing.specs.declared.fault.FaultKind.TheVariants.{Unknown, Arity}
 use Rattle.mp_typing.specs.Faults.{fault_at}
 use Rattle.mp_typing.specs.Indexed.{number_of}
+use Rattle.mp_typing.specs.Lookups.{Declared}
 
 -- a variable is one of these parameters, an object is declared
 unfoldable pub is_declared : List Typed → Declared → Term → Bool

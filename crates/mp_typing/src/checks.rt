@@ -8,7 +8,7 @@ ghost use Rattle.mp_typing.specs.CheckFaults.{owner_faults, schema_faults as fau
 ghost use Rattle.mp_typing.specs.Refused.{RestsOn, refusal_of};
 
 use crate::checked::CheckedFactor;
-use crate::declared::{Declared, declarations};
+use crate::declared::Declared;
 use crate::fault::{Fault, FaultKind, with};
 use crate::parameters::parameters_fault;
 use crate::refusal::CheckRefusal;
@@ -82,7 +82,7 @@ fn declared_fault(
     let file = File::Domain;
     let constants = domain.constants.as_slice();
     let others = problem.objects.as_slice();
-    let objects = objects_fault(least, file, &declared.objects, constants, others, constants)?;
+    let objects = objects_fault(least, file, declared, constants, others, constants)?;
     let predicates = repeated_fault(alloc, objects, file, domain.predicates.as_slice())?;
     let functions = repeated_fault(alloc, predicates, file, domain.functions.as_slice())?;
     repeated_fault(alloc, functions, file, domain.schemas.as_slice())
@@ -129,7 +129,7 @@ fn problem_fault(
     let file = File::Problem;
     let constants = domain.constants.as_slice();
     let others = problem.objects.as_slice();
-    let objects = objects_fault(least, file, &declared.objects, constants, others, others)?;
+    let objects = objects_fault(least, file, declared, constants, others, others)?;
     let init = atoms_fault(objects, file, &[], declared, problem.init.as_slice())?;
     let values = values_fault(init, declared, problem.values.as_slice())?;
     atoms_fault(values, file, &[], declared, problem.goals.as_slice())
@@ -144,7 +144,7 @@ fn first_fault(
 ) -> Result<Option<Fault>, OutOfMemory>
     ensures { IfOk result (λ first. first ≡ leftmost None (check_faults domain.now problem.now)) }
 {
-    let declared = declarations(alloc, domain, problem)?;
+    let declared = Declared::new(alloc, domain, problem)?;
     let owner = owner_fault(None, &domain.word, &problem.domain)?;
     let names = declared_fault(alloc, owner, &declared, domain, problem)?;
     let schemas = schemas_fault(names, &declared, domain.schemas.as_slice())?;

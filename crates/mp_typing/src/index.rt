@@ -1,79 +1,54 @@
 //! Names that are looked up, each with a number.
 
-ghost use Rattle.std.specs.Prelude.{◌≡◌, ◌++◌, ◌∷◌, [], length, OnOk, OnErr};
-ghost use Rattle.mp_typing.specs.Indexed.{number_of};
+ghost use Rattle.std.specs.Prelude.{◌≡◌, ◌++◌, ◌∷◌, [], OnOk};
+ghost use Rattle.mp_typing.specs.Indexed.{number_of, SameNumbers};
 
 use mp_list::OutOfMemory;
 use mp_sexp::Name;
 use std::alloc::Global;
-use std::collections::BTreeMap;
+use std::collections::HashMap;
 use std::marker::Model;
 
-/// A name and a number that is kept with it.
+/// Borrowed names, each with a number. Contracts see it as a list of entries, in no order that is told.
 #[derive(Drop)]
-pub struct Entry {
-    pub name: Name,
-    pub number: usize,
+pub struct Index<'a> {
+    /// The number that was added first with each name.
+    first: HashMap<&'a [u8], usize>,
 }
 
-/// Names, each with a number. Contracts see it as the list of its entries, in the order in which they were added.
-#[derive(Drop)]
-pub struct Index {
-    entries: Vec<Entry>,
-    /// The number of the first entry of each name.
-    first: BTreeMap<Vec<u8>, usize>,
+impl<'a> Model for Index<'a> {
+    ghost use Rattle.std.specs.Prelude.{List, map};
+    ghost use Rattle.mp_typing.specs.Indexed.{Entry};
+
+    ghost Value = { List Entry };
+
+    ghost view = { λ i. map (λ e. record { name = e.0.now; number = e.1 }) i.first.entries };
 }
 
-impl Model for Index {
-    ghost use Rattle.std.specs.Prelude.{List as ListOf};
-    ghost use Rattle.mp_typing.specs.declared.index.Entry.{Entry};
-    ghost use Rattle.mp_typing.specs.Indexed.{IsIndexed};
-
-    ghost Value = { ListOf Entry };
-
-    ghost view = { λ i. i.entries.items };
-
-    ghost invariant = { λ i. IsIndexed i.first i.entries.items };
-}
-
-impl Index {
+impl<'a> Index<'a> {
     /// The empty index, which takes no memory yet.
-    pub fn new(alloc: Global) -> Index
+    pub fn new(alloc: Global) -> Index<'a>
         ensures { result ≡ [] }
     {
         Index {
-            entries: Vec::new(alloc),
-            first: BTreeMap::new(alloc),
+            first: HashMap::new(alloc),
         }
     }
 
-    /// Adds a name with its number. For want of memory the index stays as it was.
-    pub fn add(&mut self, name: Name, number: usize) -> Result<(), OutOfMemory>
-        ensures ok { OnOk result (self.new ≡ self.old ++ record { name = name; number = number } ∷ []) }
-        ensures err { OnErr result (self.new ≡ self.old) }
+    /// Adds a name with its number, behind those that were added before. Refuses only for want of memory.
+    pub fn add(&mut self, name: &'a Name, number: usize) -> Result<(), OutOfMemory>
+        ensures { OnOk result (SameNumbers self.new (self.old ++ record { name = name.now; number = number } ∷ [])) }
     {
-        let alloc = *self.entries.allocator();
-        let key = Vec::from_slice(alloc, name.as_slice())?;
-        let is_new = !self.first.contains_key(name.as_slice());
-        self.entries.push(Entry { name, number })?;
-        if is_new && self.first.insert(key, number).is_err() {
-            let _ = self.entries.pop();
-            return Err(OutOfMemory);
+        if !self.first.contains_key(name.as_slice()) {
+            self.first.insert(name.as_slice(), number)?;
         }
         Ok(())
     }
 
-    /// The number of entries.
-    pub fn len(&self) -> usize
-        ensures { result ≡ length self.now }
-    {
-        self.entries.len()
-    }
-
-    /// The number of the first entry that has this name: none exactly where no entry has it.
-    pub fn find(&self, name: &Name) -> Option<usize>
+    /// The number that was added first with this name: none exactly where the name was not added.
+    pub fn find(&self, name: &[u8]) -> Option<usize>
         ensures { result ≡ number_of name.now self.now }
     {
-        self.first.get(name.as_slice()).copied()
+        self.first.get(name).copied()
     }
 }

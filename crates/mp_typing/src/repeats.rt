@@ -11,8 +11,9 @@ ghost use Rattle.mp_typing.specs.Indexed.{number_of};
 ghost use Rattle.mp_typing.specs.Lookups.{counted_from};
 ghost use Rattle.mp_typing.specs.Repeats.{is_same as same_word, is_alike as alike, repeat_faults as faults_of_repeat, repeated_faults as faults_of_repeats, object_faults as faults_of_object, unlike_faults, twice_if};
 
+use crate::declared::Declared;
 use crate::fault::{Fault, FaultKind, with};
-use crate::index::Index;
+use crate::names::NameSet;
 use mp_factor::{File, Schema, Signature, Typed, Word};
 use mp_list::{Copied, OutOfMemory};
 use mp_sexp::Name;
@@ -51,17 +52,16 @@ impl Named for Schema {
     }
 }
 
-/// The first fault, with that of a word that has the name of one of these. Refuses only for want of memory.
-#[tactic(auto, unfolding(crate::specs::Repeats::repeat_faults))]
+/// The first fault, with that of a word, where it is a second declaration. Refuses only for want of memory.
 fn repeat_fault(
     least: Option<Fault>,
     file: File,
-    before: &Index,
+    is_second: bool,
     word: &Word,
 ) -> Result<Option<Fault>, OutOfMemory>
-    ensures { IfOk result (λ first. first ≡ leftmost least (twice_if (is_some (number_of word.now.name before.now)) file word.now)) }
+    ensures { IfOk result (λ first. first ≡ leftmost least (twice_if is_second file word.now)) }
 {
-    if before.find(&word.name).is_some() {
+    if is_second {
         with(least, FaultKind::Twice, file, word)
     } else {
         Ok(least)
@@ -77,12 +77,12 @@ pub fn repeated_fault<T: Named>(
 ) -> Result<Option<Fault>, OutOfMemory>
     ensures { IfOk result (λ first. first ≡ leftmost least (faults_of_repeats file [] (map T.called items.now))) }
 {
-    let mut before = Index::new(alloc);
+    let mut before = NameSet::new(alloc);
     let mut first = least;
     for item in items {
         let word = item.word();
-        first = repeat_fault(first, file, &before, word)?;
-        before.add(word.name.copy()?, 0)?;
+        let is_new = before.insert(&word.name)?;
+        first = repeat_fault(first, file, !is_new, word)?;
     }
     Ok(first)
 }
@@ -149,56 +149,56 @@ fn object_at<'a>(constants: &'a [Typed], objects: &'a [Typed], at: usize) -> Opt
     }
 }
 
-/// The first of all objects that has this name, where `index` has the place of each.
+/// The first of all objects that has this name, where `declared` has the place of each.
 fn first_called<'a>(
-    index: &Index,
+    declared: &Declared,
     constants: &'a [Typed],
     objects: &'a [Typed],
     name: &Name,
 ) -> Option<&'a Typed>
-    requires { index.now ≡ counted_from 0 (constants.now ++ objects.now) }
+    requires { declared.now.objects ≡ counted_from 0 (constants.now ++ objects.now) }
     ensures { option_copied result ≡ find_in (λ o. bytes_eq o.word.name name.now) (constants.now ++ objects.now) }
 {
-    match index.find(name) {
+    match declared.object(name) {
         Some(at) => object_at(constants, objects, at),
         None => None,
     }
 }
 
-/// The first fault, with that of an object that is unlike the first of all objects of its name, where `index` has the
-/// place of each. Refuses only for want of memory.
+/// The first fault, with that of an object that is unlike the first of all objects of its name, where `declared` has
+/// the place of each. Refuses only for want of memory.
 #[tactic(auto, unfolding(crate::specs::Repeats::object_faults))]
 fn object_fault(
     least: Option<Fault>,
     file: File,
-    index: &Index,
+    declared: &Declared,
     constants: &[Typed],
     objects: &[Typed],
     object: &Typed,
 ) -> Result<Option<Fault>, OutOfMemory>
-    requires { index.now ≡ counted_from 0 (constants.now ++ objects.now) }
+    requires { declared.now.objects ≡ counted_from 0 (constants.now ++ objects.now) }
     ensures { IfOk result (λ first. first ≡ leftmost least (faults_of_object file (constants.now ++ objects.now) object.now)) }
 {
-    let first = first_called(index, constants, objects, &object.word.name);
+    let first = first_called(declared, constants, objects, &object.word.name);
     unlike_fault(least, file, first, object)
 }
 
 /// The first fault, with those of the constants, or of the objects, that are unlike the first of all objects of their
-/// name, where `index` has the place of each. Refuses only for want of memory.
+/// name, where `declared` has the place of each. Refuses only for want of memory.
 pub fn objects_fault(
     least: Option<Fault>,
     file: File,
-    index: &Index,
+    declared: &Declared,
     constants: &[Typed],
     objects: &[Typed],
     listed: &[Typed],
 ) -> Result<Option<Fault>, OutOfMemory>
-    requires { index.now ≡ counted_from 0 (constants.now ++ objects.now) }
+    requires { declared.now.objects ≡ counted_from 0 (constants.now ++ objects.now) }
     ensures { IfOk result (λ first. first ≡ leftmost least (flat_map (faults_of_object file (constants.now ++ objects.now)) listed.now)) }
 {
     let mut first = least;
     for object in listed {
-        first = object_fault(first, file, index, constants, objects, object)?;
+        first = object_fault(first, file, declared, constants, objects, object)?;
     }
     Ok(first)
 }

@@ -28,7 +28,7 @@ fn is_declared(params: &[Typed], declared: &Declared, term: &Term) -> bool
 {
     match term {
         Term::Variable(word) => is_parameter(params, &word.name),
-        Term::Object(word) => declared.objects.find(&word.name).is_some(),
+        Term::Object(word) => declared.object(&word.name).is_some(),
     }
 }
 
@@ -104,7 +104,7 @@ fn atom_fault(
 ) -> Result<Option<Fault>, OutOfMemory>
     ensures { IfOk result (λ first. first ≡ leftmost least (faults_of_atom file params.now declared.now atom.now)) }
 {
-    let number = declared.predicates.find(&atom.word.name);
+    let number = declared.predicate(&atom.word.name);
     let applied = applied_fault(least, file, &atom.word, atom.terms.len(), number)?;
     terms_fault(applied, file, params, declared, atom.terms.as_slice())
 }
@@ -163,7 +163,7 @@ pub fn function_fault(
 ) -> Result<Option<Fault>, OutOfMemory>
     ensures { IfOk result (λ first. first ≡ leftmost least (faults_of_function file params.now declared.now function.now)) }
 {
-    let number = declared.functions.find(&function.word.name);
+    let number = declared.function(&function.word.name);
     let called = called_fault(least, file, &function.word, function.terms.len(), number)?;
     terms_fault(called, file, params, declared, function.terms.as_slice())
 }

@@ -1,7 +1,8 @@
-use Rattle.std.proofs.Common.{◌≡◌, ◌++◌, length, take}
+use Rattle.std.proofs.Common.{◌++◌, List, take}
+use Rattle.mp_typing.specs.Indexed.{Entry, SameNumbers}
 use Rattle.mp_typing.specs.Lookups.{counted_from}
 use Rattle.mp_typing.proofs.declared.count.Given as goal
 
-abbrev pub invariant-loop-object : goal.invariant-loop-object
-invariant-loop-object l =
-    l.index ≡ l.fn.index ++ counted_from (length l.fn.index) (take l.object-index l.objects)
+abbrev pub invariant-loop-i : goal.invariant-loop-i
+invariant-loop-i l =
+    (before : List Entry) → SameNumbers l.fn.index before → SameNumbers l.index (before ++ counted_from l.fn.first (take l.i l.objects))

@@ -1,0 +1,11 @@
+use Rattle.std.proofs.Common.{◌++◌, ◌∷◌, [], ℕ, subst}
+use Rattle.mp_typing.specs.Indexed.{SameNumbers}
+use Rattle.mp_typing.proofs.CountLemmas.{arities_on}
+use Rattle.mp_typing.proofs.declared.arities.Goals as goal
+
+pub loop-signature-preserved : goal.loop-signature-preserved
+loop-signature-preserved c =
+    let name = c.signature-item.result.word.name in
+    arities_on _ c.add.new.self c.args.signatures.now c.loop-signature.signature-index c.signature-item.result
+    c.loop-signature-test.true c.signature-item.is c.loop-signature.invariant
+    (subst (λ (n : ℕ). SameNumbers c.add.new.self (c.loop-signature.index ++ record { name = name; number = n } ∷ [])) c.len.ensures c.in_ok-add.ensures)
