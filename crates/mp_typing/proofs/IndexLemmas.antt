@@ -8,21 +8,28 @@ use Rattle.std.proofs.lemmas.Slice.Eq.{bytes_eq-Decides}
 use Rattle.mp_typing.specs.Indexed.{Entry, number_of, SameNumbers}
 use Rattle.mp_typing.proofs.NameSets.{same_either_way}
 
--- the entries that a map of borrowed names has
+-- the entries that a map has, where a key stands for a name
+abbrev pub entries_by : {K : Type 0} → (K → List ℕ) → List (K × ℕ) → List Entry
+entries_by {K} key es = map (λ (e : K × ℕ). record { name = key e.0; number = e.1 }) es
+
+-- of borrowed names
 abbrev pub entries_of : List (Bor (List ℕ) × ℕ) → List Entry
-entries_of es = map (λ (e : Bor (List ℕ) × ℕ). record { name = e.0.now; number = e.1 }) es
+entries_of es = entries_by (λ (k : Bor (List ℕ)). k.now) es
 
 cond_if : (a b : Bool) (n : ℕ) (x y : Option ℕ) → a ≡ b → x ≡ y → cond a (Some n) x ≡ (if b then Some n else y)
 cond_if a true n x y e f = ap (λ (t : Bool). cond t (Some n) x) e
 cond_if a false n x y e f = ap (λ (t : Bool). cond t (Some n) x) e ∙ f
 
 -- the map's number is that of the first entry
-pub looked_up : (name : List ℕ) (es : List (Bor (List ℕ) × ℕ)) → lookup (λ (k : Bor (List ℕ)). bytes_eq name k.now) es ≡ number_of name (entries_of es)
+pub looked_up_by : {K : Type 0} (key : K → List ℕ) (name : List ℕ) (es : List (K × ℕ)) → lookup (λ (k : K). bytes_eq name (key k)) es ≡ number_of name (entries_by key es)
 unfolding number_of
-looked_up name [] = refl
-looked_up name (e ∷ es) =
-    cond_if (bytes_eq name e.0.now) (bytes_eq e.0.now name) e.1 (lookup (λ (k : Bor (List ℕ)). bytes_eq name k.now) es) (number_of name (entries_of es))
-    (same_either_way name e.0.now) (looked_up name es)
+looked_up_by key name [] = refl
+looked_up_by {K} key name (e ∷ es) =
+    cond_if (bytes_eq name (key e.0)) (bytes_eq (key e.0) name) e.1 (lookup (λ (k : K). bytes_eq name (key k)) es) (number_of name (entries_by key es))
+    (same_either_way name (key e.0)) (looked_up_by key name es)
+
+pub looked_up : (name : List ℕ) (es : List (Bor (List ℕ) × ℕ)) → lookup (λ (k : Bor (List ℕ)). bytes_eq name k.now) es ≡ number_of name (entries_of es)
+looked_up name es = looked_up_by (λ (k : Bor (List ℕ)). k.now) name es
 
 abbrev or_else : Option ℕ → Option ℕ → Option ℕ
 or_else None other = other

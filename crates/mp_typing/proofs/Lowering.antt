@@ -1,15 +1,28 @@
--- Gathering the types that lie under some types: passes over the declarations.
-use Rattle.std.proofs.Common.{◌≡◌, ℕ, zero, suc, ◌+◌, ◌<◌, ◌≤◌, Bool, true, false, not, List, [], ◌∷◌, length, get_or, drop, refl, sym, subst, ◌∙◌, arith, inl, inr}
-use Rattle.std.specs.Prelude.{Contains, if◌then◌else◌}
-use Rattle.std.specs.Str.{bytes_eq}
+-- Names of types that lie under some types, while rounds along the declarations add them.
+use Rattle.std.proofs.Common.{◌≡◌, ℕ, zero, suc, ◌<◌, ◌≤◌, Bool, true, false, not, List, [], ◌∷◌, length, get_or, refl, arith, inl, inr}
+use Rattle.std.specs.Prelude.{if◌then◌else◌}
+use Rattle.std.specs.List.{list_all}
 use Rattle.std.proofs.lemmas.Bool.{cases_Bool}
-use Rattle.std.proofs.lemmas.List.{drop_more}
-use Rattle.std.proofs.lemmas.Slice.Eq.{bytes_eq-Decides}
 use Rattle.mp_factor.specs.declared.typed_values.Typed.{Typed}
-use Rattle.mp_typing.specs.Names.{is_among, has_any, SameNames}
-use Rattle.mp_typing.specs.IsA.{step}
-use Rattle.mp_typing.specs.Lower.{AreUnder, is_new, is_complete, Keeps, outside}
-use Rattle.mp_typing.proofs.Lists.{or_left, or_right, or_cases, and_left, and_right, not_true, some_name}
+use Rattle.mp_typing.specs.Names.{is_among}
+use Rattle.mp_typing.specs.Lower.{IsUnderOne, is_new}
+
+-- all of these names are of types under the tops
+abbrev pub AreUnder : List Typed → List (List ℕ) → List (List ℕ) → Type 0
+AreUnder declared tops names = (name : List ℕ) → is_among names name ≡ true → IsUnderOne declared tops name
+
+-- no declared type is to be added
+abbrev pub is_complete : List Typed → List (List ℕ) → Bool
+is_complete declared names = list_all (λ t. not (is_new names t)) declared
+
+-- each name of the first list is in the second
+abbrev pub Keeps : List (List ℕ) → List (List ℕ) → Type 0
+Keeps before after = (name : List ℕ) → is_among before name ≡ true → is_among after name ≡ true
+
+-- how many declarations are of other types
+unfoldable pub outside : List (List ℕ) → List Typed → ℕ
+outside names [] = zero
+outside names (t ∷ ts) = if is_among names t.word.name then outside names ts else suc (outside names ts)
 
 -- ---- how many are outside
 
@@ -67,67 +80,3 @@ outside_lt before after kept (t ∷ ts) (suc i) d lt was now =
             | inr out_now ↦ let two = outside_out after t ts out_now in omega arith
           ]
     ]
-
--- ---- a pass over the declarations
-
--- what holds when a pass that began with some names has come to a place of the declarations
-pub record Pass (declared : List Typed) (start now : List (List ℕ)) (grew : Bool) (place : ℕ) : Type 0 where
-  pub kept : Keeps start now
-  pub under : (tops : List (List ℕ)) → AreUnder declared tops start → AreUnder declared tops now
-  pub fewer : outside now declared + (if grew then 1 else 0) ≤ outside start declared
-  pub complete : grew ≡ false → is_complete declared now ≡ is_complete (drop place declared) now
-
--- the same after any number of passes
-pub record AllPasses (declared : List Typed) (start now : List (List ℕ)) (grew : Bool) : Type 0 where
-  pub kept : Keeps start now
-  pub under : (tops : List (List ℕ)) → AreUnder declared tops start → AreUnder declared tops now
-  pub complete : grew ≡ false → is_complete declared now ≡ true
-
--- the pass begins
-pub pass_begins : (declared : List Typed) (start : List (List ℕ)) → Pass declared start start false 0
-pass_begins declared start = record { kept = λ name h. h; under = λ tops h. h; fewer = omega arith; complete = λ _. refl }
-
--- names with one more, which a declaration puts under one of them
-under_more : (declared : List Typed) (now new : List (List ℕ)) (t : Typed) → Contains declared t → has_any now t.types ≡ true
-    → SameNames new (t.word.name ∷ now)
-    → (tops : List (List ℕ)) → AreUnder declared tops now → AreUnder declared tops new
-under_more declared now new t listed any adds tops so_far name h =
-    elim (or_cases (bytes_eq name t.word.name) (is_among now name) (sym (adds name) ∙ h)) [
-      | inl here ↦
-          let above = some_name now t.types any in
-          let of = so_far above.0 above.2 in
-          record {
-            top = of.top;
-            among = of.among;
-            under = step record { declaration = t; listed = listed; lower = sym ((bytes_eq-Decides name t.word.name).0 here); upper = above.1 } of.under;
-          }
-      | inr old ↦ so_far name old
-    ]
-
--- a type is added
-pub pass_adds : (declared : List Typed) (start now new : List (List ℕ)) (grew : Bool) (i : ℕ) (t : Typed)
-    → i < length declared → t ≡ get_or declared i t → is_new now t ≡ true
-    → SameNames new (t.word.name ∷ now)
-    → Pass declared start now grew i → Pass declared start new true (i + 1)
-pass_adds declared start now new grew i t lt is fresh adds so_far =
-    let kept : Keeps now new = λ name h. adds name ∙ or_right (bytes_eq name t.word.name) (is_among now name) h in
-    let absent : is_among now t.word.name ≡ false = not_true (is_among now t.word.name) (and_left (not (is_among now t.word.name)) (has_any now t.types) fresh) in
-    let any : has_any now t.types ≡ true = and_right (not (is_among now t.word.name)) (has_any now t.types) fresh in
-    let present : is_among new t.word.name ≡ true = adds t.word.name ∙ or_left (bytes_eq t.word.name t.word.name) (is_among now t.word.name) ((bytes_eq-Decides t.word.name t.word.name).1 refl) in
-    let less = outside_lt now new kept declared i t lt (subst (λ (u : Typed). is_among now u.word.name ≡ false) is absent) (subst (λ (u : Typed). is_among new u.word.name ≡ true) is present) in
-    record {
-      kept = λ name h. kept name (so_far.kept name h);
-      under = λ tops h. under_more declared now new t (i, lt, sym is) any adds tops (so_far.under tops h);
-      fewer = omega (arith, so_far.fewer);
-      complete = λ h. absurd (cc);
-    }
-
--- a type is left out
-pub pass_goes_on : (declared : List Typed) (start now new : List (List ℕ)) (grew : Bool) (i : ℕ) (t : Typed)
-    → i < length declared → t ≡ get_or declared i t → is_new now t ≡ false → new ≡ now
-    → Pass declared start now grew i → Pass declared start new grew (i + 1)
-pass_goes_on declared start now new grew i t lt is old unchanged so_far =
-    let rest : is_complete (drop i declared) now ≡ is_complete (drop (i + 1) declared) now =
-    rw (drop_more declared i t lt, ← is, old) refl in
-    subst (λ (names : List (List ℕ)). Pass declared start names grew (i + 1)) (sym unchanged)
-    record { kept = so_far.kept; under = so_far.under; fewer = so_far.fewer; complete = λ h. so_far.complete h ∙ rest }

@@ -1,5 +1,5 @@
 -- The places of the items that pass a test.
-use Rattle.std.proofs.Common.{◌≡◌, ℕ, zero, suc, ◌+◌, ◌<◌, ◌≤◌, Bool, true, false, List, [], ◌∷◌, ◌++◌, length, get_or, drop, map, Some, refl, sym, ap, subst, ◌∙◌, inl, inr, append_assoc, arith, zero-add, Bor}
+use Rattle.std.proofs.Common.{◌≡◌, ℕ, zero, suc, ◌+◌, ◌<◌, ◌≤◌, Bool, true, false, List, [], ◌∷◌, ◌++◌, length, get_or, drop, Some, refl, sym, ap, subst, ◌∙◌, inl, inr, append_assoc, arith, zero-add}
 use Rattle.std.specs.Prelude.{Contains, slice_get, slice_index}
 use Rattle.std.specs.Bool.{Decides}
 use Rattle.std.specs.List.Sorted.{IsStrictlyIncreasing}
@@ -8,56 +8,55 @@ use Rattle.std.proofs.lemmas.Bool.{cases_Bool}
 use Rattle.std.proofs.lemmas.List.{drop_more, append-nil}
 use Rattle.mp_factor.specs.declared.typed_values.Typed.{Typed}
 use Rattle.mp_typing.specs.Members.{IsOfType, Members}
-use Rattle.mp_typing.specs.Places.{places}
+use Rattle.mp_typing.specs.Places.{numbers_where}
 use Rattle.mp_typing.proofs.Lists.{contains_cases, contains_head, contains_tail, no_member}
 
 -- ---- one item after the other
 
-places_in : (test : Typed → Bool) (n : ℕ) (t : Typed) (ts : List Typed) → test t ≡ true → places n test (t ∷ ts) ≡ n ∷ places (suc n) test ts
-unfolding places
+places_in : {X : Type 0} (test : X → Bool) (n : ℕ) (t : X) (ts : List X) → test t ≡ true → numbers_where n test (t ∷ ts) ≡ n ∷ numbers_where (suc n) test ts
+unfolding numbers_where
 places_in test n t ts h = rw h refl
 
-places_out : (test : Typed → Bool) (n : ℕ) (t : Typed) (ts : List Typed) → test t ≡ false → places n test (t ∷ ts) ≡ places (suc n) test ts
-unfolding places
+places_out : {X : Type 0} (test : X → Bool) (n : ℕ) (t : X) (ts : List X) → test t ≡ false → numbers_where n test (t ∷ ts) ≡ numbers_where (suc n) test ts
+unfolding numbers_where
 places_out test n t ts h = rw h refl
 
-pub places_none : (test : Typed → Bool) (n : ℕ) → places n test [] ≡ []
-unfolding places
+pub places_none : {X : Type 0} (test : X → Bool) (n : ℕ) → numbers_where n test [] ≡ []
+unfolding numbers_where
 places_none test n = refl
 
 -- what is left at a place is the item there and what is left behind it
-left_there : (refs : List (Bor Typed)) (i : ℕ) (r : Bor Typed) → i < length refs → r ≡ get_or refs i r
-    → map (λ (o : Bor Typed). o.now) (drop i refs) ≡ r.now ∷ map (λ (o : Bor Typed). o.now) (drop (i + 1) refs)
-left_there refs i r lt is = rw (drop_more refs i r lt, ← is) refl
+left_there : {X : Type 0} (xs : List X) (i : ℕ) (x : X) → i < length xs → x ≡ get_or xs i x → drop i xs ≡ x ∷ drop (i + 1) xs
+left_there xs i x lt is = rw (drop_more xs i x lt, ← is) refl
 
-pub placed : (test : Typed → Bool) (numbers whole : List ℕ) (n i : ℕ) (refs : List (Bor Typed)) (r : Bor Typed)
-    → i < length refs → r ≡ get_or refs i r → test r.now ≡ true
-    → numbers ++ places n test (map (λ (o : Bor Typed). o.now) (drop i refs)) ≡ whole
-    → (numbers ++ n ∷ []) ++ places (n + 1) test (map (λ (o : Bor Typed). o.now) (drop (i + 1) refs)) ≡ whole
-placed test numbers whole n i refs r lt is passes so_far =
-    let rest = map (λ (o : Bor Typed). o.now) (drop (i + 1) refs) in
+pub placed : {X : Type 0} (test : X → Bool) (numbers whole : List ℕ) (n i : ℕ) (xs : List X) (x : X)
+    → i < length xs → x ≡ get_or xs i x → test x ≡ true
+    → numbers ++ numbers_where n test (drop i xs) ≡ whole
+    → (numbers ++ n ∷ []) ++ numbers_where (n + 1) test (drop (i + 1) xs) ≡ whole
+placed test numbers whole n i xs x lt is passes so_far =
+    let rest = drop (i + 1) xs in
     let next : suc n ≡ n + 1 = omega arith in
-    append_assoc numbers (n ∷ []) (places (n + 1) test rest)
-    ∙ ap (λ (m : ℕ). numbers ++ n ∷ places m test rest) (sym next)
-    ∙ ap (λ (ns : List ℕ). numbers ++ ns) (sym (ap (places n test) (left_there refs i r lt is) ∙ places_in test n r.now rest passes))
+    append_assoc numbers (n ∷ []) (numbers_where (n + 1) test rest)
+    ∙ ap (λ (m : ℕ). numbers ++ n ∷ numbers_where m test rest) (sym next)
+    ∙ ap (λ (ns : List ℕ). numbers ++ ns) (sym (ap (numbers_where n test) (left_there xs i x lt is) ∙ places_in test n x rest passes))
     ∙ so_far
 
-pub skipped : (test : Typed → Bool) (numbers whole : List ℕ) (n i : ℕ) (refs : List (Bor Typed)) (r : Bor Typed)
-    → i < length refs → r ≡ get_or refs i r → test r.now ≡ false
-    → numbers ++ places n test (map (λ (o : Bor Typed). o.now) (drop i refs)) ≡ whole
-    → numbers ++ places (n + 1) test (map (λ (o : Bor Typed). o.now) (drop (i + 1) refs)) ≡ whole
-skipped test numbers whole n i refs r lt is fails so_far =
-    let rest = map (λ (o : Bor Typed). o.now) (drop (i + 1) refs) in
+pub skipped : {X : Type 0} (test : X → Bool) (numbers whole : List ℕ) (n i : ℕ) (xs : List X) (x : X)
+    → i < length xs → x ≡ get_or xs i x → test x ≡ false
+    → numbers ++ numbers_where n test (drop i xs) ≡ whole
+    → numbers ++ numbers_where (n + 1) test (drop (i + 1) xs) ≡ whole
+skipped test numbers whole n i xs x lt is fails so_far =
+    let rest = drop (i + 1) xs in
     let next : suc n ≡ n + 1 = omega arith in
-    ap (λ (m : ℕ). numbers ++ places m test rest) (sym next)
-    ∙ ap (λ (ns : List ℕ). numbers ++ ns) (sym (ap (places n test) (left_there refs i r lt is) ∙ places_out test n r.now rest fails))
+    ap (λ (m : ℕ). numbers ++ numbers_where m test rest) (sym next)
+    ∙ ap (λ (ns : List ℕ). numbers ++ ns) (sym (ap (numbers_where n test) (left_there xs i x lt is) ∙ places_out test n x rest fails))
     ∙ so_far
 
-pub all_placed : (test : Typed → Bool) (numbers whole : List ℕ) (n i : ℕ) (refs : List (Bor Typed)) → length refs ≤ i
-    → numbers ++ places n test (map (λ (o : Bor Typed). o.now) (drop i refs)) ≡ whole → numbers ≡ whole
-all_placed test numbers whole n i refs end so_far =
-    let none : drop i refs ≡ [] = drop_of_length-le refs end in
-    sym (append-nil numbers) ∙ sym (ap (λ (ns : List ℕ). numbers ++ ns) (ap (λ (rs : List (Bor Typed)). places n test (map (λ (o : Bor Typed). o.now) rs)) none ∙ places_none test n)) ∙ so_far
+pub all_placed : {X : Type 0} (test : X → Bool) (numbers whole : List ℕ) (n i : ℕ) (xs : List X) → length xs ≤ i
+    → numbers ++ numbers_where n test (drop i xs) ≡ whole → numbers ≡ whole
+all_placed test numbers whole n i xs end so_far =
+    let none : drop i xs ≡ [] = drop_of_length-le xs end in
+    sym (append-nil numbers) ∙ sym (ap (λ (ns : List ℕ). numbers ++ ns) (ap (numbers_where n test) none ∙ places_none test n)) ∙ so_far
 
 -- ---- the places rise
 
@@ -65,13 +64,13 @@ in_rest : (n : ℕ) (ns : List ℕ) (k : ℕ) → k < length (n ∷ ns) → ((j 
 in_rest n ns zero lt rest = omega arith
 in_rest n ns (suc k) lt rest = rest k (omega arith)
 
-at_least : (test : Typed → Bool) (n : ℕ) (ts : List Typed) (k : ℕ) → k < length (places n test ts) → n ≤ slice_index (places n test ts) k
+at_least : (test : Typed → Bool) (n : ℕ) (ts : List Typed) (k : ℕ) → k < length (numbers_where n test ts) → n ≤ slice_index (numbers_where n test ts) k
 at_least test n [] k lt = absurd (let none = ap length (places_none test n) in omega arith)
 at_least test n (t ∷ ts) k lt =
     elim (cases_Bool (test t)) [
       | inl passes ↦
           let is = places_in test n t ts passes in
-          subst (λ (ns : List ℕ). n ≤ slice_index ns k) (sym is) (in_rest n (places (suc n) test ts) k (subst (λ (ns : List ℕ). k < length ns) is lt) (λ j h. let far = at_least test (suc n) ts j h in omega arith))
+          subst (λ (ns : List ℕ). n ≤ slice_index ns k) (sym is) (in_rest n (numbers_where (suc n) test ts) k (subst (λ (ns : List ℕ). k < length ns) is lt) (λ j h. let far = at_least test (suc n) ts j h in omega arith))
       | inr fails ↦
           let is = places_out test n t ts fails in
           subst (λ (ns : List ℕ). n ≤ slice_index ns k) (sym is) (let far = at_least test (suc n) ts k (subst (λ (ns : List ℕ). k < length ns) is lt) in omega arith)
@@ -83,24 +82,24 @@ rises n ns above rest (suc k) lt =
     let next : suc (k + 1) ≡ suc k + 1 = omega arith in
     subst (λ (j : ℕ). slice_index ns k < slice_index (n ∷ ns) j) next (rest k (omega arith))
 
-places_rise : (test : Typed → Bool) (n : ℕ) (ts : List Typed) → IsStrictlyIncreasing (places n test ts)
+places_rise : (test : Typed → Bool) (n : ℕ) (ts : List Typed) → IsStrictlyIncreasing (numbers_where n test ts)
 places_rise test n [] = λ k lt. absurd (let none = ap length (places_none test n) in omega arith)
 places_rise test n (t ∷ ts) =
     elim (cases_Bool (test t)) [
-      | inl passes ↦ subst IsStrictlyIncreasing (sym (places_in test n t ts passes)) (rises n (places (suc n) test ts) (at_least test (suc n) ts) (places_rise test (suc n) ts))
+      | inl passes ↦ subst IsStrictlyIncreasing (sym (places_in test n t ts passes)) (rises n (numbers_where (suc n) test ts) (at_least test (suc n) ts) (places_rise test (suc n) ts))
       | inr fails ↦ subst IsStrictlyIncreasing (sym (places_out test n t ts fails)) (places_rise test (suc n) ts)
     ]
 
 -- ---- which places there are
 
 -- a place is the place of an item that passes
-pub from_places : (test : Typed → Bool) (n : ℕ) (ts : List Typed) (m : ℕ) → Contains (places n test ts) m
+pub from_places : (test : Typed → Bool) (n : ℕ) (ts : List Typed) (m : ℕ) → Contains (numbers_where n test ts) m
     → (i : ℕ) × (t : Typed) × (m ≡ n + i) × (slice_get ts i ≡ Some t) × (test t ≡ true)
 from_places test n [] m found = absurd (let none = subst (λ (ns : List ℕ). Contains ns m) (places_none test n) found in no_member m none)
 from_places test n (t ∷ ts) m found =
     elim (cases_Bool (test t)) [
       | inl passes ↦
-          elim (contains_cases n (places (suc n) test ts) m (subst (λ (ns : List ℕ). Contains ns m) (places_in test n t ts passes) found)) [
+          elim (contains_cases n (numbers_where (suc n) test ts) m (subst (λ (ns : List ℕ). Contains ns m) (places_in test n t ts passes) found)) [
             | inl here ↦ (0, t, omega arith, refl, passes)
             | inr there ↦ let (i, u, is, at, ok) = from_places test (suc n) ts m there in (suc i, u, omega arith, at, ok)
           ]
@@ -110,25 +109,25 @@ from_places test n (t ∷ ts) m found =
     ]
 
 -- an item that passes has its place
-pub to_places : (test : Typed → Bool) (n : ℕ) (ts : List Typed) (i : ℕ) (t : Typed) → slice_get ts i ≡ Some t → test t ≡ true → Contains (places n test ts) (n + i)
+pub to_places : (test : Typed → Bool) (n : ℕ) (ts : List Typed) (i : ℕ) (t : Typed) → slice_get ts i ≡ Some t → test t ≡ true → Contains (numbers_where n test ts) (n + i)
 to_places test n [] i t at ok = absurd (cc)
 to_places test n (u ∷ us) zero t at ok =
     let is : u ≡ t = cc in
     let here : n ≡ n + 0 = omega arith in
-    subst (Contains (places n test (u ∷ us))) here
-    (subst (λ (ns : List ℕ). Contains ns n) (sym (places_in test n u us (ap test is ∙ ok))) (contains_head n (places (suc n) test us)))
+    subst (Contains (numbers_where n test (u ∷ us))) here
+    (subst (λ (ns : List ℕ). Contains ns n) (sym (places_in test n u us (ap test is ∙ ok))) (contains_head n (numbers_where (suc n) test us)))
 to_places test n (u ∷ us) (suc i) t at ok =
     let there = to_places test (suc n) us i t at ok in
     let next : suc n + i ≡ n + suc i = omega arith in
-    subst (Contains (places n test (u ∷ us))) next
+    subst (Contains (numbers_where n test (u ∷ us))) next
     (elim (cases_Bool (test u)) [
-      | inl passes ↦ subst (λ (ns : List ℕ). Contains ns (suc n + i)) (sym (places_in test n u us passes)) (contains_tail n (places (suc n) test us) (suc n + i) there)
+      | inl passes ↦ subst (λ (ns : List ℕ). Contains ns (suc n + i)) (sym (places_in test n u us passes)) (contains_tail n (numbers_where (suc n) test us) (suc n + i) there)
       | inr fails ↦ subst (λ (ns : List ℕ). Contains ns (suc n + i)) (sym (places_out test n u us fails)) there
     ])
 
 -- the places of the objects that are of a type, where the test tells which are
 pub are_members : (declared objects : List Typed) (asked : List (List ℕ)) (test : Typed → Bool) → ((t : Typed) → Decides (test t) (IsOfType declared asked t))
-    → Members declared objects asked (places 0 test objects)
+    → Members declared objects asked (numbers_where 0 test objects)
 are_members declared objects asked test decides =
     record {
       rising = places_rise test 0 objects;
@@ -137,6 +136,6 @@ are_members declared objects asked test decides =
             let (i, t, is, at, ok) = from_places test 0 objects number found in
             let same : i ≡ number = omega arith in
             record { object = t; at = subst (λ (j : ℕ). slice_get objects j ≡ Some t) same at; of_type = (decides t).0 ok }),
-        (λ m. subst (Contains (places 0 test objects)) (zero-add number) (to_places test 0 objects number m.object m.at ((decides m.object).1 m.of_type))),
+        (λ m. subst (Contains (numbers_where 0 test objects)) (zero-add number) (to_places test 0 objects number m.object m.at ((decides m.object).1 m.of_type))),
       );
     }

@@ -8,14 +8,14 @@ use Rattle.std.proofs.lemmas.List.{append-nil}
 use Rattle.std.proofs.lemmas.List.Folds.{list_any-append}
 use Rattle.mp_factor.specs.declared.typed_values.Typed.{Typed}
 use Rattle.mp_typing.specs.Names.{names_of, is_among, has_any}
-use Rattle.mp_typing.specs.IsA.{step}
-use Rattle.mp_typing.specs.Lower.{IsUnderOne, AreUnder, is_new, is_complete, Keeps, ReachesDown, outside}
+use Rattle.mp_typing.specs.IsA.{DeclaredUnder, step, same}
+use Rattle.mp_typing.specs.Lower.{IsUnderOne, is_new}
 use Rattle.mp_typing.specs.Members.{meant, IsOfType}
 use Rattle.mp_typing.specs.Under.{added, lower, lies_under, is_of_type}
-use Rattle.mp_typing.proofs.Lists.{or_left, or_right, or_cases, and_left, and_right, not_true, some_name, among_from_contains, contains_from_among, contains_head, contains_tail, contains_cases, no_member}
-use Rattle.mp_typing.proofs.Lowering.{outside_in, outside_out, outside_none, outside_lt}
+use Rattle.mp_typing.proofs.Lists.{or_left, or_right, or_cases, and_left, and_right, not_true, some_name, any_from_name, all_at, among_from_contains, contains_from_among, contains_head, contains_tail, contains_cases, no_member}
+use Rattle.mp_typing.proofs.Lowering.{AreUnder, is_complete, Keeps, outside, outside_in, outside_out, outside_none, outside_lt}
 use Rattle.mp_typing.proofs.Passing.{one_passes, any_from_one, one_passes_where_not_all_fail, none_taken, taken_passes, taken_from_passes}
-use Rattle.mp_typing.proofs.Reaching.{reaches_down, reaches, reached}
+use Rattle.mp_typing.proofs.Reaching.{Reaches, reaches, reached}
 
 -- ---- names of declarations
 
@@ -143,20 +143,36 @@ complete_after (suc rounds) declared names most =
 pub lower_complete : (declared : List Typed) (tops : List (List ℕ)) → is_complete declared (lower (length declared) declared tops) ≡ true
 lower_complete declared tops = complete_after (length declared) declared tops (outside_at_most tops declared)
 
+-- a type that is declared under one of the names is one of them
+closed : (declared : List Typed) (names : List (List ℕ)) → is_complete declared names ≡ true → (sub middle : List ℕ)
+    → DeclaredUnder declared sub middle → is_among names middle ≡ true → is_among names sub ≡ true
+closed declared names complete sub middle under h =
+    let t = under.declaration in
+    let any : has_any names t.types ≡ true = any_from_name names t.types middle under.upper h in
+    let old : not (is_new names t) ≡ true = all_at (λ (u : Typed). not (is_new names u)) declared t complete under.listed in
+    elim (cases_Bool (is_among names t.word.name)) [
+      | inl there ↦ sym (ap (is_among names) under.lower) ∙ there
+      | inr absent ↦ absurd (let fresh : is_new names t ≡ true = rw (absent, any) refl in let no : not true ≡ true = sym (ap not fresh) ∙ old in cc)
+    ]
+
 -- the rounds gather what the declarations lead to
-lower_reaches_down : (declared : List Typed) (tops : List (List ℕ)) → ReachesDown declared tops (lower (length declared) declared tops)
-lower_reaches_down declared tops =
-    reaches_down declared tops tops (lower (length declared) declared tops) (λ name. refl) (rounds_keep (length declared) declared tops)
-    (λ others h. rounds_under (length declared) declared others tops h) (lower_complete declared tops)
+lower_reaches : (declared : List Typed) (tops : List (List ℕ)) → Reaches declared tops (is_among (lower (length declared) declared tops))
+lower_reaches declared tops =
+    let names = lower (length declared) declared tops in
+    record {
+      has_tops = λ name among. rounds_keep (length declared) declared tops name (among_from_contains tops name among);
+      under = rounds_under (length declared) declared tops tops (λ name h. record { top = name; among = contains_from_among tops name h; under = same });
+      closed = closed declared names (lower_complete declared tops);
+    }
 
 -- ---- the tests
 
 pub lies_under_decides : (declared : List Typed) (tops : List (List ℕ)) (name : List ℕ) → Decides (lies_under declared tops name) (IsUnderOne declared tops name)
 lies_under_decides declared tops name =
-    let names = lower (length declared) declared tops in
-    let r = lower_reaches_down declared tops in (
-      (λ h. reached declared tops names r name h),
-      (λ of. reaches declared tops names r of.under (r.has_tops of.top (among_from_contains tops of.top of.among))),
+    let has = is_among (lower (length declared) declared tops) in
+    let r = lower_reaches declared tops in (
+      (λ h. reached declared tops has r name h),
+      (λ of. reaches declared tops has r of.under (r.has_tops of.top of.among)),
     )
 
 pub is_of_type_decides : (declared : List Typed) (asked : List (List ℕ)) (object : Typed) → Decides (is_of_type declared asked object) (IsOfType declared asked object)

@@ -1,6 +1,8 @@
 pub mod CheckFaults
 pub mod Faults
 pub mod FirstFault
+pub mod Graph
+pub mod Hierarchy
 pub mod Indexed
 pub mod IsA
 pub mod Listing
@@ -8,8 +10,10 @@ pub mod Lookups
 pub mod Lower
 pub mod Members
 pub mod Names
+pub mod Numbering
 pub mod ObjectList
 pub mod Places
+pub mod Reach
 pub mod Refused
 pub mod Repeats
 pub mod Under

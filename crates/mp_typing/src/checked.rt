@@ -3,12 +3,13 @@
 ghost use Rattle.std.specs.Bool.{Decides};
 ghost use Rattle.std.specs.Prelude.{◌≡◌, [], IfOk};
 ghost use Rattle.mp_typing.specs.CheckFaults.{check_faults};
+ghost use Rattle.mp_typing.specs.Hierarchy.{IsHierarchy};
 ghost use Rattle.mp_typing.specs.IsA.{IsA};
 ghost use Rattle.mp_typing.specs.Members.{Members};
 ghost use Rattle.mp_typing.specs.ObjectList.{object_list};
 
-use crate::membership::{ObjectList, members};
-use crate::types::{TypeList, is_a};
+use crate::hierarchy::{Hierarchy, ObjectList, TypeList};
+use crate::objects::object_list as objects_of;
 use mp_factor::{Domain, Factor, Problem};
 use mp_list::OutOfMemory;
 use mp_sexp::Name;
@@ -19,6 +20,8 @@ use std::marker::Model;
 #[derive(Drop)]
 pub struct CheckedFactor {
     factor: Factor,
+    /// The order of its types, and the types of its objects.
+    hierarchy: Hierarchy,
     alloc: Global,
 }
 
@@ -26,24 +29,47 @@ impl Model for CheckedFactor {
     ghost use Rattle.std.specs.Prelude.{◌≡◌, []};
     ghost use Rattle.mp_factor.specs.declared.factor.Factor.{Factor};
     ghost use Rattle.mp_typing.specs.CheckFaults.{check_faults};
+    ghost use Rattle.mp_typing.specs.Hierarchy.{IsHierarchy};
+    ghost use Rattle.mp_typing.specs.ObjectList.{object_list};
 
     ghost Value = { Factor };
 
     ghost view = { λ c. c.factor };
 
-    ghost invariant = { λ c. check_faults c.factor.domain c.factor.problem ≡ [] };
+    ghost invariant = { λ c. (check_faults c.factor.domain c.factor.problem ≡ [])
+        × IsHierarchy c.factor.domain.types (object_list c.factor.domain c.factor.problem)
+            c.hierarchy.graph.names c.hierarchy.graph.lower.items c.hierarchy.object c.hierarchy.kinds };
+}
+
+/// The order of a factor's types, and the types of its objects. Refuses only for want of memory.
+fn hierarchy_of(
+    alloc: Global,
+    domain: &Domain,
+    problem: &Problem,
+) -> Result<Hierarchy, OutOfMemory>
+    ensures { IfOk result (λ h. IsHierarchy domain.now.types (object_list domain.now problem.now)
+        h.graph.names h.graph.lower.items h.object h.kinds) }
+{
+    let objects = objects_of(alloc, domain, problem)?;
+    Hierarchy::new(alloc, &domain.types, &objects)
 }
 
 impl CheckedFactor {
-    /// The factor of two files with which nothing is wrong.
-    pub(crate) fn of(alloc: Global, domain: Domain, problem: Problem) -> CheckedFactor
+    /// The factor of two files with which nothing is wrong. Refuses only for want of memory.
+    pub(crate) fn of(
+        alloc: Global,
+        domain: Domain,
+        problem: Problem,
+    ) -> Result<CheckedFactor, OutOfMemory>
         requires { check_faults domain problem ≡ [] }
-        ensures { result ≡ record { domain = domain; problem = problem } }
+        ensures { IfOk result (λ checked. checked ≡ record { domain = domain; problem = problem }) }
     {
-        CheckedFactor {
+        let hierarchy = hierarchy_of(alloc, &domain, &problem)?;
+        Ok(CheckedFactor {
             factor: Factor { domain, problem },
+            hierarchy,
             alloc,
-        }
+        })
     }
 
     /// The factor, with which nothing is wrong.
@@ -55,18 +81,24 @@ impl CheckedFactor {
     }
 
     /// Whether a type is another or lies under it: every type is an `object`. Refuses only for want of memory.
+    ///
+    /// The declarations were worked out by `check`. A call looks at each type that is the asked one or lies under it,
+    /// and at each declaration of one of these types, once.
     pub fn is_a(&self, sub: &Name, sup: &Name) -> Result<bool, OutOfMemory>
         ensures { IfOk result (λ answer. Decides answer (IsA self.now.domain.types sub.now sup.now)) }
     {
-        is_a(self.alloc, &self.factor.domain.types, sub, sup)
+        self.hierarchy.is_a(self.alloc, sub, sup)
     }
 
     /// The numbers of the objects that are of one of the asked types, in rising order; `object` is meant where no type
     /// is asked. An object's number is its place in object order, counted from 0: constants first, then objects, each
     /// in file order, and one that is listed again counts once. Refuses only for want of memory.
+    ///
+    /// The declarations and the object order were worked out by `check`. A call looks once at each type that is asked
+    /// for or lies under an asked one, at each declaration of one of these types, and at each type of each object.
     pub fn members(&self, asked: &TypeList) -> Result<ObjectList, OutOfMemory>
         ensures { IfOk result (λ numbers. Members self.now.domain.types (object_list self.now.domain self.now.problem) asked.now numbers) }
     {
-        members(self.alloc, &self.factor.domain, &self.factor.problem, asked)
+        self.hierarchy.members(self.alloc, asked)
     }
 }

@@ -174,7 +174,7 @@ pub fn check(alloc: Global, domain: Domain, problem: Problem) -> Result<CheckedF
     ensures refused { IfErr result (λ refusal. RestsOn (check_faults domain problem) refusal) }
 {
     match first_fault(alloc, &domain, &problem)? {
-        None => Ok(CheckedFactor::of(alloc, domain, problem)),
+        None => Ok(CheckedFactor::of(alloc, domain, problem)?),
         Some(fault) => Err(refusal(fault)),
     }
 }

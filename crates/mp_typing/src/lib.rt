@@ -5,26 +5,27 @@ mod checked;
 mod checks;
 mod declared;
 mod fault;
+mod graph;
+mod hierarchy;
 mod index;
 mod laws;
-mod membership;
 mod names;
+mod numbering;
 mod objects;
 mod parameters;
+mod reach;
 mod refusal;
 mod repeats;
 mod test_laws;
-mod types;
 mod uses;
 
 pub use checked::CheckedFactor;
 pub use checks::check;
 pub use fault::{Fault, FaultKind};
 pub use laws::{first_fault_is_one, type_order_is_least, types_are_ordered};
-pub use membership::ObjectList;
+pub use hierarchy::{ObjectList, TypeList};
 pub use refusal::{CheckRefusal, Found};
 pub use test_laws::type_test_decides;
-pub use types::TypeList;
 
 #[cfg(test)]
 mod tests;

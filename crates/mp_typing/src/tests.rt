@@ -1,9 +1,7 @@
 //! Types and members by hand, from the typing of PDDL.
 
 use super::*;
-use crate::membership::members;
 use crate::objects::object_list;
-use crate::types::is_a;
 use mp_factor::{Domain, Problem, Typed, TypedList, Word, WordList};
 use mp_list::{Copied, List, OutOfMemory};
 use mp_sexp::{Name, Place};

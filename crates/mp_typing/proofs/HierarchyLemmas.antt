@@ -1,0 +1,166 @@
+-- What marked numbers say of which types lie under others, and of which objects are of a type.
+use Rattle.std.proofs.Common.{◌≡◌, ℕ, Bool, true, false, ◌||◌, ◌==◌, List, [], ◌∷◌, map, length, Option, Some, None, refl, sym, ap, subst, ◌∙◌, inl, inr}
+use Rattle.std.specs.Prelude.{Contains, suc, if◌then◌else◌}
+use Rattle.std.specs.Bool.{Decides}
+use Rattle.std.specs.List.{list_any, flat_map}
+use Rattle.std.specs.Str.{bytes_eq}
+use Rattle.std.proofs.lemmas.Bool.{cases_Bool, false_from_ne_true}
+use Rattle.std.proofs.lemmas.Slice.Eq.{bytes_eq-Decides}
+use Rattle.mp_factor.specs.declared.word.Word.{Word}
+use Rattle.mp_factor.specs.declared.typed_values.Typed.{Typed}
+use Rattle.mp_typing.specs.Names.{is_among}
+use Rattle.mp_typing.specs.Indexed.{Entry, number_of}
+use Rattle.mp_typing.specs.IsA.{DeclaredUnder, IsA, same, step, object_name}
+use Rattle.mp_typing.specs.Lower.{IsUnderOne}
+use Rattle.mp_typing.specs.Graph.{under, pairs_of, numbers_of, IsGraph}
+use Rattle.mp_typing.specs.Hierarchy.{IsOrder, IsHierarchy}
+use Rattle.mp_typing.specs.Members.{IsOfType, Members}
+use Rattle.mp_typing.specs.Places.{numbers_where}
+use Rattle.mp_typing.specs.Reach.{is_marked, has_mark, IsReached, top, down}
+use Rattle.mp_typing.proofs.Lists.{or_left, or_right, or_cases, among_from_contains, contains_from_among, contains_head, contains_one}
+use Rattle.mp_typing.proofs.GraphLemmas.{from_pairs, to_pairs}
+use Rattle.mp_typing.proofs.Placing.{are_members}
+use Rattle.mp_typing.proofs.Reaching.{Reaches, reaches, reached}
+use Rattle.mp_typing.proofs.Typing.{is_reached, has_any, decides_type}
+
+-- the marks are of the numbers that are reached
+abbrev pub AreMarks : List Entry → List (List ℕ) → List (List ℕ) → List Bool → Type 0
+AreMarks names lower asked marks = (n : ℕ) → Decides (is_marked marks n) (IsReached names lower asked n)
+
+-- a type is asked, or its number is marked
+abbrev pub is_in : List Entry → List (List ℕ) → List Bool → List ℕ → Bool
+is_in names asked marks name = is_among asked name || has_mark marks (number_of name names)
+
+-- a number that is reached is that of a type under an asked one
+reached_under : (declared : List Typed) (names : List Entry) (lower asked : List (List ℕ)) → IsGraph (flat_map pairs_of declared) names lower
+    → {n : ℕ} → IsReached names lower asked n → (name : List ℕ) → number_of name names ≡ Some n → IsUnderOne declared asked name
+reached_under declared names lower asked g (top {name = t} {n = n} found is) name named =
+    record { top = t; among = found; under = subst (λ (k : List ℕ). IsA declared name k) (g.numbering.own name t n named is) same }
+reached_under declared names lower asked g (down {up = up} {low = low} above found) name named =
+    let p = g.sound low up found in
+    let of = reached_under declared names lower asked g above p.sup p.upper in
+    let is : p.sub ≡ name = g.numbering.own p.sub name low p.lower named in
+    record {
+      top = of.top;
+      among = of.among;
+      under = subst (λ (k : List ℕ). IsA declared k of.top) is (step (from_pairs declared p.sub p.sup p.listed) of.under);
+    }
+
+mark_under : (declared : List Typed) (names : List Entry) (lower asked : List (List ℕ)) (marks : List Bool) (name : List ℕ) (o : Option ℕ)
+    → IsGraph (flat_map pairs_of declared) names lower → AreMarks names lower asked marks → number_of name names ≡ o → has_mark marks o ≡ true
+    → IsUnderOne declared asked name
+mark_under declared names lower asked marks name None g exact is h = absurd (cc)
+mark_under declared names lower asked marks name (Some n) g exact is h = reached_under declared names lower asked g ((exact n).0 h) name is
+
+-- a type with a number is in the set exactly where its number is marked
+pub in_by_mark : (names : List Entry) (lower asked : List (List ℕ)) (marks : List Bool) (name : List ℕ) (n : ℕ) → AreMarks names lower asked marks
+    → number_of name names ≡ Some n → is_in names asked marks name ≡ is_marked marks n
+in_by_mark names lower asked marks name n exact is =
+    elim (cases_Bool (is_among asked name)) [
+      | inl there ↦
+          ap (λ (b : Bool). b || has_mark marks (number_of name names)) there ∙ sym ((exact n).1 (top (contains_from_among asked name there) is))
+      | inr absent ↦
+          ap (λ (b : Bool). b || has_mark marks (number_of name names)) absent ∙ ap (has_mark marks) is
+    ]
+
+-- the set has what the declarations lead to
+pub marks_reach : (declared : List Typed) (names : List Entry) (lower asked : List (List ℕ)) (marks : List Bool)
+    → IsGraph (flat_map pairs_of declared) names lower → AreMarks names lower asked marks → Reaches declared asked (is_in names asked marks)
+marks_reach declared names lower asked marks g exact =
+    record {
+      has_tops = λ name found. or_left (is_among asked name) (has_mark marks (number_of name names)) (among_from_contains asked name found);
+      under = λ name h. elim (or_cases (is_among asked name) (has_mark marks (number_of name names)) h) [
+        | inl there ↦ record { top = name; among = contains_from_among asked name there; under = same }
+        | inr marked ↦ mark_under declared names lower asked marks name (number_of name names) g exact refl marked
+      ];
+      closed = λ sub middle d h.
+          let u = g.complete sub middle (to_pairs declared sub middle d) in
+          let above : is_marked marks u.up ≡ true = sym (in_by_mark names lower asked marks middle u.up exact u.upper_is) ∙ h in
+          let here : is_marked marks u.low ≡ true = (exact u.low).1 (down ((exact u.up).0 above) u.listed) in
+          in_by_mark names lower asked marks sub u.low exact u.lower_is ∙ here;
+    }
+
+-- ---- one type against another
+
+pub same_is : (declared : List Typed) (sub sup : List ℕ) → sub ≡ sup → Decides true (IsA declared sub sup)
+same_is declared sub sup is = ((λ _. subst (λ (k : List ℕ). IsA declared sub k) is same), (λ _. refl))
+
+swapped : (a b c : Bool) → a ≡ false → (((a || b) || c) ≡ (b || c))
+swapped true b c e = cc
+swapped false b c e = refl
+
+pub decides : (declared : List Typed) (names : List Entry) (lower : List (List ℕ)) (object : ℕ) (marks : List Bool) (sub sup : List ℕ) (answer : Bool)
+    → IsOrder declared names lower object → AreMarks names lower (sup ∷ []) marks → (sub ≡ sup → ⊥)
+    → answer ≡ (has_mark marks (number_of sub names) || is_marked marks object) → Decides answer (IsA declared sub sup)
+decides declared names lower object marks sub sup answer order exact other is =
+    let has = is_in names (sup ∷ []) marks in
+    let r = marks_reach declared names lower (sup ∷ []) marks order.graph exact in
+    let not_asked : is_among (sup ∷ []) sub ≡ true → ⊥ = λ h. other (contains_one sup sub (contains_from_among (sup ∷ []) sub h)) in
+    let whole : answer ≡ (has sub || has object_name) =
+    is ∙ ap (λ (b : Bool). has_mark marks (number_of sub names) || b) (sym (in_by_mark names lower (sup ∷ []) marks object_name object exact order.object_is))
+    ∙ sym (swapped (is_among (sup ∷ []) sub) (has_mark marks (number_of sub names)) (has object_name) (false_from_ne_true (is_among (sup ∷ []) sub) not_asked)) in (
+      (λ h.
+          let of = reached declared (sup ∷ []) has r sub (sym whole ∙ h) in
+          subst (λ (k : List ℕ). IsA declared sub k) (contains_one sup of.top of.among) of.under),
+      (λ h. whole ∙ reaches declared (sup ∷ []) has r h (r.has_tops sup (contains_head sup []))),
+    )
+
+-- ---- objects
+
+-- the numbers of an object's types are marked where the types are in the set
+any_mark : (names : List Entry) (lower asked : List (List ℕ)) (marks : List Bool) (words : List Word) (row : List ℕ) → AreMarks names lower asked marks
+    → numbers_of names words ≡ map Some row → list_any (is_marked marks) row ≡ has_any (is_in names asked marks) words
+any_mark names lower asked marks [] [] exact is = refl
+any_mark names lower asked marks [] (n ∷ ns) exact is = absurd (cc)
+any_mark names lower asked marks (w ∷ ws) [] exact is = absurd (cc)
+any_mark names lower asked marks (w ∷ ws) (n ∷ ns) exact is =
+    let first : number_of w.name names ≡ Some n = cc in
+    let others : numbers_of names ws ≡ map Some ns = cc in
+    ap (λ (b : Bool). b || list_any (is_marked marks) ns) (sym (in_by_mark names lower asked marks w.name n exact first))
+    ∙ ap (λ (b : Bool). is_in names asked marks w.name || b) (any_mark names lower asked marks ws ns exact others)
+
+or_moves : (a b c : Bool) → ((a || b) || c) ≡ (a || (b || c))
+or_moves true b c = refl
+or_moves false b c = refl
+
+-- the test of a row of numbers
+abbrev pub row_test : List (List ℕ) → List Bool → ℕ → List ℕ → Bool
+row_test asked marks object row = (length asked == 0 || is_marked marks object) || list_any (is_marked marks) row
+
+same_test : (declared : List Typed) (names : List Entry) (lower : List (List ℕ)) (object : ℕ) (asked : List (List ℕ)) (marks : List Bool) (t : Typed) (row : List ℕ)
+    → IsOrder declared names lower object → AreMarks names lower asked marks → numbers_of names t.types ≡ map Some row
+    → row_test asked marks object row ≡ is_reached (is_in names asked marks) asked t
+same_test declared names lower object asked marks t row order exact is =
+    or_moves (length asked == 0) (is_marked marks object) (list_any (is_marked marks) row)
+    ∙ ap (λ (b : Bool). length asked == 0 || (b || list_any (is_marked marks) row)) (sym (in_by_mark names lower asked marks object_name object exact order.object_is))
+    ∙ ap (λ (b : Bool). length asked == 0 || (is_in names asked marks object_name || b)) (any_mark names lower asked marks t.types row exact is)
+
+same_place : (n : ℕ) (a b : Bool) (xs ys : List ℕ) → a ≡ b → xs ≡ ys → (if a then n ∷ xs else xs) ≡ (if b then n ∷ ys else ys)
+same_place n a true xs ys e f = ap (λ (t : Bool). if t then n ∷ xs else xs) e ∙ ap (λ (ns : List ℕ). n ∷ ns) f
+same_place n a false xs ys e f = ap (λ (t : Bool). if t then n ∷ xs else xs) e ∙ f
+
+same_places : (declared : List Typed) (names : List Entry) (lower : List (List ℕ)) (object : ℕ) (asked : List (List ℕ)) (marks : List Bool) (place : ℕ)
+    (ts : List Typed) (rows : List (List ℕ))
+    → IsOrder declared names lower object → AreMarks names lower asked marks → map (λ (t : Typed). numbers_of names t.types) ts ≡ map (map Some) rows
+    → numbers_where place (row_test asked marks object) rows ≡ numbers_where place (is_reached (is_in names asked marks) asked) ts
+unfolding numbers_where
+same_places declared names lower object asked marks place [] [] order exact is = refl
+same_places declared names lower object asked marks place [] (row ∷ rows) order exact is = absurd (cc)
+same_places declared names lower object asked marks place (t ∷ ts) [] order exact is = absurd (cc)
+same_places declared names lower object asked marks place (t ∷ ts) (row ∷ rows) order exact is =
+    let first : numbers_of names t.types ≡ map Some row = cc in
+    let others : map (λ (u : Typed). numbers_of names u.types) ts ≡ map (map Some) rows = cc in
+    same_place place (row_test asked marks object row) (is_reached (is_in names asked marks) asked t)
+    (numbers_where (suc place) (row_test asked marks object) rows) (numbers_where (suc place) (is_reached (is_in names asked marks) asked) ts)
+    (same_test declared names lower object asked marks t row order exact first)
+    (same_places declared names lower object asked marks (suc place) ts rows order exact others)
+
+pub are_all_members : (declared objects : List Typed) (names : List Entry) (lower : List (List ℕ)) (object : ℕ) (kinds : List (List ℕ)) (asked : List (List ℕ)) (marks : List Bool) (numbers : List ℕ)
+    → IsHierarchy declared objects names lower object kinds → AreMarks names lower asked marks
+    → numbers ≡ numbers_where 0 (row_test asked marks object) kinds → Members declared objects asked numbers
+are_all_members declared objects names lower object kinds asked marks numbers h exact is =
+    let has = is_in names asked marks in
+    let r = marks_reach declared names lower asked marks h.order.graph exact in
+    subst (λ (ns : List ℕ). Members declared objects asked ns)
+    (sym (is ∙ same_places declared names lower object asked marks 0 objects kinds h.order exact h.kinds_are))
+    (are_members declared objects asked (is_reached has asked) (decides_type declared asked has r))

@@ -1,0 +1,11 @@
+use Rattle.std.proofs.Common.{◌≡◌, ◌++◌, ℕ, List, length, take}
+use Rattle.std.specs.List.{flat_map}
+use Rattle.mp_typing.specs.Graph.{IsGraph, pairs_of}
+use Rattle.mp_typing.proofs.graph.TypeGraph.add_types.Given as goal
+
+abbrev pub invariant-loop-declared : goal.invariant-loop-declared
+invariant-loop-declared l = record {
+  sized : length l.self.lower.items ≡ length l.self.names;
+  graph : (pairs : List (List ℕ × List ℕ)) → IsGraph pairs l.fn.self.names l.fn.self.lower.items
+      → IsGraph (pairs ++ flat_map pairs_of (take l.declared-index l.types)) l.self.names l.self.lower.items;
+}
