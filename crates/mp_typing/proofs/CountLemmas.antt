@@ -50,7 +50,7 @@ counts_on index after before n xs i x lt is alike added =
     grows index after (before ++ counted_from n (take i xs)) (before ++ counted_from n (take (i + 1) xs)) (entry_at x (n + i)) alike added
     (ap (λ (ys : List Typed). before ++ counted_from n ys) (take_more xs i x lt ∙ ap (λ (y : Typed). take i xs ++ y ∷ []) (sym is))
     ∙ ap (λ (es : List Entry). before ++ es)
-      (counted_append n (take i xs) (x ∷ []) ∙ ap (λ (es : List Entry). counted_from n (take i xs) ++ es) (one_counted (n + length (take i xs)) x ∙ ap (λ (k : ℕ). entry_at x (n + k) ∷ []) long))
+    (counted_append n (take i xs) (x ∷ []) ∙ ap (λ (es : List Entry). counted_from n (take i xs) ++ es) (one_counted (n + length (take i xs)) x ∙ ap (λ (k : ℕ). entry_at x (n + k) ∷ []) long))
     ∙ sym (append_assoc before (counted_from n (take i xs)) (entry_at x (n + i) ∷ [])))
 
 -- one list of objects is counted, and then another

@@ -1,116 +1,99 @@
--- The earliest of some faults is one of them, and none of them comes before it.
-use Rattle.std.proofs.Common.{◌≡◌, ℕ, suc, zero, Bool, true, false, List, [], ◌∷◌, ◌++◌, Ordering, Option, Some, None, refl, sym, ap, ◌∙◌, subst, arith, inl, inr}
-use Rattle.std.specs.Prelude.{◌⊎◌, Contains, MatchOption, if◌then◌else◌}
+-- Faults are in a strict and total order, so that the earliest of some is their first.
+use Rattle.std.proofs.Common.{◌≡◌, ℕ, zero, suc, List, [], ◌∷◌, ◌++◌, length, Ordering, Less, Equal, Greater, Option, Some, None, refl, sym, ap, ◌∙◌, arith}
 use Rattle.std.specs.Ordering.{is_lt, nat_cmp, ordering_then}
 use Rattle.std.specs.Cmp.Lexicographic.{slice_cmp}
+use Rattle.mp_list.specs.First.{IsStrictOrder, IsTotal}
+use Rattle.mp_list.proofs.Orders.{is_less, strict_on, total_on, numbers_strict, numbers_total}
+use Rattle.mp_list.proofs.FirstLemmas as firsts
+use Rattle.mp_list.proofs.OneFirst.{first_is_one}
+use Rattle.mp_factor.specs.declared.files.File.{File}
+use Rattle.mp_factor.specs.declared.files.File.TheVariants.{Domain, Problem}
 use Rattle.mp_typing.specs.declared.fault.Fault.{Fault}
-use Rattle.mp_typing.specs.Faults.{is_earlier, earlier, leftmost, order_by, order_of}
+use Rattle.mp_typing.specs.declared.fault.FaultKind.{FaultKind}
+use Rattle.mp_typing.specs.declared.fault.FaultKind.TheVariants.{WrongDomain, Unknown, Arity, Twice}
+use Rattle.mp_typing.specs.Faults.{is_earlier, leftmost, rank_of, file_rank_of, order_by, order_of}
 use Rattle.mp_typing.specs.FirstFault.{IsFirst}
-use Rattle.mp_typing.proofs.OrderLemmas as order
 
--- orders compared tell which fault is earlier, and the names where they are the same
-pub before_by : (o r : Ordering) (xs ys : List ℕ) (a b : Fault) → xs ≡ order_by a.kind a.found.file a.found.at → ys ≡ order_by b.kind b.found.file b.found.at
-    → r ≡ slice_cmp nat_cmp xs ys → r ≡ o → is_earlier a b ≡ is_lt (ordering_then o (slice_cmp nat_cmp a.found.name b.found.name))
+-- ---- the order
+
+kind_of : ℕ → FaultKind
+kind_of zero = WrongDomain
+kind_of (suc zero) = Unknown
+kind_of (suc (suc zero)) = Arity
+kind_of (suc (suc (suc n))) = Twice
+
+kind_of-rank : (k : FaultKind) → kind_of (rank_of k) ≡ k
+unfolding kind_of
+kind_of-rank WrongDomain = refl
+kind_of-rank Unknown = refl
+kind_of-rank Arity = refl
+kind_of-rank Twice = refl
+
+file_of : ℕ → File
+file_of zero = Domain
+file_of (suc n) = Problem
+
+file_of-rank : (f : File) → file_of (file_rank_of f) ≡ f
+unfolding file_of
+file_of-rank Domain = refl
+file_of-rank Problem = refl
+
+-- the fault that is compared by these numbers
+abbrev fault_by : List ℕ → Fault → Fault
+fault_by (stage ∷ file ∷ line ∷ column ∷ rank ∷ name) other =
+    record { kind = kind_of rank; found = record { file = file_of file; at = record { line = line; column = column }; name = name } }
+fault_by _ other = other
+
+of_order : (a b : Fault) → fault_by (order_of a) b ≡ a
+of_order a b =
+    ap (λ (k : FaultKind). record { kind = k; found = record { file = file_of (file_rank_of a.found.file); at = a.found.at; name = a.found.name } }) (kind_of-rank a.kind)
+    ∙ ap (λ (f : File). record { kind = a.kind; found = record { file = f; at = a.found.at; name = a.found.name } }) (file_of-rank a.found.file)
+
+apart : (a b : Fault) → order_of a ≡ order_of b → a ≡ b
+apart a b e = sym (of_order a a) ∙ ap (λ (ns : List ℕ). fault_by ns a) e ∙ of_order b a
+
+strict : IsStrictOrder is_earlier
 unfolding is_earlier
-before_by o r xs ys a b is_a is_b compared is =
-    let fronts : slice_cmp nat_cmp (order_by a.kind a.found.file a.found.at) (order_by b.kind b.found.file b.found.at) ≡ o =
-    ap (λ (zs : List ℕ). slice_cmp nat_cmp zs (order_by b.kind b.found.file b.found.at)) (sym is_a) ∙ ap (λ (zs : List ℕ). slice_cmp nat_cmp xs zs) (sym is_b) ∙ sym compared ∙ is in
-    ap is_lt (order.by_fronts (order_by a.kind a.found.file a.found.at) (order_by b.kind b.found.file b.found.at) a.found.name b.found.name refl)
-    ∙ ap (λ (p : Ordering). is_lt (ordering_then p (slice_cmp nat_cmp a.found.name b.found.name))) fronts
+strict = strict_on order_of (is_less (slice_cmp nat_cmp)) numbers_strict
 
-passes : (a b c : Fault) → is_earlier a b ≡ false → is_earlier b c ≡ false → is_earlier a c ≡ false
+total : IsTotal is_earlier
 unfolding is_earlier
-passes a b c p q = order.passes (order_of a) (order_of b) (order_of c) p q
+total = total_on order_of (is_less (slice_cmp nat_cmp)) numbers_total apart
 
-turns : (a b : Fault) → is_earlier a b ≡ true → is_earlier b a ≡ false
-unfolding is_earlier
-turns a b p = order.turns (order_of a) (order_of b) p
+-- ---- the first fault
 
-not_before_itself : (a : Fault) → is_earlier a a ≡ false
-unfolding is_earlier
-not_before_itself a = order.itself (order_of a)
-
-here : (x : Fault) (xs : List Fault) → Contains (x ∷ xs) x
-here x xs = (0, omega arith, refl)
-
-there : (x y : Fault) (xs : List Fault) → Contains xs y → Contains (x ∷ xs) y
-there x y xs (k, lt, is) = (suc k, omega (arith, lt), is)
-
-cases : (x y : Fault) (xs : List Fault) → Contains (x ∷ xs) y → (x ≡ y) ⊎ Contains xs y
-cases x y xs (zero, lt, is) = inl is
-cases x y xs (suc k, lt, is) = inr (k, omega (arith, lt), is)
-
-none_among : (y : Fault) → Contains [] y → ⊥
-none_among y (k, lt, is) = absurd (omega (arith, lt))
-
-same_some : (a b : Fault) → Some a ≡ Some b → a ≡ b
-same_some a b e = cc
-
-abbrev IsLeast : Fault → List Fault → Fault → Type 0
-IsLeast known faults f = Contains (known ∷ faults) f × ((g : Fault) → Contains (known ∷ faults) g → is_earlier g f ≡ false)
-
--- the known fault is replaced by the next one, or kept
-swapped : (known x f : Fault) (xs : List Fault) → is_earlier x known ≡ true → IsLeast x xs f → IsLeast known (x ∷ xs) f
-swapped known x f xs before (in_rest, least) = (
-  there known f (x ∷ xs) in_rest,
-  λ (g : Fault) (among : Contains (known ∷ x ∷ xs) g).
-      elim (cases known g (x ∷ xs) among) [
-        | inl is ↦ subst (λ (k : Fault). is_earlier k f ≡ false) is (passes known x f (turns x known before) (least x (here x xs)))
-        | inr rest ↦ least g rest
-      ],
-)
-
-kept : (known x f : Fault) (xs : List Fault) → is_earlier x known ≡ false → IsLeast known xs f → IsLeast known (x ∷ xs) f
-kept known x f xs behind (in_rest, least) = (
-  elim (cases known f xs in_rest) [
-    | inl is ↦ subst (λ (k : Fault). Contains (known ∷ x ∷ xs) k) is (here known (x ∷ xs))
-    | inr rest ↦ there known f (x ∷ xs) (there x f xs rest)
-  ],
-  λ (g : Fault) (among : Contains (known ∷ x ∷ xs) g).
-      elim (cases known g (x ∷ xs) among) [
-        | inl is ↦ least g (subst (λ (k : Fault). Contains (known ∷ xs) k) is (here known xs))
-        | inr rest ↦ elim (cases x g xs rest) [
-          | inl is ↦ subst (λ (k : Fault). is_earlier k f ≡ false) is (passes x known f behind (least known (here known xs)))
-          | inr others ↦ least g (there known g xs others)
-        ]
-      ],
-)
-
-least_of : (known f x : Fault) (xs : List Fault) (b : Bool) → ((k : Fault) → leftmost (Some k) xs ≡ Some f → IsLeast k xs f)
-    → is_earlier x known ≡ b → leftmost (Some (if b then x else known)) xs ≡ Some f → IsLeast known (x ∷ xs) f
-least_of known f x xs true shorter before e = swapped known x f xs before (shorter x e)
-least_of known f x xs false shorter behind e = kept known x f xs behind (shorter known e)
-
-least_from : (known f : Fault) (xs : List Fault) → leftmost (Some known) xs ≡ Some f → IsLeast known xs f
-least_from known f [] e = (
-  subst (λ (k : Fault). Contains (known ∷ []) k) (same_some known f e) (here known []),
-  λ (g : Fault) (among : Contains (known ∷ []) g).
-      elim (cases known g [] among) [
-        | inl is ↦ subst (λ (k : Fault). is_earlier k f ≡ false) is (subst (λ (k : Fault). is_earlier known k ≡ false) (same_some known f e) (not_before_itself known))
-        | inr rest ↦ absurd (none_among g rest)
-      ],
-)
-least_from known f (x ∷ xs) e =
-    least_of known f x xs (is_earlier x known) (λ (k : Fault) (h : leftmost (Some k) xs ≡ Some f). least_from k f xs h) refl e
-
-some_known : (known : Fault) (xs : List Fault) → leftmost (Some known) xs ≡ None → ⊥
-some_known known [] e = cc
-some_known known (x ∷ xs) e = some_known (earlier (Some known) x) xs e
+pub one_first : (faults : List Fault) (a b : Fault) → IsFirst faults a → IsFirst faults b → a ≡ b
+one_first = first_is_one is_earlier total
 
 pub nothing_found : (faults : List Fault) → leftmost None faults ≡ None → faults ≡ []
-nothing_found [] e = refl
-nothing_found (x ∷ xs) e = absurd (some_known x xs e)
+nothing_found faults e = firsts.nothing_found is_earlier faults e
 
 pub found_first : (faults : List Fault) (f : Fault) → leftmost None faults ≡ Some f → IsFirst faults f
-found_first [] f e = absurd (let impossible : ⊥ = cc in impossible)
-found_first (x ∷ xs) f e = let least = least_from x f xs e in record { among = least.0; least = least.1 }
+found_first faults f e = firsts.found_first is_earlier strict faults f e
 
--- what is found, said of all faults
-pub found : (faults : List Fault) (answer : Option Fault) → answer ≡ leftmost None faults → MatchOption answer (faults ≡ []) (λ (f : Fault). IsFirst faults f)
-found faults None e = nothing_found faults (sym e)
-found faults (Some f) e = found_first faults f (sym e)
-
--- what is found in one part, and then in the other
 pub leftmost_append : (o : Option Fault) (xs ys : List Fault) → leftmost o (xs ++ ys) ≡ leftmost (leftmost o xs) ys
-leftmost_append o [] ys = refl
-leftmost_append o (x ∷ xs) ys = leftmost_append (Some (earlier o x)) xs ys
+leftmost_append o xs ys = firsts.leftmost_append is_earlier o xs ys
+
+-- ---- two faults compared
+
+then_then : (a b c : Ordering) → ordering_then (ordering_then a b) c ≡ ordering_then a (ordering_then b c)
+then_then Less b c = refl
+then_then Equal b c = refl
+then_then Greater b c = refl
+
+-- lists with fronts of one length compare by the fronts first
+by_fronts : (xs ys p q : List ℕ) → length xs ≡ length ys
+    → slice_cmp nat_cmp (xs ++ p) (ys ++ q) ≡ ordering_then (slice_cmp nat_cmp xs ys) (slice_cmp nat_cmp p q)
+by_fronts [] [] p q e = refl
+by_fronts [] (y ∷ ys) p q e = absurd (omega (arith, e))
+by_fronts (x ∷ xs) [] p q e = absurd (omega (arith, e))
+by_fronts (x ∷ xs) (y ∷ ys) p q e =
+    let shorter : length xs ≡ length ys = omega (arith, e) in
+    ap (ordering_then (nat_cmp x y)) (by_fronts xs ys p q shorter) ∙ sym (then_then (nat_cmp x y) (slice_cmp nat_cmp xs ys) (slice_cmp nat_cmp p q))
+
+-- the numbers are compared, and then the names
+pub earlier_by : (a b : Fault) → is_earlier a b
+    ≡ is_lt (ordering_then (slice_cmp nat_cmp (order_by a.kind a.found.file a.found.at) (order_by b.kind b.found.file b.found.at)) (slice_cmp nat_cmp a.found.name b.found.name))
+unfolding is_earlier
+earlier_by a b =
+    ap is_lt (by_fronts (order_by a.kind a.found.file a.found.at) (order_by b.kind b.found.file b.found.at) a.found.name b.found.name refl)

@@ -1,5 +1,5 @@
 -- Types that are put into a graph.
-use Rattle.std.proofs.Common.{◌≡◌, ℕ, zero, suc, ◌+◌, ◌<◌, ◌≤◌, true, false, eqb, List, [], ◌∷◌, ◌++◌, map, length, get_or, take, set, Option, Some, None, Bor, refl, sym, ap, subst, ◌∙◌, arith, inl, inr}
+use Rattle.std.proofs.Common.{◌≡◌, ℕ, zero, suc, ◌+◌, ◌<◌, ◌≤◌, true, false, eqb, List, [], ◌∷◌, ◌++◌, map, length, get_or, take, set, Option, Some, Bor, refl, sym, ap, subst, ◌∙◌, arith, inl, inr}
 use Rattle.std.specs.Prelude.{Contains}
 use Rattle.std.specs.List.{flat_map}
 use Rattle.std.proofs.lemmas.Bool.{cases_Bool}
@@ -13,8 +13,8 @@ use Rattle.mp_typing.specs.Indexed.{Entry, number_of}
 use Rattle.mp_typing.specs.IsA.{DeclaredUnder}
 use Rattle.mp_typing.specs.Names.{names_of}
 use Rattle.mp_typing.specs.Numbering.{IsNumbering, KeepsNumbers}
-use Rattle.mp_typing.specs.Graph.{under, pairs_of, numbers_of, IsPair, IsUnder, IsBounded, IsGraph}
-use Rattle.mp_typing.proofs.Lists.{contains_head, contains_tail, contains_cases, no_member}
+use Rattle.mp_typing.specs.Graph.{under, pairs_of, numbers_of, IsPair, IsBounded, IsGraph}
+use Rattle.mp_list.proofs.Members.{contains_head, contains_tail, contains_cases, no_member}
 use Rattle.mp_typing.proofs.NumberingLemmas.{no_names}
 
 -- ---- rows
@@ -93,8 +93,8 @@ graph_adds pairs names lower rows sub sup low up low_is up_is changed g =
     λ u ne. ap (λ (rs : List (List ℕ)). under rs u) changed ∙ row_kept lower up u (under lower up ++ low ∷ []) ne in
     let old_pair : (l u : ℕ) → Contains (under lower u) l → IsPair (pairs ++ (sub, sup) ∷ []) names l u =
     λ l u found.
-        let p = g.sound l u found in
-        record { sub = p.sub; sup = p.sup; lower = p.lower; upper = p.upper; listed = Contains-append_left pairs ((sub, sup) ∷ []) (p.sub, p.sup) p.listed } in
+    let p = g.sound l u found in
+    record { sub = p.sub; sup = p.sup; lower = p.lower; upper = p.upper; listed = Contains-append_left pairs ((sub, sup) ∷ []) (p.sub, p.sup) p.listed } in
     record {
       numbering = g.numbering;
       sized = ap length changed ∙ length-set lower up (under lower up ++ low ∷ []) ∙ g.sized;
@@ -232,15 +232,15 @@ pub pairs_more : (pairs : List (List ℕ × List ℕ)) (name : List ℕ) (ws : L
 pairs_more pairs name ws i w lt is =
     append_assoc pairs (map (pair_with name) (take i ws)) (pair_with name w ∷ [])
     ∙ ap (λ (ps : List (List ℕ × List ℕ)). pairs ++ ps)
-      (sym (ap (map (pair_with name)) (take_more ws i w lt ∙ ap (λ (v : Word). take i ws ++ v ∷ []) (sym is)) ∙ map-append (pair_with name) (take i ws) (w ∷ [])))
+    (sym (ap (map (pair_with name)) (take_more ws i w lt ∙ ap (λ (v : Word). take i ws ++ v ∷ []) (sym is)) ∙ map-append (pair_with name) (take i ws) (w ∷ [])))
 
 pub declared_more : (pairs : List (List ℕ × List ℕ)) (ts : List Typed) (i : ℕ) (t : Typed) → i < length ts → t ≡ get_or ts i t
     → (pairs ++ flat_map pairs_of (take i ts)) ++ pairs_of t ≡ pairs ++ flat_map pairs_of (take (i + 1) ts)
 declared_more pairs ts i t lt is =
     append_assoc pairs (flat_map pairs_of (take i ts)) (pairs_of t)
     ∙ ap (λ (ps : List (List ℕ × List ℕ)). pairs ++ ps)
-      (sym (ap (flat_map pairs_of) (take_more ts i t lt ∙ ap (λ (u : Typed). take i ts ++ u ∷ []) (sym is))
-      ∙ flat_map-append pairs_of (take i ts) (t ∷ []) ∙ ap (λ (ps : List (List ℕ × List ℕ)). flat_map pairs_of (take i ts) ++ ps) (append-nil (pairs_of t))))
+    (sym (ap (flat_map pairs_of) (take_more ts i t lt ∙ ap (λ (u : Typed). take i ts ++ u ∷ []) (sym is))
+    ∙ flat_map-append pairs_of (take i ts) (t ∷ []) ∙ ap (λ (ps : List (List ℕ × List ℕ)). flat_map pairs_of (take i ts) ++ ps) (append-nil (pairs_of t))))
 
 pub numbers_more : (before after : List Entry) (ws : List Word) (i : ℕ) (w : Word) (numbers more : List ℕ) (n : ℕ) → i < length ws → w ≡ get_or ws i w
     → KeepsNumbers before after → numbers_of before (take i ws) ≡ map Some numbers → number_of w.name after ≡ Some n → more ≡ numbers ++ n ∷ []

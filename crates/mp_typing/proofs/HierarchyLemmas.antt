@@ -1,23 +1,23 @@
 -- What marked numbers say of which types lie under others, and of which objects are of a type.
 use Rattle.std.proofs.Common.{◌≡◌, ℕ, Bool, true, false, ◌||◌, ◌==◌, List, [], ◌∷◌, map, length, Option, Some, None, refl, sym, ap, subst, ◌∙◌, inl, inr}
-use Rattle.std.specs.Prelude.{Contains, suc, if◌then◌else◌}
+use Rattle.std.specs.Prelude.{suc, if◌then◌else◌}
 use Rattle.std.specs.Bool.{Decides}
 use Rattle.std.specs.List.{list_any, flat_map}
-use Rattle.std.specs.Str.{bytes_eq}
-use Rattle.std.proofs.lemmas.Bool.{cases_Bool, false_from_ne_true}
-use Rattle.std.proofs.lemmas.Slice.Eq.{bytes_eq-Decides}
+use Rattle.std.proofs.lemmas.Bool.{cases_Bool, false_from_ne_true, or_cases, or_left}
 use Rattle.mp_factor.specs.declared.word.Word.{Word}
 use Rattle.mp_factor.specs.declared.typed_values.Typed.{Typed}
 use Rattle.mp_typing.specs.Names.{is_among}
 use Rattle.mp_typing.specs.Indexed.{Entry, number_of}
-use Rattle.mp_typing.specs.IsA.{DeclaredUnder, IsA, same, step, object_name}
+use Rattle.mp_typing.specs.IsA.{IsA, same, step, object_name}
 use Rattle.mp_typing.specs.Lower.{IsUnderOne}
-use Rattle.mp_typing.specs.Graph.{under, pairs_of, numbers_of, IsGraph}
+use Rattle.mp_typing.specs.Graph.{pairs_of, numbers_of, IsGraph}
 use Rattle.mp_typing.specs.Hierarchy.{IsOrder, IsHierarchy}
-use Rattle.mp_typing.specs.Members.{IsOfType, Members}
+use Rattle.mp_typing.specs.Members.{Members}
 use Rattle.mp_typing.specs.Places.{numbers_where}
 use Rattle.mp_typing.specs.Reach.{is_marked, has_mark, IsReached, top, down}
-use Rattle.mp_typing.proofs.Lists.{or_left, or_right, or_cases, among_from_contains, contains_from_among, contains_head, contains_one}
+use Rattle.mp_list.proofs.Bools.{or_all}
+use Rattle.mp_list.proofs.Members.{contains_head, contains_one}
+use Rattle.mp_typing.proofs.Lists.{among_from_contains, contains_from_among}
 use Rattle.mp_typing.proofs.GraphLemmas.{from_pairs, to_pairs}
 use Rattle.mp_typing.proofs.Placing.{are_members}
 use Rattle.mp_typing.proofs.Reaching.{Reaches, reaches, reached}
@@ -119,10 +119,6 @@ any_mark names lower asked marks (w ∷ ws) (n ∷ ns) exact is =
     ap (λ (b : Bool). b || list_any (is_marked marks) ns) (sym (in_by_mark names lower asked marks w.name n exact first))
     ∙ ap (λ (b : Bool). is_in names asked marks w.name || b) (any_mark names lower asked marks ws ns exact others)
 
-or_moves : (a b c : Bool) → ((a || b) || c) ≡ (a || (b || c))
-or_moves true b c = refl
-or_moves false b c = refl
-
 -- the test of a row of numbers
 abbrev pub row_test : List (List ℕ) → List Bool → ℕ → List ℕ → Bool
 row_test asked marks object row = (length asked == 0 || is_marked marks object) || list_any (is_marked marks) row
@@ -131,7 +127,7 @@ same_test : (declared : List Typed) (names : List Entry) (lower : List (List ℕ
     → IsOrder declared names lower object → AreMarks names lower asked marks → numbers_of names t.types ≡ map Some row
     → row_test asked marks object row ≡ is_reached (is_in names asked marks) asked t
 same_test declared names lower object asked marks t row order exact is =
-    or_moves (length asked == 0) (is_marked marks object) (list_any (is_marked marks) row)
+    or_all (length asked == 0) (is_marked marks object) (list_any (is_marked marks) row)
     ∙ ap (λ (b : Bool). length asked == 0 || (b || list_any (is_marked marks) row)) (sym (in_by_mark names lower asked marks object_name object exact order.object_is))
     ∙ ap (λ (b : Bool). length asked == 0 || (is_in names asked marks object_name || b)) (any_mark names lower asked marks t.types row exact is)
 

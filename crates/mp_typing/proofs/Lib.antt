@@ -9,8 +9,6 @@ pub mod Lists
 pub mod Lowering
 pub mod NameSets
 pub mod NumberingLemmas
-pub mod OneFirst
-pub mod OrderLemmas
 pub mod Ordering
 pub mod ParameterLemmas
 pub mod Passing
@@ -18,6 +16,5 @@ pub mod Placing
 pub mod ReachLemmas
 pub mod Reaching
 pub mod RepeatLemmas
-pub mod Steps
 pub mod Typing
 pub mod UnderLemmas

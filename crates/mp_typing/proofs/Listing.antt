@@ -1,7 +1,7 @@
 -- The first declaration of each name, one declaration after the other.
 use Rattle.std.proofs.Common.{◌≡◌, ℕ, ◌+◌, ◌<◌, true, false, ◌||◌, not, List, [], ◌∷◌, ◌++◌, length, get_or, take, refl, sym, ap, subst, ◌∙◌, inl, inr, append_assoc}
 use Rattle.std.specs.Str.{bytes_eq}
-use Rattle.std.proofs.lemmas.Bool.{cases_Bool}
+use Rattle.std.proofs.lemmas.Bool.{cases_Bool, or_cases}
 use Rattle.std.proofs.lemmas.List.{take_more, append-nil}
 use Rattle.std.proofs.lemmas.List.Folds.{list_any-append}
 use Rattle.std.proofs.lemmas.List.Elements.{filter-append}
@@ -9,7 +9,7 @@ use Rattle.mp_factor.specs.declared.typed_values.Typed.{Typed}
 use Rattle.mp_typing.specs.Names.{is_among, SameNames}
 use Rattle.mp_typing.specs.ObjectList.{others, first_declared}
 use Rattle.mp_typing.specs.Listing.{is_declared, IsListing}
-use Rattle.mp_typing.proofs.Lists.{or_cases, swaps}
+use Rattle.mp_typing.proofs.Lists.{swaps}
 
 -- nothing is declared
 pub listing_begins : IsListing [] [] []

@@ -1,27 +1,9 @@
 -- Items of a list that pass a test, or of which none does.
 use Rattle.std.proofs.Common.{◌≡◌, cond, Bool, true, false, ◌&&◌, not, List, [], ◌∷◌, refl, sym, ap, subst, ◌∙◌, inl, inr}
 use Rattle.std.specs.Prelude.{Contains, filter}
-use Rattle.std.specs.List.{list_any, list_all}
-use Rattle.std.proofs.lemmas.Bool.{cases_Bool}
-use Rattle.mp_typing.proofs.Lists.{or_left, or_right, or_cases, and_left, and_right, not_true, contains_head, contains_tail, contains_cases, no_member}
-
--- where some item passes, one does
-pub one_passes : {X : Type 0} (test : X → Bool) (xs : List X) → list_any test xs ≡ true → (x : X) × Contains xs x × (test x ≡ true)
-one_passes test [] h = absurd (cc)
-one_passes test (x ∷ xs) h =
-    elim (or_cases (test x) (list_any test xs) h) [
-      | inl here ↦ (x, contains_head x xs, here)
-      | inr there ↦ let found = one_passes test xs there in (found.0, contains_tail x xs found.0 found.1, found.2)
-    ]
-
--- and the way back
-pub any_from_one : {X : Type 0} (test : X → Bool) (xs : List X) (x : X) → Contains xs x → test x ≡ true → list_any test xs ≡ true
-any_from_one test [] x found h = absurd (no_member x found)
-any_from_one test (y ∷ ys) x found h =
-    elim (contains_cases y ys x found) [
-      | inl here ↦ or_left (test y) (list_any test ys) (ap test here ∙ h)
-      | inr there ↦ or_right (test y) (list_any test ys) (any_from_one test ys x there h)
-    ]
+use Rattle.std.specs.List.{list_all}
+use Rattle.std.proofs.lemmas.Bool.{cases_Bool, and_parts, not-true}
+use Rattle.mp_list.proofs.Members.{contains_head, contains_tail, contains_cases, no_member}
 
 -- where not all items fail a test, one passes it
 pub one_passes_where_not_all_fail : {X : Type 0} (test : X → Bool) (xs : List X) → list_all (λ x. not (test x)) xs ≡ false
@@ -40,8 +22,8 @@ one_passes_where_not_all_fail test (x ∷ xs) h =
 pub none_taken : {X : Type 0} (test : X → Bool) (xs : List X) → list_all (λ x. not (test x)) xs ≡ true → filter test xs ≡ []
 none_taken test [] h = refl
 none_taken test (x ∷ xs) h =
-    let fails = not_true (test x) (and_left (not (test x)) (list_all (λ y. not (test y)) xs) h) in
-    let rest = none_taken test xs (and_right (not (test x)) (list_all (λ y. not (test y)) xs) h) in
+    let fails = not-true (test x) (and_parts (not (test x)) (list_all (λ y. not (test y)) xs) h).0 in
+    let rest = none_taken test xs (and_parts (not (test x)) (list_all (λ y. not (test y)) xs) h).1 in
     ap (λ b. cond b (x ∷ filter test xs) (filter test xs)) fails ∙ rest
 
 -- an item that a test takes is in the list and passes

@@ -9,7 +9,7 @@ use Rattle.std.proofs.lemmas.List.{drop_more, append-nil}
 use Rattle.mp_factor.specs.declared.typed_values.Typed.{Typed}
 use Rattle.mp_typing.specs.Members.{IsOfType, Members}
 use Rattle.mp_typing.specs.Places.{numbers_where}
-use Rattle.mp_typing.proofs.Lists.{contains_cases, contains_head, contains_tail, no_member}
+use Rattle.mp_list.proofs.Members.{contains_cases, contains_head, contains_tail, no_member}
 
 -- ---- one item after the other
 

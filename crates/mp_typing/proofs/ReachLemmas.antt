@@ -1,5 +1,5 @@
 -- A search for types that are reached, one type after the other.
-use Rattle.std.proofs.Common.{◌≡◌, ℕ, zero, suc, ◌+◌, ◌<◌, ◌≤◌, Bool, true, false, List, [], ◌∷◌, ◌++◌, length, get_or, take, drop, set, replicate, Option, Some, None, ◌⊎◌, refl, sym, ap, subst, ◌∙◌, arith, inl, inr}
+use Rattle.std.proofs.Common.{◌≡◌, ℕ, zero, suc, ◌+◌, ◌<◌, ◌≤◌, Bool, true, false, List, [], ◌∷◌, ◌++◌, length, get_or, take, drop, set, replicate, Some, None, ◌⊎◌, refl, sym, ap, subst, ◌∙◌, arith, inl, inr}
 use Rattle.std.specs.Prelude.{Contains, if◌then◌else◌}
 use Rattle.std.specs.Bool.{Decides}
 use Rattle.std.proofs.lemmas.Bool.{cases_Bool}
@@ -8,7 +8,7 @@ use Rattle.std.proofs.lemmas.List.Elements.{Contains-get_or, Contains-append_lef
 use Rattle.mp_typing.specs.Indexed.{Entry, number_of}
 use Rattle.mp_typing.specs.Graph.{under}
 use Rattle.mp_typing.specs.Reach.{is_marked, unmarked, IsReached, top, down, IsSearch}
-use Rattle.mp_typing.proofs.Lists.{contains_cases, no_member}
+use Rattle.mp_list.proofs.Members.{contains_cases, no_member}
 
 -- ---- marks
 
@@ -238,7 +238,7 @@ marks_type names lower asked tops marks after todo more busy left n reached lt m
       | inl old ↦
           let same = m.known old in (
             subst (λ (ms : List Bool). IsSearch names lower asked tops ms more busy left) (sym same.0)
-            (subst (λ (ns : List ℕ). IsSearch names lower asked tops marks ns busy left) (sym same.1) s),
+                (subst (λ (ns : List ℕ). IsSearch names lower asked tops marks ns busy left) (sym same.1) s),
             ap (λ (ms : List Bool). is_marked ms n) same.0 ∙ old,
           )
       | inr fresh ↦

@@ -9,7 +9,8 @@ use Rattle.mp_factor.specs.declared.typed_values.Typed.{Typed}
 use Rattle.mp_typing.specs.Names.{names_of}
 use Rattle.mp_typing.specs.IsA.{IsA, same, through_object, object_name}
 use Rattle.mp_typing.specs.Members.{meant, IsOfType}
-use Rattle.mp_typing.proofs.Lists.{or_left, or_right, or_cases, contains_head, contains_tail, contains_cases, contains_one, no_member, false_where_not_true}
+use Rattle.std.proofs.lemmas.Bool.{false_from_ne_true, or_cases, or_left, or_right}
+use Rattle.mp_list.proofs.Members.{contains_head, contains_tail, contains_cases, contains_one, no_member}
 use Rattle.mp_typing.proofs.Reaching.{Reaches, reaches}
 
 -- some word's name is in a set
@@ -99,7 +100,7 @@ passed declared asked has t r own above mine wanted under =
 
 -- a list of something is not empty
 not_empty : (a : List ℕ) (more : List (List ℕ)) → (length (a ∷ more) == 0) ≡ false
-not_empty a more = false_where_not_true (length (a ∷ more) == 0) (λ h. omega (arith, (Decides-eqb (length (a ∷ more)) 0).0 h))
+not_empty a more = false_from_ne_true (length (a ∷ more) == 0) (λ h. omega (arith, (Decides-eqb (length (a ∷ more)) 0).0 h))
 
 pub decides_type : (declared : List Typed) (asked : List (List ℕ)) (has : List ℕ → Bool) → Reaches declared asked has → (t : Typed)
     → Decides (is_reached has asked t) (IsOfType declared asked t)

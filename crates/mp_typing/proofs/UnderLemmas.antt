@@ -3,7 +3,7 @@ use Rattle.std.proofs.Common.{◌≡◌, ℕ, zero, suc, ◌<◌, ◌≤◌, tru
 use Rattle.std.specs.Prelude.{Contains, map, filter}
 use Rattle.std.specs.Bool.{Decides}
 use Rattle.std.specs.Str.{bytes_eq}
-use Rattle.std.proofs.lemmas.Bool.{cases_Bool}
+use Rattle.std.proofs.lemmas.Bool.{cases_Bool, and_parts, not-true, or_cases, or_left, or_right}
 use Rattle.std.proofs.lemmas.List.{append-nil}
 use Rattle.std.proofs.lemmas.List.Folds.{list_any-append}
 use Rattle.mp_factor.specs.declared.typed_values.Typed.{Typed}
@@ -12,9 +12,10 @@ use Rattle.mp_typing.specs.IsA.{DeclaredUnder, step, same}
 use Rattle.mp_typing.specs.Lower.{IsUnderOne, is_new}
 use Rattle.mp_typing.specs.Members.{meant, IsOfType}
 use Rattle.mp_typing.specs.Under.{added, lower, lies_under, is_of_type}
-use Rattle.mp_typing.proofs.Lists.{or_left, or_right, or_cases, and_left, and_right, not_true, some_name, any_from_name, all_at, among_from_contains, contains_from_among, contains_head, contains_tail, contains_cases, no_member}
+use Rattle.mp_list.proofs.Members.{all_at, contains_head, contains_tail, contains_cases, no_member, any_from, some_member}
+use Rattle.mp_typing.proofs.Lists.{some_name, any_from_name, among_from_contains, contains_from_among}
 use Rattle.mp_typing.proofs.Lowering.{AreUnder, is_complete, Keeps, outside, outside_in, outside_out, outside_none, outside_lt}
-use Rattle.mp_typing.proofs.Passing.{one_passes, any_from_one, one_passes_where_not_all_fail, none_taken, taken_passes, taken_from_passes}
+use Rattle.mp_typing.proofs.Passing.{one_passes_where_not_all_fail, none_taken, taken_passes, taken_from_passes}
 use Rattle.mp_typing.proofs.Reaching.{Reaches, reaches, reached}
 
 -- ---- names of declarations
@@ -58,7 +59,7 @@ round_under declared tops names so_far name h =
           let found = declaration_of (filter (is_new names) declared) name (contains_from_among (added declared names) name new) in
           let t = found.0 in
           let taken = taken_passes (is_new names) declared t found.1 in
-          let above = some_name names t.types (and_right (not (is_among names t.word.name)) (has_any names t.types) taken.1) in
+          let above = some_name names t.types (and_parts (not (is_among names t.word.name)) (has_any names t.types) taken.1).1 in
           let of = so_far above.0 above.2 in
           record {
             top = of.top;
@@ -74,7 +75,7 @@ round_lowers declared names h =
     let found = one_passes_where_not_all_fail (is_new names) declared h in
     let t = found.0 in
     let listed = found.1 in
-    let absent : is_among names t.word.name ≡ false = not_true (is_among names t.word.name) (and_left (not (is_among names t.word.name)) (has_any names t.types) found.2) in
+    let absent : is_among names t.word.name ≡ false = not-true (is_among names t.word.name) (and_parts (not (is_among names t.word.name)) (has_any names t.types) found.2).0 in
     let new : is_among (added declared names) t.word.name ≡ true =
     among_from_contains (added declared names) t.word.name
     (name_of (filter (is_new names) declared) t (taken_from_passes (is_new names) declared t listed found.2)) in
@@ -178,7 +179,7 @@ lies_under_decides declared tops name =
 pub is_of_type_decides : (declared : List Typed) (asked : List (List ℕ)) (object : Typed) → Decides (is_of_type declared asked object) (IsOfType declared asked object)
 is_of_type_decides declared asked object = (
   (λ h.
-      let found = one_passes (lies_under declared (meant asked)) (meant (names_of object.types)) h in
+      let found = some_member (lies_under declared (meant asked)) (meant (names_of object.types)) h in
       let of = (lies_under_decides declared (meant asked) found.0).0 found.2 in
       record {
         own = found.0;
@@ -188,6 +189,6 @@ is_of_type_decides declared asked object = (
         under = of.under;
       }),
   (λ of.
-      any_from_one (lies_under declared (meant asked)) (meant (names_of object.types)) of.own of.declared_own
+      any_from (lies_under declared (meant asked)) (meant (names_of object.types)) of.own of.declared_own
       ((lies_under_decides declared (meant asked) of.own).1 record { top = of.above; among = of.asked_above; under = of.under })),
 )

@@ -1,7 +1,8 @@
 -- Faults of a factor, and the first of them.
-use Rattle.std.specs.Prelude.{ℕ, Bool, List, [], ◌∷◌, ◌++◌, Option, Some, None, if◌then◌else◌}
+use Rattle.std.specs.Prelude.{ℕ, Bool, List, [], ◌∷◌, ◌++◌, Option}
 use Rattle.std.specs.Ordering.{is_lt, nat_cmp}
 use Rattle.std.specs.Cmp.Lexicographic.{slice_cmp}
+use Rattle.mp_list.specs.First.{leftmost as first_of}
 use Rattle.mp_factor.specs.declared.files.File.{File}
 use Rattle.mp_sexp.specs.declared.tree.Place.{Place}
 use Rattle.mp_factor.specs.declared.files.File.TheVariants.{Domain, Problem}
@@ -45,12 +46,6 @@ order_of fault = order_by fault.kind fault.found.file fault.found.at ++ fault.fo
 unfoldable pub is_earlier : Fault → Fault → Bool
 is_earlier a b = is_lt (slice_cmp nat_cmp (order_of a) (order_of b))
 
--- the earlier of two faults, the known one where neither is
-abbrev pub earlier : Option Fault → Fault → Fault
-earlier None fault = fault
-earlier (Some known) fault = if is_earlier fault known then fault else known
-
--- the earliest of a known fault and these
+-- the earliest of a known fault and these, the known one where none is earlier
 abbrev pub leftmost : Option Fault → List Fault → Option Fault
-leftmost known [] = known
-leftmost known (fault ∷ faults) = leftmost (Some (earlier known fault)) faults
+leftmost known faults = first_of is_earlier known faults

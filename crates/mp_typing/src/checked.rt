@@ -38,15 +38,11 @@ impl Model for CheckedFactor {
 
     ghost invariant = { λ c. (check_faults c.factor.domain c.factor.problem ≡ [])
         × IsHierarchy c.factor.domain.types (object_list c.factor.domain c.factor.problem)
-            c.hierarchy.graph.names c.hierarchy.graph.lower.items c.hierarchy.object c.hierarchy.kinds };
+        c.hierarchy.graph.names c.hierarchy.graph.lower.items c.hierarchy.object c.hierarchy.kinds };
 }
 
 /// The order of a factor's types, and the types of its objects. Refuses only for want of memory.
-fn hierarchy_of(
-    alloc: Global,
-    domain: &Domain,
-    problem: &Problem,
-) -> Result<Hierarchy, OutOfMemory>
+fn hierarchy_of(alloc: Global, domain: &Domain, problem: &Problem) -> Result<Hierarchy, OutOfMemory>
     ensures { IfOk result (λ h. IsHierarchy domain.now.types (object_list domain.now problem.now)
         h.graph.names h.graph.lower.items h.object h.kinds) }
 {

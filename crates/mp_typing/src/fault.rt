@@ -7,7 +7,6 @@ use crate::refusal::Found;
 use mp_factor::{File, Word};
 use mp_list::{Copied, OutOfMemory};
 use mp_sexp::Place;
-use std::cmp::Ordering;
 
 /// What is wrong with a word.
 #[derive(Clone, Copy, Debug, PartialEq, Eq)]
@@ -68,16 +67,15 @@ fn order(kind: FaultKind, file: File, at: Place) -> [u32; 5]
     [stage(kind), file_rank(file), at.line, at.column, rank(kind)]
 }
 
-/// Whether a fault of this word comes before a known one.
+/// Whether a fault of this word comes before a known one: by the numbers, and by the name where they are the same.
 fn is_before(kind: FaultKind, file: File, word: &Word, known: &Fault) -> bool
     ensures { result ≡ is_earlier (fault_at kind file word.now) known.now }
 {
     let order_of_known = order(known.kind, known.found.file, known.found.at);
-    match order(kind, file, word.at).cmp(&order_of_known) {
-        Ordering::Less => true,
-        Ordering::Equal => word.name.as_slice() < known.found.name.as_slice(),
-        Ordering::Greater => false,
-    }
+    order(kind, file, word.at)
+        .cmp(&order_of_known)
+        .then(word.name.cmp(&known.found.name))
+        .is_lt()
 }
 
 /// A fault of a word. Refuses only for want of memory.

@@ -167,11 +167,7 @@ impl Hierarchy {
         let mut asked = List::new(alloc);
         asked.push(sup.copy()?)?;
         let marks = reached(alloc, &self.graph, &asked)?;
-        Ok(is_lower(
-            &marks,
-            self.graph.names.find(sub),
-            self.object,
-        ))
+        Ok(is_lower(&marks, self.graph.names.find(sub), self.object))
     }
 
     /// The numbers of the objects that are of one of the asked types. Refuses only for want of memory.

@@ -22,12 +22,10 @@ mod uses;
 pub use checked::CheckedFactor;
 pub use checks::check;
 pub use fault::{Fault, FaultKind};
-pub use laws::{first_fault_is_one, type_order_is_least, types_are_ordered};
 pub use hierarchy::{ObjectList, TypeList};
+pub use laws::{first_fault_is_one, type_order_is_least, types_are_ordered};
 pub use refusal::{CheckRefusal, Found};
 pub use test_laws::type_test_decides;
 
 #[cfg(test)]
 mod tests;
-#[cfg(test)]
-mod tests_of_check;

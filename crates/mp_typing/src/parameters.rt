@@ -23,18 +23,15 @@ fn is_before(a: Place, b: Place) -> bool
 fn has_one_not_behind(params: &[Typed], param: &Typed) -> bool
     ensures { result ≡ list_any (λ p. is_same p.word param.now.word && not (before param.now.word.at p.word.at)) params.now }
 {
-    params
-        .iter()
-        .any(|p| is_same_name(&p.word, &param.word) && !is_before(param.word.at, p.word.at))
+    params.iter().any(|p| is_same_name(&p.word, &param.word)
+        && !is_before(param.word.at, p.word.at))
 }
 
 /// Whether one of these has the name of a parameter and stands before it in the file.
 fn has_one_before(params: &[Typed], param: &Typed) -> bool
     ensures { result ≡ list_any (λ p. is_same p.word param.now.word && before p.word.at param.now.word.at) params.now }
 {
-    params
-        .iter()
-        .any(|p| is_same_name(&p.word, &param.word) && is_before(p.word.at, param.word.at))
+    params.iter().any(|p| is_same_name(&p.word, &param.word) && is_before(p.word.at, param.word.at))
 }
 
 /// The first fault, with that of a parameter that stands between others of its action. Refuses only for want of memory.

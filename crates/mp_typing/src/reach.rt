@@ -79,11 +79,7 @@ impl Search {
 
 /// For each type by number, whether it is an asked one, or the declarations lead from it up to one. It looks once at
 /// each type that is reached and at each that is declared directly under it. Refuses only for want of memory.
-pub fn reached(
-    alloc: Global,
-    graph: &TypeGraph,
-    asked: &TypeList,
-) -> Result<Vec<bool>, OutOfMemory>
+pub fn reached(alloc: Global, graph: &TypeGraph, asked: &TypeList) -> Result<Vec<bool>, OutOfMemory>
     requires { IsBounded graph.now.names graph.now.lower.items }
     ensures marks { IfOk result (λ marks. (n : ℕ) → Decides (is_marked marks.items n) (IsReached graph.now.names graph.now.lower.items asked.now n)) }
     ensures sized { IfOk result (λ marks. length marks.items ≡ length graph.now.lower.items) }

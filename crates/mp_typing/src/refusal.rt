@@ -7,9 +7,10 @@ use mp_factor::File;
 use mp_list::OutOfMemory;
 use mp_sexp::{Name, Place};
 use std::alloc::{AllocError, AllocFailed};
+use thiserror::Error;
 
 /// A word that is at fault: the file and place where it stands, and its name.
-#[derive(Drop)]
+#[derive(Debug, Drop)]
 pub struct Found {
     pub file: File,
     /// Where its first byte stands.
@@ -18,17 +19,22 @@ pub struct Found {
 }
 
 /// Why a factor is refused: the fault that no other comes before.
-#[derive(Drop)]
+#[derive(Debug, Drop, Error)]
 pub enum CheckRefusal {
     /// The problem names another domain.
+    #[error("domain")]
     WrongDomain(Found),
     /// A predicate, function, object or variable is used and not declared.
+    #[error("unknown")]
     UnknownName(Found),
     /// An atom or function has another number of terms than declared.
+    #[error("arity")]
     Arity(Found),
     /// A name is declared a second time.
+    #[error("twice")]
     Twice(Found),
     /// No memory was left.
+    #[error("out of memory")]
     OutOfMemory,
 }
 

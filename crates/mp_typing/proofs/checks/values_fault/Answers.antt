@@ -1,8 +1,9 @@
 use Rattle.mp_typing.specs.CheckFaults.{value_faults}
-use Rattle.mp_typing.proofs.Steps.{goes_on}
+use Rattle.mp_list.proofs.Steps.{goes_on}
+use Rattle.mp_typing.specs.Faults.{is_earlier}
 use Rattle.mp_typing.proofs.checks.values_fault.Goals as goal
 
 pub loop-value-preserved : goal.loop-value-preserved
 loop-value-preserved c =
-    goes_on (value_faults c.args.declared.now) _ _ _ c.args.values.now c.loop-value.value-index c.value-item.result
+    goes_on is_earlier (value_faults c.args.declared.now) _ _ _ c.args.values.now c.loop-value.value-index c.value-item.result
     c.loop-value-test.true c.value-item.is c.in_ok-first.ensures c.loop-value.invariant

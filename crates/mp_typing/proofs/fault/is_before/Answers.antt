@@ -1,25 +1,16 @@
-use Rattle.std.proofs.Common.{ℕ, List, Less, Equal, Greater, sym, ap, ◌∙◌}
-use Rattle.std.specs.Ordering.{is_lt, nat_cmp}
+use Rattle.std.proofs.Common.{ℕ, List, Ordering, sym, ap, ◌∙◌}
+use Rattle.std.specs.Ordering.{is_lt, nat_cmp, ordering_then}
 use Rattle.std.specs.Cmp.Lexicographic.{slice_cmp}
-use Rattle.mp_typing.specs.Faults.{fault_at}
-use Rattle.mp_typing.proofs.FirstLemmas.{before_by}
-use Rattle.mp_typing.proofs.OrderLemmas.{less_than}
+use Rattle.mp_typing.specs.Faults.{fault_at, order_by}
+use Rattle.mp_typing.proofs.FirstLemmas.{earlier_by}
 use Rattle.mp_typing.proofs.fault.is_before.Goals as goal
 
-pub returns-in-Less : goal.returns-in-Less
-returns-in-Less c =
-    sym (before_by Less c.cmp.result _ _ (fault_at c.args.kind c.args.file c.args.word.now) c.args.known.now
-    c.order.ensures c.order-order_of_known.ensures c.cmp.ensures c.in-Less.is)
-
-pub returns-in-Equal : goal.returns-in-Equal
-returns-in-Equal c =
-    c.lt.ensures ∙ less_than c.as_slice.result.now c.as_slice-in-Equal.result.now
-    ∙ ap (λ (n : List ℕ). is_lt (slice_cmp nat_cmp n c.as_slice-in-Equal.result.now)) c.as_slice.ensures.bytes
-    ∙ ap (λ (n : List ℕ). is_lt (slice_cmp nat_cmp c.args.word.now.name n)) c.as_slice-in-Equal.ensures.bytes
-    ∙ sym (before_by Equal c.cmp.result _ _ (fault_at c.args.kind c.args.file c.args.word.now) c.args.known.now
-    c.order.ensures c.order-order_of_known.ensures c.cmp.ensures c.in-Equal.is)
-
-pub returns-in-Greater : goal.returns-in-Greater
-returns-in-Greater c =
-    sym (before_by Greater c.cmp.result _ _ (fault_at c.args.kind c.args.file c.args.word.now) c.args.known.now
-    c.order.ensures c.order-order_of_known.ensures c.cmp.ensures c.in-Greater.is)
+pub returns : goal.returns
+returns c =
+    let a = order_by c.args.kind c.args.file c.args.word.now.at in
+    c.is_lt.ensures ∙ ap is_lt c.then.ensures
+    ∙ ap (λ (o : Ordering). is_lt (ordering_then o c.cmp-2.result))
+    (c.cmp.ensures ∙ ap (λ (ns : List ℕ). slice_cmp nat_cmp ns c.order-order_of_known.result) c.order.ensures
+    ∙ ap (λ (ns : List ℕ). slice_cmp nat_cmp a ns) c.order-order_of_known.ensures)
+    ∙ ap (λ (o : Ordering). is_lt (ordering_then (slice_cmp nat_cmp a (order_by c.args.known.now.kind c.args.known.now.found.file c.args.known.now.found.at)) o)) c.cmp-2.ensures
+    ∙ sym (earlier_by (fault_at c.args.kind c.args.file c.args.word.now) c.args.known.now)

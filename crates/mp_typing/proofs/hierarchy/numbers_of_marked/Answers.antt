@@ -1,4 +1,4 @@
-use Rattle.std.proofs.Common.{◌≡◌, ◌+◌, ◌++◌, ◌||◌, ◌∙◌, ℕ, List, drop, sym, ap}
+use Rattle.std.proofs.Common.{◌+◌, ◌++◌, ◌||◌, ◌∙◌, ℕ, List, drop, sym, ap}
 use Rattle.std.specs.List.{list_any}
 use Rattle.mp_typing.specs.Places.{numbers_where}
 use Rattle.mp_typing.specs.Reach.{is_marked}

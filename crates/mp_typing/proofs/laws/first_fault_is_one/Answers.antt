@@ -1,5 +1,5 @@
-use Rattle.mp_typing.proofs.OneFirst.{first_is_one}
+use Rattle.mp_typing.proofs.FirstLemmas.{one_first}
 use Rattle.mp_typing.proofs.laws.first_fault_is_one.Goals as goal
 
 pub returns : goal.returns
-returns c = first_is_one
+returns c = one_first

@@ -1,8 +1,9 @@
 use Rattle.mp_typing.specs.Uses.{term_faults}
-use Rattle.mp_typing.proofs.Steps.{goes_on}
+use Rattle.mp_list.proofs.Steps.{goes_on}
+use Rattle.mp_typing.specs.Faults.{is_earlier}
 use Rattle.mp_typing.proofs.uses.terms_fault.Goals as goal
 
 pub loop-term-preserved : goal.loop-term-preserved
 loop-term-preserved c =
-    goes_on (term_faults c.args.file c.args.params.now c.args.declared.now) _ _ _ c.args.terms.now c.loop-term.term-index c.term-item.result
+    goes_on is_earlier (term_faults c.args.file c.args.params.now c.args.declared.now) _ _ _ c.args.terms.now c.loop-term.term-index c.term-item.result
     c.loop-term-test.true c.term-item.is c.in_ok-first.ensures c.loop-term.invariant

@@ -17,5 +17,5 @@ returns c =
     where_ok (λ (answer : Bool). (declared : List Typed) → IsOrder declared h.graph.names h.graph.lower.items h.object → Decides answer (IsA declared c.args.sub.now c.args.sup.now))
     (λ (answer : Bool). Decides answer (IsA c.args.self.now.domain.types c.args.sub.now c.args.sup.now))
     (λ answer decides. subst (λ (f : Factor). Decides answer (IsA f.domain.types c.args.sub.now c.args.sup.now)) c.self.view_is
-        (decides c.self.inside.factor.domain.types c.self.invariant.1.order))
+    (decides c.self.inside.factor.domain.types c.self.invariant.1.order))
     c.is_a.result c.is_a.ensures

@@ -1,4 +1,4 @@
-use Rattle.std.proofs.Common.{◌≡◌, ◌++◌, ◌<◌, ◌≤◌, ◌∙◌, ℕ, List, map, length, get_or, take, sym, ap, subst}
+use Rattle.std.proofs.Common.{◌≡◌, ◌++◌, ◌<◌, ◌≤◌, ℕ, List, map, length, get_or, take, sym, subst}
 use Rattle.std.proofs.lemmas.List.{append-nil}
 use Rattle.mp_factor.specs.declared.word.Word.{Word}
 use Rattle.mp_typing.specs.Graph.{IsGraph}

@@ -1,4 +1,4 @@
-use Rattle.std.proofs.Common.{◌≡◌, ◌∷◌, ◌++◌, ◌∙◌, [], ℕ, List, length, sym, ap, refl, arith}
+use Rattle.std.proofs.Common.{◌≡◌, ◌∷◌, ◌++◌, ◌∙◌, [], ℕ, List, length, ap, refl, arith}
 use Rattle.std.proofs.lemmas.List.{length-append}
 use Rattle.mp_typing.specs.Graph.{under}
 use Rattle.mp_typing.proofs.GraphLemmas.{graph_numbers, empty_row}

@@ -1,4 +1,4 @@
-use Rattle.std.proofs.Common.{◌≡◌, ◌||◌, ◌==◌, ◌∙◌, ℕ, List, length, Bool, sym, ap, subst}
+use Rattle.std.proofs.Common.{◌≡◌, ◌||◌, ◌==◌, ◌∙◌, ℕ, List, length, Bool, ap}
 use Rattle.std.specs.List.{list_any}
 use Rattle.mp_factor.specs.declared.typed_values.Typed.{Typed}
 use Rattle.mp_typing.specs.Hierarchy.{IsHierarchy}
@@ -17,10 +17,10 @@ returns c =
     where_ok (λ (numbers : List ℕ). numbers ≡ numbers_where 0 (λ (kind : List ℕ). c.is_all-all.result || list_any (is_marked c.deref-2.result.now) kind) c.as_slice.result.now)
     (λ (numbers : List ℕ). (declared objects : List Typed) → IsHierarchy declared objects h.graph.names h.graph.lower.items h.object h.kinds → Members declared objects asked numbers)
     (λ numbers is declared objects hierarchy.
-        are_all_members declared objects h.graph.names h.graph.lower.items h.object h.kinds asked marks numbers hierarchy c.in_ok-marks.ensures.marks
-        (is
-        ∙ ap (λ (ms : List Bool). numbers_where 0 (λ (kind : List ℕ). c.is_all-all.result || list_any (is_marked ms) kind) c.as_slice.result.now) c.deref-2.ensures.value
-        ∙ ap (λ (b : Bool). numbers_where 0 (λ (kind : List ℕ). b || list_any (is_marked marks) kind) c.as_slice.result.now)
-          (c.is_all-all.ensures ∙ ap (λ (ms : List Bool). length asked == 0 || is_marked ms h.object) c.deref.ensures.value)
-        ∙ ap (λ (rows : List (List ℕ)). numbers_where 0 (row_test asked marks h.object) rows) c.as_slice.ensures))
+    are_all_members declared objects h.graph.names h.graph.lower.items h.object h.kinds asked marks numbers hierarchy c.in_ok-marks.ensures.marks
+    (is
+    ∙ ap (λ (ms : List Bool). numbers_where 0 (λ (kind : List ℕ). c.is_all-all.result || list_any (is_marked ms) kind) c.as_slice.result.now) c.deref-2.ensures.value
+    ∙ ap (λ (b : Bool). numbers_where 0 (λ (kind : List ℕ). b || list_any (is_marked marks) kind) c.as_slice.result.now)
+    (c.is_all-all.ensures ∙ ap (λ (ms : List Bool). length asked == 0 || is_marked ms h.object) c.deref.ensures.value)
+    ∙ ap (λ (rows : List (List ℕ)). numbers_where 0 (row_test asked marks h.object) rows) c.as_slice.ensures))
     c.numbers_of_marked.result c.numbers_of_marked.ensures

@@ -1,4 +1,4 @@
-use Rattle.std.proofs.Common.{◌≡◌, ◌∙◌, [], ℕ, List, Some, sym, subst}
+use Rattle.std.proofs.Common.{◌≡◌, ◌∙◌, [], ℕ, List, Some, subst}
 use Rattle.std.specs.List.{flat_map}
 use Rattle.mp_typing.specs.Graph.{pairs_of}
 use Rattle.mp_typing.specs.Indexed.{number_of}

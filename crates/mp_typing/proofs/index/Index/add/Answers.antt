@@ -14,9 +14,9 @@ returns-in_ok-insert c =
     let absent = ap (λ (k : List ℕ). is_some (number_of k (entries_of old))) (sym c.as_slice.ensures.bytes)
     ∙ ap is_some (sym (looked_up c.as_slice.result.now old)) ∙ sym c.contains_key.ensures ∙ c.if-not-contains_key.true in
     let changed = λ (q : List ℕ).
-        sym (looked_up q new) ∙ c.in_ok-insert.ensures.updates.0 record { ref_ptr = (0, 0); now = q }
-        ∙ ap (λ o. cond (bytes_eq c.as_slice-then-not-contains_key.result.now q) (Some c.args.number) o) (looked_up q old)
-        ∙ ap (λ (k : List ℕ). cond (bytes_eq k q) (Some c.args.number) (number_of q (entries_of old))) bytes in
+    sym (looked_up q new) ∙ c.in_ok-insert.ensures.updates.0 record { ref_ptr = (0, 0); now = q }
+    ∙ ap (λ o. cond (bytes_eq c.as_slice-then-not-contains_key.result.now q) (Some c.args.number) o) (looked_up q old)
+    ∙ ap (λ (k : List ℕ). cond (bytes_eq k q) (Some c.args.number) (number_of q (entries_of old))) bytes in
     subst (λ (es : List Entry). SameNumbers (entries_of new) (es ++ record { name = name; number = c.args.number } ∷ [])) c.self.view_is
     (added name c.args.number (entries_of old) (entries_of new) absent changed)
 

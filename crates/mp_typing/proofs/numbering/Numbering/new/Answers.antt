@@ -1,4 +1,4 @@
-use Rattle.std.proofs.Common.{List, ℕ, sym, subst}
+use Rattle.std.proofs.Common.{sym, subst}
 use Rattle.mp_typing.specs.Numbering.{IsNumbering}
 use Rattle.mp_typing.proofs.NumberingLemmas.{kept_entries, no_names}
 use Rattle.mp_typing.proofs.numbering.Numbering.new.Goals as goal

@@ -1,4 +1,4 @@
-use Rattle.std.proofs.Common.{◌≡◌, ◌+◌, ◌∙◌, ◌<◌, [], length, get_or, take, sym, subst, arith, List, ℕ, Some}
+use Rattle.std.proofs.Common.{◌≡◌, ◌+◌, ◌<◌, [], length, get_or, take, sym, subst, arith, List, ℕ, Some}
 use Rattle.mp_typing.specs.Indexed.{number_of}
 use Rattle.mp_typing.specs.Reach.{IsSearch}
 use Rattle.mp_typing.proofs.ReachLemmas.{Marks, top_step, no_step}
