@@ -17,7 +17,8 @@ use Rattle.mp_messages.specs.declared.history.Kind.TheVariants.{Expand, Start}
 -- the files hold a factor for which this answer and plan were found, in so many expansions
 abbrev pub IsFoundIn : Option Files → Request → Answer → ℕ → List PlanStep → Type 0
 IsFoundIn held request answer expansions plan =
-    IfSome held (λ files. (factor : Factor) × HoldsFactor files request factor × IsFound factor answer expansions plan)
+    IfSome held (λ files. (factor : Factor) × HoldsFactor files request factor
+    × IsFound factor answer expansions plan)
 
 -- the log of one agent alone: its expansions, and the start of the one snapshot that ends the run
 abbrev pub lone_log : ℕ → List Entry
@@ -25,7 +26,9 @@ lone_log expansions = replicate expansions (Act 1 Expand) ++ Act 1 Start ∷ []
 
 -- The text is the whole text of the outcome with this answer and log, for some plan that was found, together with
 -- the answer and by the search that the log tells, for what the source holds.
-pub record IsOutcome (held : Option Files) (request : Request) (answer : Answer) (log : List Entry) (text : Text) : Type 0 where
+pub record IsOutcome
+    (held : Option Files) (request : Request) (answer : Answer) (log : List Entry) (text : Text)
+    : Type 0 where
   pub plan : List PlanStep
   pub expansions : ℕ
   pub found : IsFoundIn held request answer expansions plan

@@ -15,7 +15,8 @@ pub record SeenSource : Type 0 where
   pub now : ℕ
   pub fault_at : Option Text
 
-abbrev pub seen_source : {S : Type 0} → (S → Option Files) → (S → ℕ) → (S → Option Text) → S → S → SeenSource
+abbrev pub seen_source : {S : Type 0} → (S → Option Files) → (S → ℕ) → (S → Option Text)
+    → S → S → SeenSource
 seen_source held faults fault_at old new =
     record { held = held old; before = faults old; now = faults new; fault_at = fault_at new }
 
@@ -33,7 +34,8 @@ seen_sink written faults old new =
 -- a sink gained a beginning of this text, and all of it where its count of faults did not rise
 abbrev pub Says : SeenSink → Text → Type 0
 Says sink text =
-    AppendsBeginning sink.old sink.new text × (sink.now ≡ sink.before → Appends sink.old sink.new text)
+    AppendsBeginning sink.old sink.new text
+    × (sink.now ≡ sink.before → Appends sink.old sink.new text)
 
 -- a call: its words, what is seen of the source and of the two sinks, the report before and now, and the status
 pub record Call : Type 0 where

@@ -26,7 +26,8 @@ pub record HadFault (source : SeenSource) (request : Request) (at : File) : Type
 -- A file cannot be read: the source tells that it is not there, and that is the first refusal, or there was a fault.
 abbrev pub CannotRead : SeenSource → Request → File → Type 0
 CannotRead source request at =
-    IsSomeAnd source.held (λ files. IsFirst files request (why.Read at)) ⊎ HadFault source request at
+    IsSomeAnd source.held (λ files. IsFirst files request (why.Read at))
+    ⊎ HadFault source request at
 
 -- where the source tells, this is the first refusal
 abbrev pub ComesFirst : SeenSource → Request → Refusal → Type 0

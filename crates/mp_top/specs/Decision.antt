@@ -36,5 +36,7 @@ DecidesFiles held request d = IsOutcome held request d.answer d.log d.text.items
 -- its text was written whole, and nothing told, or a write failed, and that is told
 abbrev pub Publishes : SeenSink → SeenSink → Decision → Status → Type 0
 Publishes out err d ended =
-    ((ended ≡ answer_status d.answer) × Appends out.old out.new d.text.items × (out.now ≡ out.before) × Says err [])
-    ⊎ ((ended ≡ status.Write) × AppendsBeginning out.old out.new d.text.items × (out.before < out.now) × Says err write_line)
+    ((ended ≡ answer_status d.answer) × Appends out.old out.new d.text.items
+    × (out.now ≡ out.before) × Says err [])
+    ⊎ ((ended ≡ status.Write) × AppendsBeginning out.old out.new d.text.items
+    × (out.before < out.now) × Says err write_line)

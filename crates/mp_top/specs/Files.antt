@@ -124,17 +124,23 @@ told_check refused.OutOfMemory = why.OutOfMemory
 
 -- a domain and a problem in which nothing is wrong lead to their factor
 abbrev pub Checks : DomainParts → ProblemParts → Reading Factor
-Checks domain problem (Ok factor) = (factor ≡ record { domain = domain; problem = problem }) × (check_faults domain problem ≡ [])
-Checks domain problem (Err r) = (first : CheckFault) × IsFirstCheck (check_faults domain problem) first × (r ≡ check_refusal first)
+Checks domain problem (Ok factor) =
+    (factor ≡ record { domain = domain; problem = problem }) × (check_faults domain problem ≡ [])
+Checks domain problem (Err r) =
+    (first : CheckFault) × IsFirstCheck (check_faults domain problem) first
+    × (r ≡ check_refusal first)
 
 -- a factor of the form that is searched so far leads to itself
 abbrev pub HasPlainForm : Factor → Reading Factor
-HasPlainForm factor (Ok same) = (same ≡ factor) × (is_plain_domain factor.domain ≡ true) × (is_plain_problem factor.problem ≡ true)
+HasPlainForm factor (Ok same) =
+    (same ≡ factor) × (is_plain_domain factor.domain ≡ true)
+    × (is_plain_problem factor.problem ≡ true)
 HasPlainForm factor (Err (why.Read at)) = ⊥
 HasPlainForm factor (Err (why.TooLarge at)) = ⊥
 HasPlainForm factor (Err (why.Fault at kind place)) = ⊥
 HasPlainForm factor (Err (why.NotBuilt file.Domain)) = is_plain_domain factor.domain ≡ false
-HasPlainForm factor (Err (why.NotBuilt file.Problem)) = (is_plain_domain factor.domain ≡ true) × (is_plain_problem factor.problem ≡ false)
+HasPlainForm factor (Err (why.NotBuilt file.Problem)) =
+    (is_plain_domain factor.domain ≡ true) × (is_plain_problem factor.problem ≡ false)
 HasPlainForm factor (Err why.OutOfMemory) = ⊥
 
 -- a domain and a problem lead to their factor

@@ -29,12 +29,14 @@ answer_status answer.Undecided = status.Undecided
 -- agent.
 abbrev pub IsOutcomeFor : Call → Request → Text → Type 0
 IsOutcomeFor call request text =
-    IsOutcome call.source.held request call.report.answer call.report.log text × (call.report.views ≡ [])
+    IsOutcome call.source.held request call.report.answer call.report.log text
+    × (call.report.views ≡ [])
 
 -- `out` gained the whole text of the outcome, whose answer the status tells
 abbrev pub PrintsAnswer : Call → Request → Type 0
 PrintsAnswer call request =
-    (text : Text) × IsOutcomeFor call request text × (answer_status call.report.answer ≡ call.status)
+    (text : Text) × IsOutcomeFor call request text
+    × (answer_status call.report.answer ≡ call.status)
     × Appends call.out.old call.out.new text
 
 -- `out` gained a beginning of it
@@ -63,7 +65,8 @@ PrintsFor call request status.Line = PrintsNothing call
 -- the same for words: nothing where they are not accepted
 abbrev pub Prints : Call → Type 0
 Prints call =
-    MatchOption (request_of call.words) (PrintsNothing call) (λ request. PrintsFor call request call.status)
+    MatchOption (request_of call.words) (PrintsNothing call)
+    (λ request. PrintsFor call request call.status)
 
 -- a status of an answer
 abbrev pub IsAnswerStatus : Status → Type 0
@@ -75,7 +78,8 @@ abbrev pub IsLineFor : Call → Request → Text → Type 0
 IsLineFor call request line =
     (IsAnswerStatus call.status × (line ≡ []))
     ⊎ ((call.status ≡ status.Write) × (line ≡ write_line))
-    ⊎ ((r : Refusal) × (call.status ≡ status_of r) × (line ≡ line_of request r) × Rests call.source request r)
+    ⊎ ((r : Refusal) × (call.status ≡ status_of r) × (line ≡ line_of request r)
+    × Rests call.source request r)
 
 -- the same for words
 abbrev pub IsLine : Call → Text → Type 0
@@ -86,7 +90,8 @@ IsLine call line =
 -- a file word of accepted words cannot be read
 abbrev pub CannotReadFile : Call → Type 0
 CannotReadFile call =
-    (request : Request) × (at : File) × (request_of call.words ≡ Some request) × CannotRead call.source request at
+    (request : Request) × (at : File) × (request_of call.words ≡ Some request)
+    × CannotRead call.source request at
 
 -- The first refusal comes, but for faults of reading and want of memory: where what the files hold has one, the status
 -- is that of it, and so is the line.
@@ -120,4 +125,12 @@ pub record KeepsUnseen (words : List Text) (out err : SeenSink) (ended : Status)
   pub before : Report
   pub empty : IsEmptyReport before
   pub report : Report
-  pub keeps : Keeps (record { words = words; source = source; out = out; err = err; before = before; report = report; status = ended })
+  pub keeps : Keeps (record {
+    words = words;
+    source = source;
+    out = out;
+    err = err;
+    before = before;
+    report = report;
+    status = ended;
+  })

@@ -14,7 +14,9 @@ text_of_lines lines = flat_map (λ line. line ++ 10 ∷ []) lines
 
 -- `T: (NAME ARG ..)`: the time, and the name and each argument after a blank
 abbrev pub step_line : ℕ → PlanStep → List ℕ
-step_line time step = decimal time ++ (codes ": (" ++ (step.action ++ (flat_map (λ arg. 32 ∷ arg) step.args ++ codes ")")))
+step_line time step =
+    decimal time ++ (codes ": (" ++ (step.action
+    ++ (flat_map (λ arg. 32 ∷ arg) step.args ++ codes ")")))
 
 -- the lines of an agent's steps, where the first step of the plan has this time
 abbrev pub share_lines : ℕ → ℕ → List PlanStep → List (List ℕ)
@@ -25,7 +27,8 @@ share_lines agent time (step ∷ steps) =
 -- the lines of the agents up to this one: `agent I` and its steps by their times in the plan
 abbrev pub agent_lines : ℕ → List PlanStep → List (List ℕ)
 agent_lines zero plan = []
-agent_lines (suc n) plan = agent_lines n plan ++ (codes "agent " ++ decimal (n + 1)) ∷ share_lines (n + 1) 1 plan
+agent_lines (suc n) plan =
+    agent_lines n plan ++ (codes "agent " ++ decimal (n + 1)) ∷ share_lines (n + 1) 1 plan
 
 -- the message of an entry that puts one
 abbrev pub message_put : Entry → Option (List ℕ)
@@ -48,13 +51,15 @@ labelled label number = label ++ decimal number
 abbrev pub count_line : List Entry → List ℕ
 count_line log =
     labelled (codes "events ") (length (schedule log))
-    ++ (labelled (codes " messages ") (length (messages log)) ++ labelled (codes " bytes ") (message_bytes log))
+    ++ (labelled (codes " messages ") (length (messages log))
+    ++ labelled (codes " bytes ") (message_bytes log))
 
 -- the lines of the outcome of a team of this many agents
 abbrev pub outcome_lines : ℕ → Answer → List PlanStep → List Entry → List (List ℕ)
 outcome_lines agents Nothing plan log = []
 outcome_lines agents (Solved cost steps) plan log =
-    (codes "cost " ++ decimal cost) ∷ (codes "length " ++ decimal steps) ∷ agent_lines agents plan ++ count_line log ∷ []
+    (codes "cost " ++ decimal cost) ∷ (codes "length " ++ decimal steps) ∷ agent_lines agents plan
+    ++ count_line log ∷ []
 outcome_lines agents Unsolvable plan log = codes "unsolvable" ∷ count_line log ∷ []
 outcome_lines agents Undecided plan log = codes "undecided" ∷ count_line log ∷ []
 

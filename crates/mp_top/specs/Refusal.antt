@@ -66,7 +66,9 @@ too_large_line name = codes "maplan: " ++ (name ++ (codes ": too large" ++ 10 �
 -- `maplan: NAME:LINE:COLUMN: ` and the fault
 abbrev pub fault_line : Text → Fault → Place → Text
 fault_line name kind place =
-    codes "maplan: " ++ (name ++ (codes ":" ++ (decimal place.line ++ (codes ":" ++ (decimal place.column ++ (codes ": " ++ (text_of_fault kind ++ (word_of_fault kind ++ 10 ∷ []))))))))
+    codes "maplan: " ++ (name ++ (codes ":" ++ (decimal place.line ++ (codes ":"
+    ++ (decimal place.column ++ (codes ": " ++ (text_of_fault kind
+    ++ (word_of_fault kind ++ 10 ∷ []))))))))
 
 abbrev pub not_built_line : Text → Text
 not_built_line name = codes "maplan: " ++ (name ++ (codes ": not built" ++ 10 ∷ []))

@@ -33,4 +33,5 @@ stands_before_dashes words =
 abbrev pub is_alone : List Text → Bool
 is_alone [] = true
 is_alone (command ∷ words) =
-    not (bytes_eq command (codes "solve") || bytes_eq command (codes "make")) || stands_before_dashes (command ∷ words)
+    not (bytes_eq command (codes "solve") || bytes_eq command (codes "make"))
+    || stands_before_dashes (command ∷ words)

@@ -13,8 +13,10 @@ use mp_typing::first_fault_is_one as first_check_is_one;
 
 /// What files hold has at most one first refusal, and none where it is a factor of the plain form.
 pub fn one_first()
-    ensures one { (files : Files) (request : Request) (r s : Refusal) → IsFirst files request r → IsFirst files request s → r ≡ s }
-    ensures none { (files : Files) (request : Request) (factor : Factor) (r : Refusal) → HoldsFactor files request factor → IsFirst files request r → ⊥ }
+    ensures one { (files : Files) (request : Request) (r s : Refusal)
+        → IsFirst files request r → IsFirst files request s → r ≡ s }
+    ensures none { (files : Files) (request : Request) (factor : Factor) (r : Refusal)
+        → HoldsFactor files request factor → IsFirst files request r → ⊥ }
 {
     tree_or_fault();
     first_fault_is_one();

@@ -27,7 +27,8 @@ pub fn run_on_files<R: Files + Threads + Wait + Sync, K: Sink, E: Sink>(
 ) -> Status
     ensures { let told = seen_sink E.written E.faults err.old err.new in
         MatchOption words ((result ≡ Status.Memory) × (out.new ≡ out.old) × Says told memory_line)
-        (λ words. KeepsUnseen (map string_bytes words.items) (seen_sink K.written K.faults out.old out.new) told result) }
+        (λ words. KeepsUnseen (map string_bytes words.items)
+        (seen_sink K.written K.faults out.old out.new) told result) }
 {
     let Some(words) = words else {
         tell_memory(err);
