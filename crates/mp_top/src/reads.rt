@@ -167,13 +167,21 @@ fn plain_form(alloc: Global, factor: &CheckedFactor) -> Result<PlainFactor, Refu
     }
 }
 
+/// The plain form of a checked factor, which is let go.
+fn form_of(alloc: Global, factor: CheckedFactor) -> Result<PlainFactor, Refusal>
+    ensures form { IfOk result (Leads (HasPlainForm factor)) }
+    ensures cause { IfErr result (Refuses (HasPlainForm factor)) }
+{
+    plain_form(alloc, &factor)
+}
+
 /// The plain form of the factor of a domain and a problem.
 fn plain_factor(alloc: Global, domain: Domain, problem: Problem) -> Result<PlainFactor, Refusal>
     ensures factor { IfOk result (Leads (MakesFactor domain problem)) }
     ensures cause { IfErr result (Refuses (MakesFactor domain problem)) }
 {
     let factor = checked(alloc, domain, problem)?;
-    plain_form(alloc, &factor)
+    form_of(alloc, factor)
 }
 
 /// The plain form of the factor of a domain and of a problem's text.
