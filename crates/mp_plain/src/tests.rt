@@ -112,6 +112,13 @@ fn shown_form(alloc: Global, form: &PlainFactor) -> Result<Vec<u8>, OutOfMemory>
     Ok(out)
 }
 
+/// The plain form of a factor, which is let go.
+fn form_of(alloc: Global, checked: CheckedFactor) -> Result<PlainFactor, PlainRefusal>
+    ensures { IfOk result IsRead }
+{
+    plain(alloc, &checked)
+}
+
 /// The plain form of two texts, or why there is none.
 fn form(
     alloc: Global,
@@ -123,7 +130,7 @@ fn form(
     ensures { IfOk result (λ form. IfOk form IsRead) }
 {
     let checked = factor(alloc, first, second)?;
-    Ok(plain(alloc, &checked))
+    Ok(form_of(alloc, checked))
 }
 
 /// Task, answer and plan of two texts, or the file that is not of the plain form.
