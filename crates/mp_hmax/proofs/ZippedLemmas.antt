@@ -1,0 +1,36 @@
+-- Operators from their preconditions, adds and costs.
+use Rattle.std.proofs.Common.{◌≡◌, ℕ, zero, suc, ◌<◌, List, [], ◌∷◌, length, get_or, map, All, Contains, refl, sym, ap, ◌∙◌, subst, arith}
+use Rattle.mp_task.specs.Strips.{Operator}
+use Rattle.mp_hmax.specs.Relaxed.{HasFree, HasUsers, without_deletes, operator_at, zipped}
+use Rattle.mp_hmax.specs.Users.{AreUsers, AreFree}
+
+pub length-zipped : (pres adds : List (List ℕ)) (costs : List ℕ) → length adds ≡ length pres → length costs ≡ length pres → length (zipped pres adds costs) ≡ length pres
+length-zipped [] adds costs a c = refl
+length-zipped (p ∷ pres) [] costs a c = absurd (omega arith)
+length-zipped (p ∷ pres) (q ∷ adds) [] a c = absurd (omega arith)
+length-zipped (p ∷ pres) (q ∷ adds) (d ∷ costs) a c = let h = length-zipped pres adds costs (omega arith) (omega arith) in omega arith
+
+pub zipped_at : (pres adds : List (List ℕ)) (costs : List ℕ) (k : ℕ) → length adds ≡ length pres → length costs ≡ length pres → k < length pres → operator_at (zipped pres adds costs) k ≡ record { pre = get_or pres k []; add = get_or adds k []; del = []; cost = get_or costs k 0 }
+zipped_at [] adds costs k a c h = absurd (omega arith)
+zipped_at (p ∷ pres) [] costs k a c h = absurd (omega arith)
+zipped_at (p ∷ pres) (q ∷ adds) [] k a c h = absurd (omega arith)
+zipped_at (p ∷ pres) (q ∷ adds) (d ∷ costs) zero a c h = refl
+zipped_at (p ∷ pres) (q ∷ adds) (d ∷ costs) (suc k) a c h = zipped_at pres adds costs k (omega arith) (omega arith) (omega arith)
+
+pub zipped_is : (os : List Operator) → zipped (map (λ o. o.pre) os) (map (λ o. o.add) os) (map (λ o. o.cost) os) ≡ map without_deletes os
+zipped_is [] = refl
+zipped_is (o ∷ os) = λ i. without_deletes o ∷ zipped_is os i
+
+module _ (pres adds : List (List ℕ)) (costs : List ℕ) (a : length adds ≡ length pres) (c : length costs ≡ length pres) where
+  pub zipped_users : (size x : ℕ) (users : List (List ℕ)) → AreUsers size pres users → HasUsers (zipped pres adds costs) x (get_or users x [])
+  zipped_users size x users right = λ k within has.
+      let inside : k < length pres = omega (arith, length-zipped pres adds costs a c) in
+      right.all k x inside (subst (λ o. Contains o.pre x) (zipped_at pres adds costs k a c inside) has)
+
+  pub zipped_free : (free : List ℕ) → AreFree pres free → HasFree (zipped pres adds costs) free
+  zipped_free free right = λ k within none.
+      let inside : k < length pres = omega (arith, length-zipped pres adds costs a c) in
+      right.all k inside (sym (ap (λ (o : Operator). o.pre) (zipped_at pres adds costs k a c inside)) ∙ none)
+
+  pub zipped_below : (xs : List ℕ) → All (λ k. k < length pres) xs → All (λ k. k < length (zipped pres adds costs)) xs
+  zipped_below xs h = subst (λ n. All (λ k. k < n) xs) (sym (length-zipped pres adds costs a c)) h

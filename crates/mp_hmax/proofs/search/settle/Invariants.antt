@@ -1,0 +1,17 @@
+use Rattle.std.proofs.Common.{◌≡◌, ℕ, ◌<◌, ◌≤◌, length, All, vec_len}
+use Rattle.std.specs.BinaryHeap.{heap_items}
+use Rattle.mp_hmax.specs.Hmax.{Values}
+use Rattle.mp_hmax.specs.Search.{AreBelow, AreLow, IsServed, Key, number_at, weight}
+use Rattle.mp_hmax.proofs.search.settle.Given as goal
+
+abbrev pub invariant-pops : goal.invariant-pops
+invariant-pops l = record {
+  len : vec_len l.numbers ≡ vec_len l.initial.numbers;
+  inside : All (λ (k : Key). k.0.1 < vec_len l.numbers) (heap_items l.queue);
+  lower : (x : ℕ) → number_at l.numbers.items x ≤ number_at l.initial.numbers.items x;
+  served : (k : ℕ) → k < length l.problem.operators → IsServed l.problem.operators l.numbers.items (heap_items l.queue) k;
+  below : (values : Values) → AreLow l.problem.operators values → AreBelow values l.initial.numbers.items → AreBelow values l.numbers.items;
+}
+
+abbrev pub decreases-pops : goal.decreases-pops
+decreases-pops l = weight l.numbers.items (heap_items l.queue)

@@ -1,0 +1,23 @@
+-- The arrays of a delete relaxation as the problem that contracts see.
+use Rattle.std.specs.Prelude.{◌≡◌, ◌<◌, length, All}
+use Rattle.mp_hmax.specs.declared.relaxed.Relaxed.TheInside.{Inside}
+use Rattle.mp_hmax.specs.Relaxed.{RelaxedProblem, zipped}
+use Rattle.mp_hmax.specs.Users.{AreUsers, AreFree}
+
+abbrev pub relaxed_problem : Inside → RelaxedProblem
+relaxed_problem r = record {
+  publics = r.publics;
+  facts = r.facts;
+  operators = zipped r.pres r.adds r.costs.items;
+  goals = r.goals.items;
+}
+
+-- the arrays are of one length, name facts that there are, and the others beside them are right
+pub record IsSound (r : Inside) : Type 0 where
+  pub adds_each : length r.adds ≡ length r.pres
+  pub cost_each : length r.costs.items ≡ length r.pres
+  pub pres_below : All (All (λ x. x < r.facts)) r.pres
+  pub adds_below : All (All (λ x. x < r.facts)) r.adds
+  pub goals_below : All (λ x. x < r.facts) r.goals.items
+  pub users_right : AreUsers r.facts r.pres r.users
+  pub free_right : AreFree r.pres r.free.items

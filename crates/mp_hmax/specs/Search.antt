@@ -1,0 +1,73 @@
+-- What a search for the values of facts has: a number for each fact, and a queue of facts whose number has changed.
+use Rattle.std.specs.Prelude.{◌≡◌, ℕ, ◌+◌, ◌*◌, ◌<◌, ◌≤◌, nat_lt, Option, Some, None, List, length, sum, slice_index_or, All, Contains, IsTrue, if◌then◌else◌}
+use Rattle.std.specs.declared.cmp.Reverse.{Reverse}
+use Rattle.mp_task.specs.Strips.{Operator}
+use Rattle.mp_hmax.specs.Estimates.{AtMost}
+use Rattle.mp_hmax.specs.Hmax.{Values, cost_by, adds}
+use Rattle.mp_hmax.specs.Relaxed.{operator_at}
+
+-- numbers from this one on stand for none
+abbrev pub unknown : ℕ
+unknown = 18446744073709551615
+
+abbrev pub known : ℕ → Option ℕ
+known n = if nat_lt n unknown then Some n else None
+
+abbrev pub number_at : List ℕ → ℕ → ℕ
+number_at numbers x = slice_index_or numbers x unknown
+
+abbrev pub value_at : List ℕ → Values
+value_at numbers x = known (number_at numbers x)
+
+-- a fact with its number, the least first
+abbrev pub Key : Type 0
+Key = Reverse (ℕ × ℕ)
+
+abbrev pub key : ℕ → ℕ → Key
+key n x = record { 0 = (n, x) }
+
+-- a fact waits in the queue with the number that it has now
+abbrev pub Waits : List ℕ → List Key → ℕ → Type 0
+Waits numbers queue x = Contains queue (key (number_at numbers x) x)
+
+-- a measure that falls
+abbrev pub weight : List ℕ → List Key → ℕ
+weight numbers queue = 2 * sum numbers + length queue
+
+-- Numbers have fallen, and a fact whose number fell waits; a fact that waited waits still.
+pub record HaveFallen (old : List ℕ) (before : List Key) (new : List ℕ) (after : List Key) : Type 0 where
+  pub as_many : length new ≡ length old
+  pub lower : (x : ℕ) → number_at new x ≤ number_at old x
+  pub quiet :
+      (x : ℕ)
+      → ¬ Waits new after x
+      → (number_at new x ≡ number_at old x) × ¬ Waits old before x
+  pub inside :
+      All (λ (k : Key). k.0.1 < length old) before
+      → All (λ (k : Key). k.0.1 < length old) after
+  pub lighter : weight new after ≤ weight old before
+
+-- numbers beyond the greatest that a program has are as none
+abbrev pub capped : Option ℕ → Option ℕ
+capped None = None
+capped (Some n) = known n
+
+-- Unless one of its preconditions waits, what an operator adds costs no more than by it.
+abbrev pub IsServed : List Operator → List ℕ → List Key → ℕ → Type 0
+IsServed operators numbers queue k =
+    All (λ x. ¬ Waits numbers queue x) (operator_at operators k).pre
+    → All
+    (λ y. AtMost (value_at numbers y) (capped (cost_by (value_at numbers) (operator_at operators k))))
+    (operator_at operators k).add
+
+-- values are at most what the operators give
+abbrev pub AreLow : List Operator → Values → Type 0
+AreLow operators values =
+    (k x : ℕ)
+    → k < length operators
+    → IsTrue (adds (operator_at operators k) x)
+    → AtMost (values x) (cost_by values (operator_at operators k))
+
+-- values are at most those of numbers
+abbrev pub AreBelow : Values → List ℕ → Type 0
+AreBelow values numbers = (x : ℕ) → AtMost (values x) (value_at numbers x)

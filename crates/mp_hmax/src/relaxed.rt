@@ -1,0 +1,174 @@
+//! The delete relaxation of a projected problem in flat arrays.
+
+ghost use Rattle.std.specs.Prelude.{◌≡◌, ◌<◌, ◌≤◌, ◌+◌, ◌^◌, All, length, map, IfOk};
+ghost use Rattle.mp_task.specs.Limits.{IsWithinLimits};
+ghost use Rattle.mp_task.specs.Projected.{projected};
+ghost use Rattle.mp_hmax.specs.Relaxed.{HasFree, HasUsers, delete_relaxation, operator_at};
+
+use crate::rows::{Rows, gather};
+use crate::users::{free_of, users_of};
+use mp_list::OutOfMemory;
+use mp_task::Task;
+use std::alloc::Global;
+use std::marker::Model;
+
+/// The operators of a projected problem without their deletes. Contracts see the problem; beside it stand, for each
+/// fact, the operators that have it as a precondition, and the operators without preconditions.
+#[derive(Drop)]
+pub(crate) struct Relaxed {
+    publics: u32,
+    facts: u32,
+    pres: Rows,
+    adds: Rows,
+    costs: Vec<u64>,
+    goals: Vec<u32>,
+    users: Rows,
+    free: Vec<u32>,
+}
+
+impl Model for Relaxed {
+    ghost use Rattle.mp_hmax.specs.Relaxed.{RelaxedProblem};
+    ghost use Rattle.mp_hmax.specs.RelaxedFields.{relaxed_problem, IsSound};
+
+    ghost Value = { RelaxedProblem };
+
+    ghost view = { relaxed_problem };
+
+    ghost invariant = { IsSound };
+}
+
+/// The preconditions of the operators.
+fn pres_of(alloc: Global, task: &Task, buffer: &mut Vec<u32>) -> Result<Rows, OutOfMemory>
+    ensures { IfOk result (λ rows. rows ≡ map (λ o. o.pre) (projected task.now).operators) }
+{
+    let mut rows = Rows::new(alloc);
+    for act in task.acts.as_slice() {
+        gather(buffer, task.publics, &act.pre_pub, &act.pre_priv)?;
+        rows.push(buffer.as_slice())?;
+    }
+    for part in task.far.as_slice() {
+        rows.push(part.pre.as_slice())?;
+    }
+    Ok(rows)
+}
+
+/// The facts that the operators add.
+fn adds_of(alloc: Global, task: &Task, buffer: &mut Vec<u32>) -> Result<Rows, OutOfMemory>
+    ensures { IfOk result (λ rows. rows ≡ map (λ o. o.add) (projected task.now).operators) }
+{
+    let mut rows = Rows::new(alloc);
+    for act in task.acts.as_slice() {
+        gather(buffer, task.publics, &act.add_pub, &act.add_priv)?;
+        rows.push(buffer.as_slice())?;
+    }
+    for part in task.far.as_slice() {
+        rows.push(part.add.as_slice())?;
+    }
+    Ok(rows)
+}
+
+/// What the operators cost.
+fn costs_of(alloc: Global, task: &Task) -> Result<Vec<u64>, OutOfMemory>
+    ensures { IfOk result (λ costs. costs.items ≡ map (λ o. o.cost) (projected task.now).operators) }
+{
+    let mut costs = Vec::new(alloc);
+    for act in task.acts.as_slice() {
+        costs.push(act.cost)?;
+    }
+    for part in task.far.as_slice() {
+        costs.push(part.cost)?;
+    }
+    Ok(costs)
+}
+
+impl Relaxed {
+    /// The delete relaxation of a task's projected problem. Refuses only for want of memory.
+    pub(crate) fn of(alloc: Global, task: &Task) -> Result<Relaxed, OutOfMemory>
+        ensures made { IfOk result (λ made. made ≡ delete_relaxation task.now) }
+        ensures limits { IfOk result (λ _. IsWithinLimits task.now) }
+    {
+        let mut buffer = Vec::new(alloc);
+        let pres = pres_of(alloc, task, &mut buffer)?;
+        let adds = adds_of(alloc, task, &mut buffer)?;
+        let costs = costs_of(alloc, task)?;
+        gather(&mut buffer, task.publics, &task.goal_pub, &task.goal_priv)?;
+        let facts = task.publics + task.privates;
+        let users = users_of(alloc, facts, &pres)?;
+        let free = free_of(alloc, &pres)?;
+        Ok(Relaxed {
+            publics: task.publics,
+            facts,
+            pres,
+            adds,
+            costs,
+            goals: buffer,
+            users,
+            free,
+        })
+    }
+
+    /// How many public facts there are.
+    pub(crate) fn publics(&self) -> u32
+        ensures { result ≡ self.now.publics }
+    {
+        self.publics
+    }
+
+    /// How many facts there are.
+    pub(crate) fn facts(&self) -> u32
+        ensures { result ≡ self.now.facts }
+    {
+        self.facts
+    }
+
+    /// The preconditions of an operator.
+    pub(crate) fn pre(&self, k: u32) -> &[u32]
+        requires { k < length self.now.operators }
+        ensures value { result.now ≡ (operator_at self.now.operators k).pre }
+        ensures below { All (λ x. x < self.now.facts) result.now }
+    {
+        self.pres.row(k as usize)
+    }
+
+    /// The facts that an operator adds.
+    pub(crate) fn add(&self, k: u32) -> &[u32]
+        requires { k < length self.now.operators }
+        ensures value { result.now ≡ (operator_at self.now.operators k).add }
+        ensures below { All (λ x. x < self.now.facts) result.now }
+    {
+        self.adds.row(k as usize)
+    }
+
+    /// What an operator costs.
+    pub(crate) fn cost(&self, k: u32) -> u64
+        requires { k < length self.now.operators }
+        ensures { result ≡ (operator_at self.now.operators k).cost }
+    {
+        self.costs[k as usize]
+    }
+
+    /// The goals.
+    pub(crate) fn goals(&self) -> &[u32]
+        ensures value { result.now ≡ self.now.goals }
+        ensures below { All (λ x. x < self.now.facts) result.now }
+    {
+        self.goals.as_slice()
+    }
+
+    /// The operators that have a fact as a precondition.
+    pub(crate) fn users(&self, x: u32) -> &[u32]
+        requires { x < self.now.facts }
+        ensures all { HasUsers self.now.operators x result.now }
+        ensures below { All (λ k. k < length self.now.operators) result.now }
+    {
+        self.users.row(x as usize)
+    }
+
+    /// The operators without preconditions.
+    pub(crate) fn free(&self) -> &[u32]
+        ensures all { HasFree self.now.operators result.now }
+        ensures below { All (λ k. k < length self.now.operators) result.now }
+    {
+        self.free.as_slice()
+    }
+}

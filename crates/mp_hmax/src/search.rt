@@ -1,0 +1,222 @@
+//! The search for the values of facts, those of the least cost first (Dijkstra 1959; Knuth 1977).
+
+ghost use Rattle.std.specs.Prelude.{◌≡◌, ℕ, ◌<◌, ◌≤◌, ◌+◌, ◌^◌, [], All, Contains, length, vec_len, IfOk, OnOk, IsTrue, Some};
+ghost use Rattle.std.specs.BinaryHeap.{heap_items};
+ghost use Rattle.std.specs.FinSet as set;
+ghost use Rattle.mp_task.specs.AgentTask.{AgentTask};
+ghost use Rattle.mp_task.specs.Limits.{IsWithinLimits};
+ghost use Rattle.mp_hmax.specs.Estimates.{AtMost};
+ghost use Rattle.mp_hmax.specs.Hmax.{Values, greatest, hmax};
+ghost use Rattle.mp_hmax.specs.Relaxed.{delete_relaxation, operator_at};
+ghost use Rattle.mp_hmax.specs.Search.{AreBelow, AreLow, HaveFallen, IsServed, Key, known, number_at, unknown, value_at};
+
+use crate::relaxed::Relaxed;
+use mp_list::OutOfMemory;
+use mp_sets::Bits;
+use std::cmp::Reverse;
+use std::collections::BinaryHeap;
+
+/// Facts with their numbers, the least first. An entry whose fact has another number by now is out of date.
+pub(crate) type Queue = BinaryHeap<Reverse<(u64, u32)>>;
+
+/// The greatest value of some facts.
+pub(crate) fn greatest_of(numbers: &[u64], facts: &[u32]) -> u64
+    requires { All (λ x. x < length numbers.now) facts.now }
+    ensures { known result ≡ greatest (value_at numbers.now) facts.now }
+{
+    let mut most = 0;
+    for x in facts {
+        most = most.max(numbers[*x as usize]);
+    }
+    most
+}
+
+/// Gives a fact a number where that is less than the one that it has.
+fn lower(numbers: &mut Vec<u64>, queue: &mut Queue, x: u32, cost: u64) -> Result<(), OutOfMemory>
+    requires { x < vec_len numbers.old }
+    ensures fallen { OnOk result (HaveFallen numbers.old.items (heap_items queue.old)
+        numbers.new.items (heap_items queue.new)) }
+    ensures lowered { OnOk result (number_at numbers.new.items x ≤ cost) }
+    ensures below { OnOk result ((values : Values) → AtMost (values x) (known cost)
+        → AreBelow values numbers.old.items → AreBelow values numbers.new.items) }
+    ensures len { vec_len numbers.new ≡ vec_len numbers.old }
+{
+    if cost < numbers[x as usize] {
+        numbers[x as usize] = cost;
+        queue.push(Reverse((cost, x)))?;
+    }
+    Ok(())
+}
+
+/// Gives what an operator adds the cost by it, where that is less.
+fn relax(
+    problem: &Relaxed,
+    k: u32,
+    numbers: &mut Vec<u64>,
+    queue: &mut Queue,
+) -> Result<(), OutOfMemory>
+    requires operator { k < length problem.now.operators }
+    requires sized { vec_len numbers.old ≡ problem.now.facts }
+    ensures fallen { OnOk result (HaveFallen numbers.old.items (heap_items queue.old)
+        numbers.new.items (heap_items queue.new)) }
+    ensures served { OnOk result
+        (IsServed problem.now.operators numbers.new.items (heap_items queue.new) k) }
+    ensures below { OnOk result ((values : Values) → AreLow problem.now.operators values
+        → AreBelow values numbers.old.items → AreBelow values numbers.new.items) }
+    ensures len { vec_len numbers.new ≡ vec_len numbers.old }
+{
+    let most = greatest_of(numbers.as_slice(), problem.pre(k));
+    let own = problem.cost(k);
+    if own < u64::MAX - most {
+        let cost = own + most;
+        for x in problem.add(k) {
+            lower(numbers, queue, *x, cost)?;
+        }
+    }
+    Ok(())
+}
+
+/// Relaxes some operators, one after another.
+fn relax_all(
+    problem: &Relaxed,
+    operators: &[u32],
+    numbers: &mut Vec<u64>,
+    queue: &mut Queue,
+) -> Result<(), OutOfMemory>
+    requires operators { All (λ k. k < length problem.now.operators) operators.now }
+    requires sized { vec_len numbers.old ≡ problem.now.facts }
+    ensures fallen { OnOk result (HaveFallen numbers.old.items (heap_items queue.old)
+        numbers.new.items (heap_items queue.new)) }
+    ensures served { OnOk result ((k : ℕ) → Contains operators.now k
+        → IsServed problem.now.operators numbers.new.items (heap_items queue.new) k) }
+    ensures below { OnOk result ((values : Values) → AreLow problem.now.operators values
+        → AreBelow values numbers.old.items → AreBelow values numbers.new.items) }
+    ensures len { vec_len numbers.new ≡ vec_len numbers.old }
+{
+    for k in operators {
+        relax(problem, *k, numbers, queue)?;
+    }
+    Ok(())
+}
+
+/// Relaxes operators until no fact waits any more.
+pub(crate) fn settle(
+    problem: &Relaxed,
+    numbers: &mut Vec<u64>,
+    queue: &mut Queue,
+) -> Result<(), OutOfMemory>
+    requires sized { vec_len numbers.old ≡ problem.now.facts }
+    requires inside { All (λ (k : Key). k.0.1 < vec_len numbers.old) (heap_items queue.old) }
+    requires served { (k : ℕ) → k < length problem.now.operators
+        → IsServed problem.now.operators numbers.old.items (heap_items queue.old) k }
+    ensures lower { OnOk result ((x : ℕ) → number_at numbers.new.items x ≤ number_at numbers.old.items x) }
+    ensures served { OnOk result ((k : ℕ) → k < length problem.now.operators
+        → IsServed problem.now.operators numbers.new.items [] k) }
+    ensures below { OnOk result ((values : Values) → AreLow problem.now.operators values
+        → AreBelow values numbers.old.items → AreBelow values numbers.new.items) }
+    ensures len { vec_len numbers.new ≡ vec_len numbers.old }
+{
+    'pops: while let Some(Reverse((cost, x))) = queue.pop() {
+        if cost == numbers[x as usize] {
+            relax_all(problem, problem.users(x), numbers, queue)?;
+        }
+    }
+    Ok(())
+}
+
+/// Takes all values away.
+fn forget(numbers: &mut Vec<u64>)
+    ensures none { All (λ n. n ≡ unknown) numbers.new.items }
+    ensures len { vec_len numbers.new ≡ vec_len numbers.old }
+{
+    numbers.as_mut_slice().fill(u64::MAX);
+}
+
+/// Gives the members of a set, above an offset, the number 0.
+fn mark(
+    numbers: &mut Vec<u64>,
+    queue: &mut Queue,
+    members: &Bits,
+    offset: u32,
+) -> Result<(), OutOfMemory>
+    requires room { offset + members.now.size ≤ vec_len numbers.old }
+    requires few { vec_len numbers.old < 2 ^ 32 }
+    ensures fallen { OnOk result (HaveFallen numbers.old.items (heap_items queue.old)
+        numbers.new.items (heap_items queue.new)) }
+    ensures zero { OnOk result ((x : ℕ) → IsTrue (set.contains members.now.members x)
+        → number_at numbers.new.items (offset + x) ≤ 0) }
+    ensures below { OnOk result ((values : Values)
+        → ((x : ℕ) → x < members.now.size → IsTrue (set.contains members.now.members x)
+        → AtMost (values (offset + x)) (Some 0))
+        → AreBelow values numbers.old.items → AreBelow values numbers.new.items) }
+    ensures len { vec_len numbers.new ≡ vec_len numbers.old }
+{
+    let mut from = 0;
+    'members: while let Some(x) = members.least_from(from) {
+        lower(numbers, queue, offset + x, 0)?;
+        from = x + 1;
+    }
+    Ok(())
+}
+
+/// Gives the facts of a state the number 0, and relaxes the operators without preconditions.
+fn begin(
+    problem: &Relaxed,
+    publics: &Bits,
+    privates: &Bits,
+    numbers: &mut Vec<u64>,
+    queue: &mut Queue,
+) -> Result<(), OutOfMemory>
+    requires sized { vec_len numbers.old ≡ problem.now.facts }
+    requires few { problem.now.facts < 2 ^ 32 }
+    requires publics { publics.now.size ≡ problem.now.publics }
+    requires privates { problem.now.publics + privates.now.size ≡ problem.now.facts }
+    ensures inside { OnOk result (All (λ (k : Key). k.0.1 < vec_len numbers.new) (heap_items queue.new)) }
+    ensures served { OnOk result ((k : ℕ) → k < length problem.now.operators
+        → IsServed problem.now.operators numbers.new.items (heap_items queue.new) k) }
+    ensures zero_publics { OnOk result ((x : ℕ) → IsTrue (set.contains publics.now.members x)
+        → number_at numbers.new.items (0 + x) ≤ 0) }
+    ensures zero_privates { OnOk result ((x : ℕ) → IsTrue (set.contains privates.now.members x)
+        → number_at numbers.new.items (problem.now.publics + x) ≤ 0) }
+    ensures below { OnOk result ((values : Values) → AreLow problem.now.operators values
+        → ((x : ℕ) → x < publics.now.size → IsTrue (set.contains publics.now.members x)
+        → AtMost (values (0 + x)) (Some 0))
+        → ((x : ℕ) → x < privates.now.size → IsTrue (set.contains privates.now.members x)
+        → AtMost (values (problem.now.publics + x)) (Some 0))
+        → AreBelow values numbers.new.items) }
+    ensures len { vec_len numbers.new ≡ vec_len numbers.old }
+{
+    forget(numbers);
+    queue.clear();
+    mark(numbers, queue, publics, 0)?;
+    mark(numbers, queue, privates, problem.publics())?;
+    relax_all(problem, problem.free(), numbers, queue)?;
+    Ok(())
+}
+
+/// The value of a state.
+pub(crate) fn estimate(
+    problem: &Relaxed,
+    publics: &Bits,
+    privates: &Bits,
+    numbers: &mut Vec<u64>,
+    queue: &mut Queue,
+) -> Result<Option<u64>, OutOfMemory>
+    requires sized { vec_len numbers.old ≡ problem.now.facts }
+    requires few { problem.now.facts < 2 ^ 32 }
+    requires publics { publics.now.size ≡ problem.now.publics }
+    requires privates { problem.now.publics + privates.now.size ≡ problem.now.facts }
+    ensures found { IfOk result (λ found. (t : AgentTask) → IsWithinLimits t
+        → problem.now ≡ delete_relaxation t
+        → found ≡ hmax t publics.now.members privates.now.members) }
+    ensures len { vec_len numbers.new ≡ vec_len numbers.old }
+{
+    begin(problem, publics, privates, numbers, queue)?;
+    settle(problem, numbers, queue)?;
+    let most = greatest_of(numbers.as_slice(), problem.goals());
+    if most < u64::MAX {
+        Ok(Some(most))
+    } else {
+        Ok(None)
+    }
+}
