@@ -10,3 +10,6 @@ mod users;
 
 pub use hmax::Hmax;
 pub use laws::values_are_the_greatest;
+
+#[cfg(test)]
+mod tests;
