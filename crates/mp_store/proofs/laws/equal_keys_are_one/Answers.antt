@@ -1,0 +1,5 @@
+use Rattle.mp_store.proofs.KeyLemmas.{Decides-key}
+use Rattle.mp_store.proofs.laws.equal_keys_are_one.Goals as goal
+
+pub returns : goal.returns
+returns c = Decides-key
