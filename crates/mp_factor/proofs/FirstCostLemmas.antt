@@ -1,6 +1,6 @@
 -- A map that has the first cost of each function, while values are read.
-use Rattle.std.proofs.Common.{◌≡◌, ℕ, suc, Bool, true, false, not, ◌&&◌, ◌||◌, List, [], ◌∷◌, ◌++◌, map, Option, Some, None, Ordering, refl, sym, ap, subst, ◌∙◌, true≢false, arith}
-use Rattle.std.specs.Prelude.{◌==◌, Result, Ok, Err, OnOk, if◌then◌else◌}
+use Rattle.std.proofs.Common.{◌≡◌, ℕ, suc, Bool, true, false, not, ◌&&◌, List, [], ◌∷◌, ◌++◌, Option, Some, None, Ordering, refl, sym, ap, subst, ◌∙◌, true≢false, arith}
+use Rattle.std.specs.Prelude.{◌==◌, if◌then◌else◌}
 use Rattle.std.specs.Global.{Vec}
 use Rattle.std.specs.BTreeMap.{BTreeMap, get_by, is_at, Updates}
 use Rattle.std.specs.Map.{KeepsOthers, lookup}
@@ -15,9 +15,9 @@ use Rattle.std.proofs.lemmas.Cmp.{nat_list_cmp_total, nat_list_eq_equiv}
 use Rattle.std.proofs.lemmas.Map.Text.{is_eq-slice_cmp}
 use Rattle.std.proofs.lemmas.Slice.Eq.{bytes_eq-Decides}
 use Rattle.mp_sexp.specs.Node.{Node, word, list}
-use Rattle.mp_factor.specs.Parts.{word_of, parts, is_same_word}
-use Rattle.mp_factor.specs.Init.{is_value, function_in, cost_in, same_words, give_same, same_cost, differs, number_faults, second_faults}
-use Rattle.mp_factor.specs.FirstCosts.{word_key, key_of, are_words, gives_value, has_key, first_cost, AreFirst}
+use Rattle.mp_factor.specs.Parts.{word_of, parts}
+use Rattle.mp_factor.specs.Faults.Init.{is_value, function_in, cost_in, same_words, give_same, same_cost, differs, number_faults, second_faults}
+use Rattle.mp_factor.specs.Faults.FirstCosts.{word_key, key_of, are_words, gives_value, has_key, first_cost, AreFirst}
 
 -- ---- keys
 

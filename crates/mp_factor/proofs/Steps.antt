@@ -1,11 +1,11 @@
 -- The earliest fault of lists that are read one member after the other, as a loop does.
-use Rattle.std.proofs.Common.{◌≡◌, ℕ, Bool, true, false, suc, ◌+◌, ◌<◌, ◌≤◌, List, [], ◌∷◌, ◌++◌, length, get_or, take, drop, ◌-◌, Option, Some, refl, sym, ap, ◌∙◌, drop-cons, arith}
-use Rattle.std.specs.Prelude.{if◌then◌else◌}
+use Rattle.std.proofs.Common.{◌≡◌, ℕ, Bool, true, false, suc, ◌+◌, ◌<◌, ◌≤◌, List, [], ◌∷◌, ◌++◌, length, get_or, take, drop, ◌-◌, Option, refl, sym, ap, ◌∙◌, drop-cons, arith}
+use Rattle.std.specs.Prelude.{if◌then◌else◌, Result, Ok, Err, IfOk}
 use Rattle.std.proofs.Math.ListN.{drop_of_length-le}
 use Rattle.std.proofs.lemmas.List.{take_more, map-append}
 use Rattle.mp_sexp.specs.declared.tree.Tree.{Tree}
 use Rattle.mp_sexp.specs.Node.{Node, node_of, nodes_in}
-use Rattle.mp_factor.specs.declared.fault.Fault.{Fault}
+use Rattle.mp_factor.specs.Fault.{Fault}
 use Rattle.mp_list.proofs.FirstLemmas as firsts
 use Rattle.mp_list.proofs.Steps as loops
 use Rattle.mp_factor.specs.Faults.{is_earlier, leftmost}
@@ -52,6 +52,11 @@ one_before trees i tree lt is =
 -- what is found in one part, and then in the other
 pub both : (o o' o'' : Option Fault) (xs ys : List Fault) → o' ≡ leftmost o xs → o'' ≡ leftmost o' ys → o'' ≡ leftmost o (xs ++ ys)
 both o o' o'' xs ys first second = loops.both is_earlier o o' o'' xs ys first second
+
+pub both_if : {E : Type 0} (o o' : Option Fault) (xs ys : List Fault) (answer : Result (Option Fault) E) → o' ≡ leftmost o xs
+    → IfOk answer (λ first. first ≡ leftmost o' ys) → IfOk answer (λ first. first ≡ leftmost o (xs ++ ys))
+both_if o o' xs ys (Ok answer) first second = both o o' answer xs ys first second
+both_if o o' xs ys (Err e) first second = tt
 
 -- all of some trees
 take_whole : (ts : List Tree) → take (length ts) ts ≡ ts

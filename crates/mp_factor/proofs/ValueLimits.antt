@@ -13,13 +13,13 @@ use Rattle.mp_factor.specs.Kinds.{is_name}
 use Rattle.mp_factor.specs.Parts.{place_of, word_of, parts, rest_of, is_name_word, is_variable_word, is_same_word}
 use Rattle.mp_factor.specs.Numbers.{cost_of}
 use Rattle.mp_factor.specs.Faults.{fault_at}
-use Rattle.mp_factor.specs.Typed.{name_faults, names_faults, extra_faults}
-use Rattle.mp_factor.specs.Effects.{cost_faults}
-use Rattle.mp_factor.specs.WordValues.{word_value, first_word}
-use Rattle.mp_factor.specs.AtomValues.{term_value, term_values, atom_value}
-use Rattle.mp_factor.specs.EffectValues.{cost_or_none, cost_value}
-use Rattle.mp_factor.specs.Init.{function_parts, function_faults, value_faults, value_parts, fact_faults, facts_faults, function_in, cost_in, is_value, same_words, give_same, same_cost, differs, number_faults, second_faults, all_second_faults, init_faults}
-use Rattle.mp_factor.specs.InitValues.{value_in, cost_values}
+use Rattle.mp_factor.specs.Faults.Typed.{name_faults, names_faults, extra_faults}
+use Rattle.mp_factor.specs.Faults.Effects.{cost_faults}
+use Rattle.mp_factor.specs.Values.Words.{word_value, first_word}
+use Rattle.mp_factor.specs.Values.Atoms.{term_value, term_values, atom_value}
+use Rattle.mp_factor.specs.Values.Effects.{cost_or_none, cost_value}
+use Rattle.mp_factor.specs.Faults.Init.{function_parts, function_faults, value_faults, value_parts, fact_faults, facts_faults, function_in, cost_in, is_value, same_words, give_same, same_cost, differs, number_faults, second_faults, all_second_faults, init_faults}
+use Rattle.mp_factor.specs.Values.Init.{value_in, cost_values}
 use Rattle.mp_factor.specs.Limits.{name_of_term, names_of_atom, GivesNoOther, HasOneCostEach}
 use Rattle.mp_factor.proofs.NoFaults.{not_empty, none_in_first, none_in_second, none_in_both, not_else}
 

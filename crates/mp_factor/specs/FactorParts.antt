@@ -4,6 +4,7 @@ use Rattle.mp_factor.specs.declared.word.Word.{Word}
 use Rattle.mp_factor.specs.declared.typed_values.Typed.{Typed}
 use Rattle.mp_factor.specs.declared.signature_values.Signature.{Signature}
 use Rattle.mp_factor.specs.declared.atom_values.Atom.{Atom}
+use Rattle.mp_factor.specs.declared.literal.Literal.{Literal}
 use Rattle.mp_factor.specs.declared.init_values.Value.{Value}
 use Rattle.mp_factor.specs.declared.schema_values.Schema.{Schema}
 
@@ -21,5 +22,5 @@ pub record ProblemParts : Type 0 where
   pub objects : List Typed
   pub init : List Atom
   pub values : List Value
-  pub goals : List Atom
+  pub goals : List Literal
   pub metric : Bool

@@ -1,10 +1,23 @@
 -- Faults of a tree, and the first of them by place.
+pub mod First
+pub mod Typed
+pub mod Objects
+pub mod Signatures
+pub mod Conditions
+pub mod Effects
+pub mod Actions
+pub mod Init
+pub mod FirstCosts
+pub mod Sections
+pub mod Files
 use Rattle.std.specs.Prelude.{ℕ, Bool, List, [], ◌∷◌, Option}
 use Rattle.std.specs.Ordering.{is_lt, nat_cmp}
 use Rattle.std.specs.Cmp.Lexicographic.{slice_cmp}
 use Rattle.mp_list.specs.First.{leftmost as first_of}
 use Rattle.mp_sexp.specs.declared.tree.Place.{Place}
-use Rattle.mp_factor.specs.declared.fault.Fault.{Fault}
+use Rattle.mp_sexp.specs.Node.{Node}
+use Rattle.mp_factor.specs.Parts.{place_of, word_of}
+use Rattle.mp_factor.specs.Fault.{Fault}
 use Rattle.mp_factor.specs.declared.fault.FaultKind.{FaultKind}
 use Rattle.mp_factor.specs.declared.fault.FaultKind.TheVariants.{Shape, Unsupported, Parameters, Cost}
 
@@ -15,14 +28,27 @@ rank_of Unsupported = 1
 rank_of Parameters = 2
 rank_of Cost = 3
 
+-- a fault of a kind that tells no word
 abbrev pub fault_at : Place → FaultKind → Fault
-fault_at place kind = record { place = place; kind = kind }
+fault_at place kind = record {
+  place = place;
+  kind = kind;
+  word = [];
+}
 
--- what faults are compared by, the first number first
+-- the fault of a word that is not supported
+abbrev pub unsupported_fault : Node → Fault
+unsupported_fault node = record {
+  place = place_of node;
+  kind = Unsupported;
+  word = word_of node;
+}
+
+-- what faults are compared by, the first number first; one place of a text has one word alone
 abbrev pub order_of : Fault → List ℕ
-order_of fault = fault.place.line ∷ fault.place.column ∷ rank_of fault.kind ∷ []
+order_of fault = fault.place.line ∷ fault.place.column ∷ rank_of fault.kind ∷ fault.word
 
--- by line, then by column, then by kind
+-- by line, then by column, then by kind, then by word
 unfoldable pub is_earlier : Fault → Fault → Bool
 is_earlier a b = is_lt (slice_cmp nat_cmp (order_of a) (order_of b))
 
@@ -34,8 +60,9 @@ leftmost known faults = first_of is_earlier known faults
 abbrev pub misshapen : Place → List Fault
 misshapen place = fault_at place Shape ∷ []
 
-abbrev pub unsupported : Place → List Fault
-unsupported place = fault_at place Unsupported ∷ []
+-- this word begins something that is not supported
+abbrev pub unsupported : Node → List Fault
+unsupported node = unsupported_fault node ∷ []
 
 abbrev pub surplus : Place → List Fault
 surplus place = fault_at place Parameters ∷ []

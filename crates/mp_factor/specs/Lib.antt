@@ -1,28 +1,22 @@
-pub mod Faults
+-- words and lists of a tree
 pub mod Words
 pub mod Kinds
 pub mod Numbers
 pub mod Parts
-pub mod Typed
-pub mod Objects
-pub mod Signatures
-pub mod Conditions
-pub mod Effects
-pub mod Actions
-pub mod Init
-pub mod FirstCosts
-pub mod Sections
-pub mod Files
-pub mod First
-pub mod WordValues
-pub mod TypedValues
-pub mod SignatureValues
-pub mod AtomValues
-pub mod EffectValues
-pub mod SchemaValues
-pub mod InitValues
+-- what a form is made of
+pub mod Conjuncts
+pub mod Keys
+-- what is wrong in a tree
+pub mod Fault
+pub mod Faults
+-- what a tree says
+pub mod Values
 pub mod FactorParts
 pub mod FactorFields
-pub mod FileValues
 pub mod Limits
+-- what the calls answer
+pub mod OfFile
 pub mod Shapes
+-- what a file says is written in it
+pub mod Written
+pub mod Taken

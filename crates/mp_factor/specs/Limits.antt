@@ -8,8 +8,8 @@ use Rattle.mp_factor.specs.declared.effect_values.Increase.TheVariants.{Number, 
 use Rattle.mp_factor.specs.declared.init_values.Value.{Value}
 use Rattle.mp_factor.specs.declared.schema_values.Schema.{Schema}
 use Rattle.mp_factor.specs.Numbers.{greatest_cost}
-use Rattle.mp_factor.specs.Actions.{most_parameters}
-use Rattle.mp_factor.specs.Effects.{most_increases}
+use Rattle.mp_factor.specs.Faults.Actions.{most_parameters}
+use Rattle.mp_factor.specs.Faults.Effects.{most_increases}
 use Rattle.mp_factor.specs.FactorParts.{DomainParts, ProblemParts}
 
 abbrev pub IsAllowedIncrease : Increase → Type 0

@@ -1,130 +1,34 @@
 //! Actions.
 
-ghost use Rattle.std.specs.Prelude.{◌≡◌, []};
+ghost use Rattle.std.specs.Prelude.{◌≡◌, ◌==◌, ◌-◌, ◌&&◌, [], map, take, drop, length, if◌then◌else◌};
+ghost use Rattle.std.specs.List.{filter, flat_map};
+ghost use Rattle.std.specs.Str.{bytes_eq};
+ghost use Rattle.mp_list.specs.Repeats.{is_among_keys};
 ghost use Rattle.mp_sexp.specs.Node.{node_of, nodes_in};
-ghost use Rattle.mp_factor.specs.Faults.{leftmost};
-ghost use Rattle.mp_factor.specs.Actions.{one_more, part_of_key, part_behind, count_behind, variables_behind, surplus_faults, all_surplus_faults, variable_faults, dash_faults, parameters_faults, key_faults, part_faults, missing_value as missing_value_of, keys_faults, stands_among as among_test, is_repeated as repeated_test, repeated_faults, all_repeated_faults, action_faults};
+ghost use Rattle.mp_factor.specs.Parts.{place_of, word_of, parts, is_variable_word};
+ghost use Rattle.mp_factor.specs.Faults.{leftmost, misshapen, surplus};
+ghost use Rattle.mp_factor.specs.Keys.{is_key as key_test, keys_of, key_word, from_first};
+ghost use Rattle.mp_factor.specs.Faults.Typed.{type_faults};
+ghost use Rattle.mp_factor.specs.Faults.Conditions.{condition_faults};
+ghost use Rattle.mp_factor.specs.Faults.Effects.{effect_faults};
+ghost use Rattle.mp_factor.specs.Faults.Actions.{dash_faults, parameters_faults, wanted_faults, agent_type_faults, agent_faults, key_faults, parameter_members as parameter_members_of, parameters_in, surplus_faults, repeated_faults, keys_faults, action_faults};
 
 use crate::conditions::condition_fault;
-use crate::effects::{Found, effect_fault};
-use crate::fault::{Fault, FaultKind, is_behind, with};
-use crate::trees::{is_list, is_same_word, is_variable, is_word, members, place};
-use crate::typed::{ItemKind, name_fault, type_fault, typed_fault};
+use crate::effects::effect_fault;
+use crate::fault::{Fault, FaultKind, is_behind, with, with_unsupported};
+use crate::keys::{first_key, is_key};
+use crate::trees::{is_list, is_variable, is_word, members, place, word};
+use crate::typed::{Variables, name_fault, type_fault, typed_fault, variable_fault};
+use crate::words::is_same;
 use mp_sexp::{Place, Tree};
 
 /// The most parameters of an action.
-pub const MOST_PARAMETERS: u64 = 12;
-
-/// What stands next in an action.
-#[derive(Clone, Copy, Debug, PartialEq, Eq)]
-pub enum Part {
-    Key,
-    Parameters,
-    Precondition,
-    Effect,
-    AgentVariable,
-    AgentDash,
-    AgentType,
-}
-
-/// The part that follows a word in the place of a key.
-#[tactic(auto, using(crate::proofs::Steps::leftmost_append), unfolding(crate::specs::Actions::part_of_key))]
-fn behind_key(tree: &Tree) -> Part
-    ensures { result ≡ part_of_key (node_of tree.now) }
-{
-    if is_word(tree, b":parameters") {
-        Part::Parameters
-    } else if is_word(tree, b":precondition") {
-        Part::Precondition
-    } else if is_word(tree, b":effect") {
-        Part::Effect
-    } else if is_word(tree, b":agent") {
-        Part::AgentVariable
-    } else {
-        Part::Key
-    }
-}
-
-/// The part that follows this one.
-#[tactic(auto, using(crate::proofs::Steps::leftmost_append), unfolding(crate::specs::Actions::part_behind))]
-pub fn behind(part: Part, tree: &Tree) -> Part
-    ensures { result ≡ part_behind part (node_of tree.now) }
-{
-    match part {
-        Part::Key => behind_key(tree),
-        Part::AgentVariable => Part::AgentDash,
-        Part::AgentDash => Part::AgentType,
-        Part::AgentType => Part::Key,
-        Part::Parameters => Part::Key,
-        Part::Precondition => Part::Key,
-        Part::Effect => Part::Key,
-    }
-}
-
-/// One more parameter where the tree is a variable, as far as they are counted.
-#[tactic(auto, using(crate::proofs::Steps::leftmost_append), unfolding(crate::specs::Actions::one_more))]
-fn counted(count: u64, tree: &Tree) -> u64
-    ensures { result ≡ one_more count (node_of tree.now) }
-{
-    if is_variable(tree) && count <= MOST_PARAMETERS {
-        count + 1
-    } else {
-        count
-    }
-}
-
-/// The number of parameters with those of a parameter list.
-#[tactic(auto, using(crate::proofs::Steps::leftmost_append), unfolding(crate::specs::Actions::variables_behind))]
-fn counted_all(count: u64, trees: &[Tree]) -> u64
-    ensures { result ≡ variables_behind count (nodes_in trees.now) }
-{
-    let mut counted_so_far = count;
-    for tree in trees {
-        counted_so_far = counted(counted_so_far, tree);
-    }
-    counted_so_far
-}
-
-/// The number of parameters behind this part.
-#[tactic(auto, using(crate::proofs::Steps::leftmost_append), unfolding(crate::specs::Actions::count_behind))]
-fn count_with(count: u64, part: Part, tree: &Tree) -> u64
-    ensures { result ≡ count_behind count part (node_of tree.now) }
-{
-    match part {
-        Part::Parameters => counted_all(count, members(tree)),
-        Part::AgentVariable => counted(count, tree),
-        _ => count,
-    }
-}
-
-/// The first fault, with that of a parameter behind so many.
-#[tactic(auto, using(crate::proofs::Steps::leftmost_append), unfolding(crate::specs::Actions::surplus_faults))]
-fn surplus_fault(least: Option<Fault>, count: u64, tree: &Tree) -> Option<Fault>
-    ensures { result ≡ leftmost least (surplus_faults count (node_of tree.now)) }
-{
-    if is_variable(tree) && count == MOST_PARAMETERS {
-        with(least, place(tree), FaultKind::Parameters)
-    } else {
-        least
-    }
-}
-
-/// The first fault, with those of the agent's variable.
-#[tactic(auto, using(crate::proofs::Steps::leftmost_append), unfolding(crate::specs::Actions::variable_faults))]
-fn variable_fault(least: Option<Fault>, count: u64, tree: &Tree) -> Option<Fault>
-    ensures { result ≡ leftmost least (variable_faults count (node_of tree.now)) }
-{
-    if is_variable(tree) {
-        surplus_fault(least, count, tree)
-    } else {
-        with(least, place(tree), FaultKind::Shape)
-    }
-}
+const MOST_PARAMETERS: u64 = 12;
 
 /// The first fault, with that of what should be `-`.
-#[tactic(auto, using(crate::proofs::Steps::leftmost_append), unfolding(crate::specs::Actions::dash_faults))]
-fn dash_fault(least: Option<Fault>, tree: &Tree) -> Option<Fault>
-    ensures { result ≡ leftmost least (dash_faults (node_of tree.now)) }
+#[tactic(auto, using(crate::proofs::Steps::leftmost_append), unfolding(crate::specs::Faults::Actions::dash_faults))]
+fn dash_fault<'t>(least: Option<Fault<'t>>, tree: &'t Tree) -> Option<Fault<'t>>
+    ensures { result ≡ leftmost least.entry (dash_faults (node_of tree.now)) }
 {
     if is_word(tree, b"-") {
         least
@@ -133,151 +37,321 @@ fn dash_fault(least: Option<Fault>, tree: &Tree) -> Option<Fault>
     }
 }
 
-/// The first fault, with those of parameters behind so many.
-#[tactic(auto, using(crate::proofs::Steps::leftmost_append), unfolding(crate::specs::Actions::all_surplus_faults))]
-fn surplus_in(least: Option<Fault>, count: u64, trees: &[Tree]) -> Option<Fault>
-    ensures { result ≡ leftmost least (all_surplus_faults count (nodes_in trees.now)) }
+/// The first fault, with those of the type that comes first.
+fn first_type_fault<'t>(
+    least: Option<Fault<'t>>,
+    whole: Place,
+    trees: &'t [Tree],
+) -> Option<Fault<'t>>
+    ensures { result ≡ leftmost least.entry (wanted_faults type_faults whole (nodes_in trees.now)) }
+{
+    match trees {
+        [] => with(least, whole, FaultKind::Shape),
+        [tree, ..] => type_fault(least, tree),
+    }
+}
+
+/// The first fault, with those of `-` and a type.
+fn agent_type_fault<'t>(
+    least: Option<Fault<'t>>,
+    whole: Place,
+    trees: &'t [Tree],
+) -> Option<Fault<'t>>
+    ensures { result ≡ leftmost least.entry (agent_type_faults whole (nodes_in trees.now)) }
+{
+    match trees {
+        [] => with(least, whole, FaultKind::Shape),
+        [dash, rest @ ..] => first_type_fault(dash_fault(least, dash), whole, rest),
+    }
+}
+
+/// The first fault, with those of a variable, `-` and a type.
+#[tactic(auto, using(crate::proofs::Steps::leftmost_append), unfolding(crate::specs::Faults::Actions::agent_faults))]
+fn agent_fault<'t>(least: Option<Fault<'t>>, whole: Place, trees: &'t [Tree]) -> Option<Fault<'t>>
+    ensures { result ≡ leftmost least.entry (agent_faults whole (nodes_in trees.now)) }
+{
+    match trees {
+        [] => with(least, whole, FaultKind::Shape),
+        [variable, rest @ ..] => agent_type_fault(variable_fault(least, variable), whole, rest),
+    }
+}
+
+/// The first fault, with those of a parameter list.
+#[tactic(auto, using(crate::proofs::Steps::leftmost_append), unfolding(crate::specs::Faults::Actions::parameters_faults))]
+fn parameters_fault<'t>(least: Option<Fault<'t>>, tree: &'t Tree) -> Option<Fault<'t>>
+    ensures { result ≡ leftmost least.entry (parameters_faults (node_of tree.now)) }
+{
+    if is_list(tree) {
+        typed_fault::<Variables>(least, place(tree), members(tree))
+    } else {
+        with(least, place(tree), FaultKind::Shape)
+    }
+}
+
+/// The first fault, with those of the parameter list that comes first.
+fn first_parameters_fault<'t>(
+    least: Option<Fault<'t>>,
+    whole: Place,
+    trees: &'t [Tree],
+) -> Option<Fault<'t>>
+    ensures { result ≡ leftmost least.entry
+        (wanted_faults parameters_faults whole (nodes_in trees.now)) }
+{
+    match trees {
+        [] => with(least, whole, FaultKind::Shape),
+        [tree, ..] => parameters_fault(least, tree),
+    }
+}
+
+/// The first fault, with those of the condition that comes first.
+fn first_condition_fault<'t>(
+    least: Option<Fault<'t>>,
+    whole: Place,
+    trees: &'t [Tree],
+) -> Option<Fault<'t>>
+    ensures { result ≡ leftmost least.entry
+        (wanted_faults condition_faults whole (nodes_in trees.now)) }
+{
+    match trees {
+        [] => with(least, whole, FaultKind::Shape),
+        [tree, ..] => condition_fault(least, tree),
+    }
+}
+
+/// The first fault, with those of the effect that comes first.
+fn first_effect_fault<'t>(
+    least: Option<Fault<'t>>,
+    whole: Place,
+    trees: &'t [Tree],
+) -> Option<Fault<'t>>
+    ensures { result ≡ leftmost least.entry (wanted_faults effect_faults whole (nodes_in trees.now)) }
+{
+    match trees {
+        [] => with(least, whole, FaultKind::Shape),
+        [tree, ..] => effect_fault(least, tree),
+    }
+}
+
+/// The first fault, with those of a key and its value in the action at this place.
+#[tactic(auto, using(crate::proofs::Steps::leftmost_append), unfolding(crate::specs::Faults::Actions::key_faults))]
+fn key_fault<'t>(
+    least: Option<Fault<'t>>,
+    whole: Place,
+    key: &'t Tree,
+    value: &'t [Tree],
+) -> Option<Fault<'t>>
+    ensures { result ≡ leftmost least.entry
+        (key_faults whole (record { key = node_of key.now; value = nodes_in value.now })) }
+{
+    if is_list(key) {
+        with(least, place(key), FaultKind::Shape)
+    } else if is_word(key, b":agent") {
+        agent_fault(least, whole, value)
+    } else if is_word(key, b":parameters") {
+        first_parameters_fault(least, whole, value)
+    } else if is_word(key, b":precondition") {
+        first_condition_fault(least, whole, value)
+    } else if is_word(key, b":effect") {
+        first_effect_fault(least, whole, value)
+    } else {
+        with_unsupported(least, key)
+    }
+}
+
+/// The first fault, with those of the keys and values of the action at this place.
+fn each_key_fault<'t>(
+    least: Option<Fault<'t>>,
+    whole: Place,
+    trees: &'t [Tree],
+) -> Option<Fault<'t>>
+    ensures { result ≡ leftmost least.entry
+        (flat_map (key_faults whole) (keys_of (nodes_in trees.now))) }
 {
     let mut first = least;
-    let mut counted_so_far = count;
-    for tree in trees {
-        first = surplus_fault(first, counted_so_far, tree);
-        counted_so_far = counted(counted_so_far, tree);
+    let mut rest = trees;
+    while let Some(k) = first_key(rest) {
+        first = key_fault(first, whole, k.key, k.value);
+        rest = k.behind;
     }
     first
 }
 
-/// The first fault, with those of a parameter list.
-#[tactic(auto, using(crate::proofs::Steps::leftmost_append), unfolding(crate::specs::Actions::parameters_faults))]
-fn parameters_fault(least: Option<Fault>, count: u64, tree: &Tree) -> Option<Fault>
-    ensures { result ≡ leftmost least (parameters_faults count (node_of tree.now)) }
+/// The members of the list that comes first.
+fn first_members(trees: &[Tree]) -> &[Tree]
+    ensures { nodes_in result.now ≡ from_first parts (nodes_in trees.now) }
 {
-    if !is_list(tree) {
-        return with(least, place(tree), FaultKind::Shape);
+    match trees {
+        [] => &[],
+        [tree, ..] => members(tree),
     }
-    let variables = members(tree);
-    let first = typed_fault(least, ItemKind::Variables, place(tree), variables);
-    surplus_in(first, count, variables)
 }
 
-/// The first fault, with that of what stands in the place of a key.
-#[tactic(auto, using(crate::proofs::Steps::leftmost_append), unfolding(crate::specs::Actions::key_faults))]
-fn key_fault(least: Option<Fault>, tree: &Tree) -> Option<Fault>
-    ensures { result ≡ leftmost least (key_faults (node_of tree.now)) }
+/// The first of some trees alone.
+fn first_alone(trees: &[Tree]) -> &[Tree]
+    ensures { nodes_in result.now ≡ take 1 (nodes_in trees.now) }
 {
-    if is_list(tree) {
-        with(least, place(tree), FaultKind::Shape)
-    } else if behind_key(tree) == Part::Key {
-        with(least, place(tree), FaultKind::Unsupported)
+    &trees[..trees.len().min(1)]
+}
+
+/// Where a key names parameters.
+#[tactic(auto, unfolding(crate::specs::Faults::Actions::parameter_members))]
+fn parameter_members<'t>(key: &Tree, value: &'t [Tree]) -> &'t [Tree]
+    ensures { nodes_in result.now
+        ≡ parameter_members_of (record { key = node_of key.now; value = nodes_in value.now }) }
+{
+    if is_word(key, b":agent") {
+        first_alone(value)
+    } else if is_word(key, b":parameters") {
+        first_members(value)
+    } else {
+        &[]
+    }
+}
+
+/// The first fault, with that of a parameter where none is left.
+#[tactic(auto, using(crate::proofs::Steps::leftmost_append))]
+fn one_surplus<'t>(least: Option<Fault<'t>>, left: u64, tree: &Tree) -> Option<Fault<'t>>
+    ensures { result ≡ leftmost least.entry (if is_variable_word (node_of tree.now) && left == 0
+        then surplus (place_of (node_of tree.now)) else []) }
+{
+    if is_variable(tree) && left == 0 {
+        with(least, place(tree), FaultKind::Parameters)
     } else {
         least
     }
 }
 
-/// The first fault, with those of this part of an action.
-#[tactic(auto, using(crate::proofs::Steps::leftmost_append), unfolding(crate::specs::Actions::part_faults))]
-fn part_fault(least: Option<Fault>, part: Part, count: u64, tree: &Tree) -> Option<Fault>
-    ensures { result ≡ leftmost least (part_faults part count (node_of tree.now)) }
+/// How many parameters are left behind this one, if it is one.
+fn left_behind(left: u64, tree: &Tree) -> u64
+    ensures { result ≡ (if is_variable_word (node_of tree.now) then left - 1 else left) }
 {
-    match part {
-        Part::Key => key_fault(least, tree),
-        Part::Parameters => parameters_fault(least, count, tree),
-        Part::Precondition => condition_fault(least, tree),
-        Part::Effect => {
-            let found = Found {
-                least,
-                increases: 0,
-            };
-            effect_fault(found, tree).least
-        }
-        Part::AgentVariable => variable_fault(least, count, tree),
-        Part::AgentDash => dash_fault(least, tree),
-        Part::AgentType => type_fault(least, tree),
+    if is_variable(tree) && left > 0 {
+        left - 1
+    } else {
+        left
     }
 }
 
-/// The first fault, with that of an action that ends before this part.
-#[tactic(auto, using(crate::proofs::Steps::leftmost_append), unfolding(crate::specs::Actions::missing_value))]
-fn missing_value(least: Option<Fault>, whole: Place, part: Part) -> Option<Fault>
-    ensures { result ≡ leftmost least (missing_value_of whole part) }
-{
-    match part {
-        Part::Key => least,
-        _ => with(least, whole, FaultKind::Shape),
-    }
-}
-
-/// The first fault, with those of the keys and values of the action at this place.
-#[tactic(auto, using(crate::proofs::Steps::leftmost_append), unfolding(crate::specs::Actions::keys_faults))]
-fn keys_fault(least: Option<Fault>, whole: Place, trees: &[Tree]) -> Option<Fault>
-    ensures { result ≡ leftmost least (keys_faults whole Part.Key 0 (nodes_in trees.now)) }
+/// The first fault, with those of the parameters among these behind so many that are left.
+fn surplus_among<'t>(least: Option<Fault<'t>>, left: u64, trees: &[Tree]) -> Option<Fault<'t>>
+    ensures { result ≡ leftmost least.entry (flat_map (λ n. surplus (place_of n))
+        (drop left (filter is_variable_word (nodes_in trees.now)))) }
 {
     let mut first = least;
-    let mut part = Part::Key;
-    let mut count = 0;
+    let mut left_now = left;
     for tree in trees {
-        first = part_fault(first, part, count, tree);
-        count = count_with(count, part, tree);
-        part = behind(part, tree);
+        first = one_surplus(first, left_now, tree);
+        left_now = left_behind(left_now, tree);
     }
-    missing_value(first, whole, part)
+    first
 }
 
-/// Whether a word stands among these.
-#[tactic(auto, using(crate::proofs::Steps::leftmost_append), unfolding(crate::specs::Actions::stands_among))]
-fn stands_among(before: &[Tree], tree: &Tree) -> bool
-    ensures { result ≡ among_test (nodes_in before.now) (node_of tree.now) }
+/// How many parameters are left behind those among these.
+fn left_behind_all(left: u64, trees: &[Tree]) -> u64
+    ensures { result ≡ left - length (filter is_variable_word (nodes_in trees.now)) }
 {
-    for other in before {
-        if is_same_word(other, tree) {
+    let mut left_now = left;
+    for tree in trees {
+        left_now = left_behind(left_now, tree);
+    }
+    left_now
+}
+
+/// The first fault, with those of parameters behind the twelfth.
+#[tactic(auto, unfolding(crate::specs::Faults::Actions::surplus_faults))]
+fn surplus_fault<'t>(least: Option<Fault<'t>>, trees: &[Tree]) -> Option<Fault<'t>>
+    ensures { result ≡ leftmost least.entry (surplus_faults (keys_of (nodes_in trees.now))) }
+{
+    let mut first = least;
+    let mut left = MOST_PARAMETERS;
+    let mut rest = trees;
+    while let Some(k) = first_key(rest) {
+        let named = parameter_members(k.key, k.value);
+        first = surplus_among(first, left, named);
+        left = left_behind_all(left, named);
+        rest = k.behind;
+    }
+    first
+}
+
+/// Whether this word is one of the first so many keys.
+fn stands_among(trees: &[Tree], count: usize, key: &[u8]) -> bool
+    ensures { result
+        ≡ is_among_keys bytes_eq (map key_word (take count (keys_of (nodes_in trees.now)))) key.now }
+{
+    let mut left = count;
+    let mut rest = trees;
+    while let Some(k) = first_key(rest) {
+        if left == 0 {
+            return false;
+        }
+        if is_same(word(k.key), key) {
             return true;
         }
+        left -= 1;
+        rest = k.behind;
     }
     false
 }
 
-/// Whether a tree is a key that stands among these too.
-#[tactic(auto, using(crate::proofs::Steps::leftmost_append), unfolding(crate::specs::Actions::is_repeated))]
-fn is_repeated(before: &[Tree], tree: &Tree) -> bool
-    ensures { result ≡ repeated_test (nodes_in before.now) (node_of tree.now) }
+/// The first fault, with that of a key behind so many others that one of them repeats.
+#[tactic(auto, using(crate::proofs::Steps::behind_all))]
+fn repeat_fault<'t>(
+    least: Option<Fault<'t>>,
+    trees: &[Tree],
+    count: usize,
+    key: &Tree,
+) -> Option<Fault<'t>>
+    ensures { result ≡ leftmost least.entry (if key_test (node_of key.now)
+        && is_among_keys bytes_eq (map key_word (take count (keys_of (nodes_in trees.now)))) (word_of (node_of key.now))
+        then misshapen (place_of (node_of key.now)) else []) }
 {
-    behind_key(tree) != Part::Key && stands_among(before, tree)
-}
-
-/// The first fault, with that of a key that stands before too.
-#[tactic(auto, using(crate::proofs::Steps::behind_all), unfolding(crate::specs::Actions::repeated_faults))]
-fn repeated_fault(least: Option<Fault>, before: &[Tree], tree: &Tree) -> Option<Fault>
-    ensures { result ≡ leftmost least (repeated_faults (nodes_in before.now) (node_of tree.now)) }
-{
-    if !is_behind(least, place(tree), FaultKind::Shape) && is_repeated(before, tree) {
-        with(least, place(tree), FaultKind::Shape)
+    if !is_behind(&least, place(key), FaultKind::Shape)
+        && is_key(key)
+        && stands_among(trees, count, word(key))
+    {
+        with(least, place(key), FaultKind::Shape)
     } else {
         least
     }
 }
 
 /// The first fault, with those of keys that stand more than once.
-#[tactic(auto, using(crate::proofs::Steps::leftmost_append), unfolding(crate::specs::Actions::all_repeated_faults))]
-fn repeats_fault(least: Option<Fault>, trees: &[Tree]) -> Option<Fault>
-    ensures { result ≡ leftmost least (all_repeated_faults [] (nodes_in trees.now)) }
+#[tactic(auto, unfolding(crate::specs::Faults::Actions::repeated_faults))]
+fn repeats_fault<'t>(least: Option<Fault<'t>>, trees: &[Tree]) -> Option<Fault<'t>>
+    ensures { result ≡ leftmost least.entry (repeated_faults (keys_of (nodes_in trees.now))) }
 {
     let mut first = least;
-    for (i, tree) in trees.iter().enumerate() {
-        first = repeated_fault(first, &trees[..i], tree);
+    let mut count = 0;
+    let mut rest = trees;
+    while let Some(k) = first_key(rest) {
+        first = repeat_fault(first, trees, count, k.key);
+        count += 1;
+        rest = k.behind;
     }
     first
 }
 
+/// The first fault, with those of all keys of the action at this place.
+#[tactic(auto, using(crate::proofs::Steps::leftmost_append))]
+fn keys_fault<'t>(least: Option<Fault<'t>>, whole: Place, trees: &'t [Tree]) -> Option<Fault<'t>>
+    ensures { result ≡ leftmost least.entry (keys_faults whole (keys_of (nodes_in trees.now))) }
+{
+    let each = each_key_fault(least, whole, trees);
+    repeats_fault(surplus_fault(each, trees), trees)
+}
+
 /// The first fault, with those of an action, whose members behind its first word these are.
-#[tactic(auto, using(crate::proofs::Steps::leftmost_append), unfolding(crate::specs::Actions::action_faults))]
-pub fn action_fault(least: Option<Fault>, whole: Place, trees: &[Tree]) -> Option<Fault>
-    ensures { result ≡ leftmost least (action_faults whole (nodes_in trees.now)) }
+#[tactic(auto, using(crate::proofs::Steps::leftmost_append), unfolding(crate::specs::Faults::Actions::action_faults))]
+pub fn action_fault<'t>(
+    least: Option<Fault<'t>>,
+    whole: Place,
+    trees: &'t [Tree],
+) -> Option<Fault<'t>>
+    ensures { result ≡ leftmost least.entry (action_faults whole (nodes_in trees.now)) }
 {
     match trees {
         [] => with(least, whole, FaultKind::Shape),
-        [called, keys @ ..] => {
-            let first = name_fault(least, called);
-            repeats_fault(keys_fault(first, whole, keys), keys)
-        }
+        [called, keys @ ..] => keys_fault(name_fault(least, called), whole, keys),
     }
 }

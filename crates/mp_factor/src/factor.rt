@@ -2,6 +2,7 @@
 
 use crate::atom_values::AtomList;
 use crate::init_values::ValueList;
+use crate::literal::LiteralList;
 use crate::schema_values::SchemaList;
 use crate::signature_values::SignatureList;
 use crate::typed_values::TypedList;
@@ -60,8 +61,8 @@ pub struct Problem {
     pub init: AtomList,
     /// The values of functions.
     pub values: ValueList,
-    /// The atoms that are to hold in the end.
-    pub goals: AtomList,
+    /// The literals that are to hold in the end.
+    pub goals: LiteralList,
     /// Whether the total cost is to be least; otherwise each action costs 1.
     pub metric: bool,
 }

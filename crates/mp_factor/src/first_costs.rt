@@ -7,8 +7,8 @@ ghost use Rattle.std.specs.Cmp.Lexicographic.{slice_cmp};
 ghost use Rattle.mp_sexp.specs.Node.{Node, node_of, nodes_in};
 ghost use Rattle.mp_factor.specs.Faults.{leftmost};
 ghost use Rattle.mp_factor.specs.Parts.{parts};
-ghost use Rattle.mp_factor.specs.Init.{same_cost, number_faults, second_faults};
-ghost use Rattle.mp_factor.specs.FirstCosts.{word_key, key_of as key_of_words, are_words as words_test, gives_value as gives_value_test, AreFirst};
+ghost use Rattle.mp_factor.specs.Faults.Init.{same_cost, number_faults, second_faults};
+ghost use Rattle.mp_factor.specs.Faults.FirstCosts.{word_key, key_of as key_of_words, are_words as words_test, gives_value as gives_value_test, AreFirst};
 
 use crate::fault::{Fault, FaultKind, with};
 use crate::init::{cost_given, function_words, is_value};
@@ -25,7 +25,7 @@ pub type FirstCosts = BTreeMap<Vec<u16>, Option<u64>>;
 const USUAL_KEY: usize = 16;
 
 /// Whether all of these are words.
-#[tactic(auto, unfolding(crate::specs::FirstCosts::are_words))]
+#[tactic(auto, unfolding(crate::specs::Faults::FirstCosts::are_words))]
 fn are_words(trees: &[Tree]) -> bool
     ensures { result ≡ words_test (nodes_in trees.now) }
 {
@@ -49,7 +49,7 @@ fn add_word(key: &mut Vec<u16>, word: &[u8]) -> Result<(), OutOfMemory>
 }
 
 /// The key of some words. Refuses only for want of memory.
-#[tactic(auto, using(crate::proofs::BuildSteps::append_steps), unfolding(crate::specs::FirstCosts::key_of))]
+#[tactic(auto, using(crate::proofs::BuildSteps::append_steps), unfolding(crate::specs::Faults::FirstCosts::key_of))]
 fn key_of(alloc: Global, words: &[Tree]) -> Result<Vec<u16>, OutOfMemory>
     ensures { IfOk result (λ key. key.items ≡ key_of_words (nodes_in words.now)) }
 {
@@ -61,7 +61,7 @@ fn key_of(alloc: Global, words: &[Tree]) -> Result<Vec<u16>, OutOfMemory>
 }
 
 /// Whether a tree gives a value to a function of words.
-#[tactic(auto, unfolding(crate::specs::FirstCosts::gives_value))]
+#[tactic(auto, unfolding(crate::specs::Faults::FirstCosts::gives_value))]
 fn gives_value(tree: &Tree) -> bool
     ensures { result ≡ gives_value_test (node_of tree.now) }
 {
@@ -83,8 +83,12 @@ fn is_same(a: Option<u64>, b: Option<u64>) -> bool
 }
 
 /// The first fault, with that of a value that is another one than the first of its function.
-fn differing_fault(least: Option<Fault>, is_other: bool, tree: &Tree) -> Option<Fault>
-    ensures { result ≡ leftmost least (number_faults is_other (parts (node_of tree.now))) }
+fn differing_fault<'t>(
+    least: Option<Fault<'t>>,
+    is_other: bool,
+    tree: &'t Tree,
+) -> Option<Fault<'t>>
+    ensures { result ≡ leftmost least.entry (number_faults is_other (parts (node_of tree.now))) }
 {
     match members(tree) {
         [_, _, number] if is_other => with(least, place(number), FaultKind::Cost),
@@ -94,14 +98,14 @@ fn differing_fault(least: Option<Fault>, is_other: bool, tree: &Tree) -> Option<
 
 /// The first fault, with that of a value that differs from an earlier one, where these are the costs of the earlier
 /// ones; then they are those of this one too. Refuses only for want of memory.
-pub fn second_fault(
+pub fn second_fault<'t>(
     alloc: Global,
-    least: Option<Fault>,
+    least: Option<Fault<'t>>,
     costs: &mut FirstCosts,
-    tree: &Tree,
-) -> Result<Option<Fault>, OutOfMemory>
+    tree: &'t Tree,
+) -> Result<Option<Fault<'t>>, OutOfMemory>
     ensures fault { (before : List Node) → AreFirst costs.old before
-        → IfOk result (λ first. first ≡ leftmost least (second_faults before (node_of tree.now))) }
+        → IfOk result (λ first. first ≡ leftmost least.entry (second_faults before (node_of tree.now))) }
     ensures costs { (before : List Node) → AreFirst costs.old before
         → OnOk result (AreFirst costs.new (before ++ node_of tree.now ∷ [])) }
 {

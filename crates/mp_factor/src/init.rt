@@ -3,7 +3,7 @@
 ghost use Rattle.std.specs.Prelude.{◌≡◌, [], IfOk};
 ghost use Rattle.mp_sexp.specs.Node.{node_of, nodes_in};
 ghost use Rattle.mp_factor.specs.Faults.{leftmost};
-ghost use Rattle.mp_factor.specs.Init.{function_faults, value_faults, fact_faults, facts_faults, function_in, cost_in, is_value as value_test, all_second_faults, init_faults};
+ghost use Rattle.mp_factor.specs.Faults.Init.{function_faults, value_faults, fact_faults, facts_faults, function_in, cost_in, is_value as value_test, all_second_faults, init_faults};
 
 use crate::conditions::atom_fault;
 use crate::effects::cost_fault;
@@ -18,9 +18,9 @@ use std::alloc::Global;
 use std::collections::BTreeMap;
 
 /// The first fault, with those of what should be a function of names.
-#[tactic(auto, using(crate::proofs::Steps::leftmost_append), unfolding(crate::specs::Init::function_faults))]
-fn function_fault(least: Option<Fault>, tree: &Tree) -> Option<Fault>
-    ensures { result ≡ leftmost least (function_faults (node_of tree.now)) }
+#[tactic(auto, using(crate::proofs::Steps::leftmost_append), unfolding(crate::specs::Faults::Init::function_faults))]
+fn function_fault<'t>(least: Option<Fault<'t>>, tree: &'t Tree) -> Option<Fault<'t>>
+    ensures { result ≡ leftmost least.entry (function_faults (node_of tree.now)) }
 {
     match members(tree) {
         [] => with(least, place(tree), FaultKind::Shape),
@@ -29,9 +29,9 @@ fn function_fault(least: Option<Fault>, tree: &Tree) -> Option<Fault>
 }
 
 /// The first fault, with those of a value, whose members behind `=` these are.
-#[tactic(auto, using(crate::proofs::Steps::leftmost_append), unfolding(crate::specs::Init::value_faults))]
-fn value_fault(least: Option<Fault>, whole: Place, trees: &[Tree]) -> Option<Fault>
-    ensures { result ≡ leftmost least (value_faults whole (nodes_in trees.now)) }
+#[tactic(auto, using(crate::proofs::Steps::leftmost_append), unfolding(crate::specs::Faults::Init::value_faults))]
+fn value_fault<'t>(least: Option<Fault<'t>>, whole: Place, trees: &'t [Tree]) -> Option<Fault<'t>>
+    ensures { result ≡ leftmost least.entry (value_faults whole (nodes_in trees.now)) }
 {
     match trees {
         [] => with(least, whole, FaultKind::Shape),
@@ -44,9 +44,9 @@ fn value_fault(least: Option<Fault>, whole: Place, trees: &[Tree]) -> Option<Fau
 }
 
 /// The first fault, with those of a fact or value.
-#[tactic(auto, using(crate::proofs::Steps::leftmost_append), unfolding(crate::specs::Init::fact_faults))]
-fn fact_fault(least: Option<Fault>, tree: &Tree) -> Option<Fault>
-    ensures { result ≡ leftmost least (fact_faults (node_of tree.now)) }
+#[tactic(auto, using(crate::proofs::Steps::leftmost_append), unfolding(crate::specs::Faults::Init::fact_faults))]
+fn fact_fault<'t>(least: Option<Fault<'t>>, tree: &'t Tree) -> Option<Fault<'t>>
+    ensures { result ≡ leftmost least.entry (fact_faults (node_of tree.now)) }
 {
     if is_headed(tree, b"=") {
         match members(tree) {
@@ -59,9 +59,9 @@ fn fact_fault(least: Option<Fault>, tree: &Tree) -> Option<Fault>
 }
 
 /// The first fault, with those of the facts and values, each by itself.
-#[tactic(auto, using(crate::proofs::Steps::leftmost_append), unfolding(crate::specs::Init::facts_faults))]
-fn facts_fault(least: Option<Fault>, trees: &[Tree]) -> Option<Fault>
-    ensures { result ≡ leftmost least (facts_faults (nodes_in trees.now)) }
+#[tactic(auto, using(crate::proofs::Steps::leftmost_append), unfolding(crate::specs::Faults::Init::facts_faults))]
+fn facts_fault<'t>(least: Option<Fault<'t>>, trees: &'t [Tree]) -> Option<Fault<'t>>
+    ensures { result ≡ leftmost least.entry (facts_faults (nodes_in trees.now)) }
 {
     let mut first = least;
     for tree in trees {
@@ -71,7 +71,7 @@ fn facts_fault(least: Option<Fault>, trees: &[Tree]) -> Option<Fault>
 }
 
 /// The words of a value's function; those of anything else are none.
-#[tactic(auto, using(crate::proofs::Steps::leftmost_append), unfolding(crate::specs::Init::function_in))]
+#[tactic(auto, using(crate::proofs::Steps::leftmost_append), unfolding(crate::specs::Faults::Init::function_in))]
 pub fn function_words(tree: &Tree) -> &[Tree]
     ensures { nodes_in result.now ≡ function_in (node_of tree.now) }
 {
@@ -82,7 +82,7 @@ pub fn function_words(tree: &Tree) -> &[Tree]
 }
 
 /// The cost that a value gives.
-#[tactic(auto, using(crate::proofs::Steps::leftmost_append), unfolding(crate::specs::Init::cost_in))]
+#[tactic(auto, using(crate::proofs::Steps::leftmost_append), unfolding(crate::specs::Faults::Init::cost_in))]
 pub fn cost_given(tree: &Tree) -> Option<u64>
     ensures { result ≡ cost_in (node_of tree.now) }
 {
@@ -100,13 +100,14 @@ pub fn is_value(tree: &Tree) -> bool
 }
 
 /// The first fault, with those of values that differ from earlier ones. Refuses only for want of memory.
-#[tactic(auto, using(crate::proofs::Steps::leftmost_append), unfolding(crate::specs::Init::all_second_faults))]
-fn seconds_fault(
+#[tactic(auto, using(crate::proofs::Steps::leftmost_append), unfolding(crate::specs::Faults::Init::all_second_faults))]
+fn seconds_fault<'t>(
     alloc: Global,
-    least: Option<Fault>,
-    trees: &[Tree],
-) -> Result<Option<Fault>, OutOfMemory>
-    ensures { IfOk result (λ first. first ≡ leftmost least (all_second_faults [] (nodes_in trees.now))) }
+    least: Option<Fault<'t>>,
+    trees: &'t [Tree],
+) -> Result<Option<Fault<'t>>, OutOfMemory>
+    ensures { IfOk result (λ first. first
+        ≡ leftmost least.entry (all_second_faults [] (nodes_in trees.now))) }
 {
     let mut first = least;
     let mut costs = BTreeMap::new(alloc);
@@ -117,13 +118,13 @@ fn seconds_fault(
 }
 
 /// The first fault, with those of the facts and values at the start. Refuses only for want of memory.
-#[tactic(auto, using(crate::proofs::Steps::leftmost_append), unfolding(crate::specs::Init::init_faults))]
-pub fn init_fault(
+#[tactic(auto, using(crate::proofs::Steps::leftmost_append), unfolding(crate::specs::Faults::Init::init_faults))]
+pub fn init_fault<'t>(
     alloc: Global,
-    least: Option<Fault>,
-    trees: &[Tree],
-) -> Result<Option<Fault>, OutOfMemory>
-    ensures { IfOk result (λ first. first ≡ leftmost least (init_faults (nodes_in trees.now))) }
+    least: Option<Fault<'t>>,
+    trees: &'t [Tree],
+) -> Result<Option<Fault<'t>>, OutOfMemory>
+    ensures { IfOk result (λ first. first ≡ leftmost least.entry (init_faults (nodes_in trees.now))) }
 {
     seconds_fault(alloc, facts_fault(least, trees), trees)
 }

@@ -2,7 +2,7 @@
 
 ghost use Rattle.std.specs.Prelude.{◌≡◌, ◌++◌, IfOk, OnOk};
 ghost use Rattle.mp_sexp.specs.Node.{node_of, nodes_in};
-ghost use Rattle.mp_factor.specs.InitValues.{fact_in, fact_values, value_among, value_in, cost_values};
+ghost use Rattle.mp_factor.specs.Values.Init.{fact_in, fact_values, value_among, value_in, cost_values};
 
 use crate::atom_values::{Atom, AtomList, atom_in};
 use crate::effect_values::cost_in;
@@ -34,7 +34,7 @@ impl Copied for Value {
 }
 
 /// Adds an atom.
-#[tactic(auto, unfolding(crate::specs::InitValues::fact_in))]
+#[tactic(auto, unfolding(crate::specs::Values::Init::fact_in))]
 fn add_fact(alloc: Global, out: &mut AtomList, tree: &Tree) -> Result<(), OutOfMemory>
     ensures { OnOk result (out.new ≡ out.old ++ fact_in (node_of tree.now)) }
 {
@@ -46,7 +46,7 @@ fn add_fact(alloc: Global, out: &mut AtomList, tree: &Tree) -> Result<(), OutOfM
 }
 
 /// The facts at the start.
-#[tactic(auto, using(crate::proofs::BuildSteps::append_steps), unfolding(crate::specs::InitValues::fact_values))]
+#[tactic(auto, using(crate::proofs::BuildSteps::append_steps), unfolding(crate::specs::Values::Init::fact_values))]
 pub fn facts_in(alloc: Global, trees: &[Tree]) -> Result<AtomList, OutOfMemory>
     ensures { IfOk result (λ facts. facts ≡ fact_values (nodes_in trees.now)) }
 {
@@ -71,7 +71,7 @@ fn add_among(alloc: Global, out: &mut ValueList, trees: &[Tree]) -> Result<(), O
 }
 
 /// Adds a value.
-#[tactic(auto, unfolding(crate::specs::InitValues::value_in))]
+#[tactic(auto, unfolding(crate::specs::Values::Init::value_in))]
 fn add_value(alloc: Global, out: &mut ValueList, tree: &Tree) -> Result<(), OutOfMemory>
     ensures { OnOk result (out.new ≡ out.old ++ value_in (node_of tree.now)) }
 {
@@ -83,7 +83,7 @@ fn add_value(alloc: Global, out: &mut ValueList, tree: &Tree) -> Result<(), OutO
 }
 
 /// The values at the start.
-#[tactic(auto, using(crate::proofs::BuildSteps::append_steps), unfolding(crate::specs::InitValues::cost_values))]
+#[tactic(auto, using(crate::proofs::BuildSteps::append_steps), unfolding(crate::specs::Values::Init::cost_values))]
 pub fn values_in(alloc: Global, trees: &[Tree]) -> Result<ValueList, OutOfMemory>
     ensures { IfOk result (λ values. values ≡ cost_values (nodes_in trees.now)) }
 {

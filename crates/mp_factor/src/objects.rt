@@ -1,25 +1,25 @@
-//! Lists of objects: typed lists of names that may hold private blocks.
+//! Private blocks, and lists of objects with them.
 
 ghost use Rattle.std.specs.Prelude.{◌≡◌};
-ghost use Rattle.mp_sexp.specs.Node.{node_of, nodes_in};
+ghost use Rattle.mp_sexp.specs.Node.{node_of};
 ghost use Rattle.mp_factor.specs.Faults.{leftmost};
-ghost use Rattle.mp_factor.specs.Objects.{block_faults, object_faults, objects_faults};
+ghost use Rattle.mp_factor.specs.Faults.Objects.{block_faults, objects};
 
 use crate::fault::{Fault, FaultKind, with};
 use crate::trees::{is_list, is_word, members, place};
-use crate::typed::{ItemKind, Last, behind, member_fault, missing_type, typed_fault};
-use mp_sexp::{Place, Tree};
+use crate::typed::{Listing, Names, typed_fault};
+use mp_sexp::Tree;
 
-/// The first fault, with those of a private block of objects.
-#[tactic(auto, using(crate::proofs::Steps::leftmost_append), unfolding(crate::specs::Objects::block_faults))]
-fn block_fault(least: Option<Fault>, tree: &Tree) -> Option<Fault>
-    ensures { result ≡ leftmost least (block_faults (node_of tree.now)) }
+/// The first fault, with those of a private block that holds such a list.
+#[tactic(auto, using(crate::proofs::Steps::leftmost_append), unfolding(crate::specs::Faults::Objects::block_faults))]
+pub fn block_fault<'t, L: Listing>(least: Option<Fault<'t>>, tree: &'t Tree) -> Option<Fault<'t>>
+    ensures { result ≡ leftmost least.entry (block_faults L.form (node_of tree.now)) }
 {
     match members(tree) {
         [] => with(least, place(tree), FaultKind::Shape),
-        [head, names @ ..] => {
+        [head, inside @ ..] => {
             if is_word(head, b":private") {
-                typed_fault(least, ItemKind::Names, place(tree), names)
+                typed_fault::<L>(least, place(tree), inside)
             } else {
                 with(least, place(head), FaultKind::Shape)
             }
@@ -27,33 +27,25 @@ fn block_fault(least: Option<Fault>, tree: &Tree) -> Option<Fault>
     }
 }
 
-/// The first fault, with those of one member of a list of objects.
-#[tactic(auto, using(crate::proofs::Steps::leftmost_append), unfolding(crate::specs::Objects::object_faults))]
-fn object_fault(least: Option<Fault>, last: Last, tree: &Tree) -> Option<Fault>
-    ensures { result ≡ leftmost least (object_faults last (node_of tree.now)) }
-{
-    match last {
-        Last::Dash => member_fault(least, ItemKind::Names, last, tree),
-        Last::Item | Last::Part => {
-            if is_list(tree) {
-                block_fault(least, tree)
-            } else {
-                member_fault(least, ItemKind::Names, last, tree)
-            }
+/// A list of objects.
+pub struct Objects;
+
+impl Listing for Objects {
+    ghost form = { objects };
+
+    fn item_fault<'t>(least: Option<Fault<'t>>, tree: &'t Tree) -> Option<Fault<'t>> {
+        if is_list(tree) {
+            block_fault::<Names>(least, tree)
+        } else {
+            Names::item_fault(least, tree)
         }
     }
-}
 
-/// The first fault, with those of the objects that stand in the list at this place.
-#[tactic(auto, using(crate::proofs::Steps::leftmost_append), unfolding(crate::specs::Objects::objects_faults))]
-pub fn objects_fault(least: Option<Fault>, whole: Place, trees: &[Tree]) -> Option<Fault>
-    ensures { result ≡ leftmost least (objects_faults whole Last.Part (nodes_in trees.now)) }
-{
-    let mut first = least;
-    let mut last = Last::Part;
-    for tree in trees {
-        first = object_fault(first, last, tree);
-        last = behind(last, tree);
+    fn takes_type(tree: &Tree) -> bool {
+        !is_list(tree) && Names::takes_type(tree)
     }
-    missing_type(first, whole, last)
+
+    fn type_fault<'t>(least: Option<Fault<'t>>, tree: &'t Tree) -> Option<Fault<'t>> {
+        Names::type_fault(least, tree)
+    }
 }

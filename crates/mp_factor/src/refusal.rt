@@ -1,14 +1,11 @@
 //! Why a tree is no domain or problem.
 
-ghost use Rattle.std.specs.Prelude.{◌≡◌};
-ghost use Rattle.std.specs.Option.{option_map};
-ghost use Rattle.mp_sexp.specs.Node.{node_of, nodes_in};
-ghost use Rattle.mp_factor.specs.Shapes.{word_at as word_at_of, words_at, Says};
-ghost use Rattle.mp_factor.specs.Faults.{fault_at};
+ghost use Rattle.std.specs.Prelude.{◌≡◌, IfOk};
+ghost use Rattle.mp_factor.specs.Shapes.{Says};
 
 use crate::fault::{Fault, FaultKind};
 use mp_list::{Copied, OutOfMemory};
-use mp_sexp::{Name, Place, Tree};
+use mp_sexp::{Name, Place};
 use std::alloc::Global;
 use thiserror::Error;
 
@@ -44,52 +41,26 @@ impl From<OutOfMemory> for ShapeRefusal {
     }
 }
 
-/// The first word of a tree, in reading order, that stands at this place.
-#[tactic(auto, unfolding(crate::specs::Shapes::word_at))]
-#[cycle(words)]
-fn word_at(place: Place, tree: &Tree) -> Option<&Name>
-    ensures { option_map (λ w. w.now) result ≡ word_at_of place (node_of tree.now) }
+/// A copy of the word of a fault; that of none is empty. Refuses only for want of memory.
+fn word_copy(alloc: Global, fault: &Fault<'_>) -> Result<Name, OutOfMemory>
+    ensures { IfOk result (λ name. name ≡ fault.now.word) }
 {
-    match tree {
-        Tree::Word(name, at) => { if place == *at { Some(name) } else { None } }
-        Tree::List(list, _) => word_among(place, list.items.as_slice()),
-    }
-}
-
-/// The first word in these trees that stands at this place.
-#[tactic(auto, unfolding(crate::specs::Shapes::words_at))]
-#[cycle(words)]
-fn word_among(place: Place, trees: &[Tree]) -> Option<&Name>
-    ensures { option_map (λ w. w.now) result ≡ words_at place (nodes_in trees.now) }
-{
-    for tree in trees {
-        if let Some(name) = word_at(place, tree) {
-            return Some(name);
-        }
-    }
-    None
-}
-
-/// The refusal of a word at this place that is not supported.
-fn unsupported(alloc: Global, place: Place, tree: &Tree) -> ShapeRefusal
-    ensures { Says (node_of tree.now) (fault_at place FaultKind.Unsupported) result }
-{
-    match word_at(place, tree) {
-        Some(name) => match name.copy() {
-            Ok(word) => ShapeRefusal::Unsupported(word, place),
-            Err(_) => ShapeRefusal::OutOfMemory,
-        },
-        None => ShapeRefusal::Unsupported(Name::new(alloc), place),
+    match fault.word {
+        Some(name) => name.copy(),
+        None => Ok(Name::new(alloc)),
     }
 }
 
 /// The refusal of a tree with this fault.
-pub fn refusal_of(alloc: Global, fault: Fault, tree: &Tree) -> ShapeRefusal
-    ensures { Says (node_of tree.now) fault result }
+pub fn refusal_of(alloc: Global, fault: Fault<'_>) -> ShapeRefusal
+    ensures { Says fault.entry result }
 {
     match fault.kind {
         FaultKind::Shape => ShapeRefusal::Shape(fault.place),
-        FaultKind::Unsupported => unsupported(alloc, fault.place, tree),
+        FaultKind::Unsupported => match word_copy(alloc, &fault) {
+            Ok(word) => ShapeRefusal::Unsupported(word, fault.place),
+            Err(_) => ShapeRefusal::OutOfMemory,
+        },
         FaultKind::Parameters => ShapeRefusal::Parameters(fault.place),
         FaultKind::Cost => ShapeRefusal::Cost(fault.place),
     }

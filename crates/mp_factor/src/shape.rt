@@ -2,16 +2,16 @@
 
 ghost use Rattle.std.specs.Prelude.{◌≡◌, ◌++◌, [], false, codes, IfOk, IfErr, OnOk};
 ghost use Rattle.mp_sexp.specs.Node.{node_of, nodes_in};
-ghost use Rattle.mp_factor.specs.Files.{file_faults};
-ghost use Rattle.mp_factor.specs.FileValues.{section_in as section_in_of, schema_in as schema_in_of, schema_values, first_condition, title_word, domain_parts, domain_value, problem_parts, problem_value};
-ghost use Rattle.mp_factor.specs.TypedValues.{typed_values};
+ghost use Rattle.mp_factor.specs.Faults.Files.{domain_faults, problem_faults};
+ghost use Rattle.mp_factor.specs.Values.Files.{section_in as section_in_of, schema_in as schema_in_of, schema_values, first_condition, title_word, domain_parts, domain_value, problem_parts, problem_value};
+ghost use Rattle.mp_factor.specs.Values.Typed.{typed_values};
 ghost use Rattle.mp_factor.specs.Limits.{DomainFits, ProblemFits};
 ghost use Rattle.mp_factor.specs.Shapes.{Refuses};
 
-use crate::atom_values::{AtomList, add_condition};
 use crate::factor::{Domain, Problem};
-use crate::files::{File, domain_fault, has_section, problem_fault};
+use crate::files::{domain_fault, has_section, problem_fault};
 use crate::init_values::{facts_in, values_in};
+use crate::literal::{LiteralList, add_condition};
 use crate::refusal::{ShapeRefusal, refusal_of};
 use crate::schema_values::{SchemaList, schema_in};
 use crate::signature_values::signatures_in;
@@ -23,7 +23,7 @@ use mp_sexp::Tree;
 use std::alloc::Global;
 
 /// What stands behind this word in the first section that begins with it.
-#[tactic(auto, unfolding(crate::specs::FileValues::section_in))]
+#[tactic(auto, unfolding(crate::specs::Values::Files::section_in))]
 fn section_in<'a>(trees: &'a [Tree], keyword: &[u8]) -> &'a [Tree]
     ensures { nodes_in result.now ≡ section_in_of keyword.now (nodes_in trees.now) }
 {
@@ -47,7 +47,7 @@ fn add_schema(alloc: Global, out: &mut SchemaList, tree: &Tree) -> Result<(), Ou
 }
 
 /// The actions among the sections.
-#[tactic(auto, using(crate::proofs::BuildSteps::append_steps), unfolding(crate::specs::FileValues::schema_values))]
+#[tactic(auto, using(crate::proofs::BuildSteps::append_steps), unfolding(crate::specs::Values::Files::schema_values))]
 fn schemas_in(alloc: Global, trees: &[Tree]) -> Result<SchemaList, OutOfMemory>
     ensures { IfOk result (λ schemas. schemas ≡ schema_values (nodes_in trees.now)) }
 {
@@ -58,8 +58,8 @@ fn schemas_in(alloc: Global, trees: &[Tree]) -> Result<SchemaList, OutOfMemory>
     Ok(out)
 }
 
-/// The atoms of the condition that comes first.
-fn goals_in(alloc: Global, trees: &[Tree]) -> Result<AtomList, OutOfMemory>
+/// The literals of the condition that comes first.
+fn goals_in(alloc: Global, trees: &[Tree]) -> Result<LiteralList, OutOfMemory>
     ensures { IfOk result (λ goals. goals ≡ first_condition (nodes_in trees.now)) }
 {
     let mut goals = List::new(alloc);
@@ -82,7 +82,7 @@ fn title_in(alloc: Global, trees: &[Tree]) -> Result<Word, OutOfMemory>
 
 /// The types that a domain declares.
 fn types_in(alloc: Global, sections: &[Tree]) -> Result<TypedList, OutOfMemory>
-    ensures { IfOk result (λ types. types ≡ typed_values false false (section_in_of (codes ":types") (nodes_in sections.now))) }
+    ensures { IfOk result (λ types. types ≡ typed_values false (section_in_of (codes ":types") (nodes_in sections.now))) }
 {
     let mut types = List::new(alloc);
     add_typed(alloc, &mut types, false, section_in(sections, b":types"))?;
@@ -123,32 +123,32 @@ fn problem_of(alloc: Global, trees: &[Tree]) -> Result<Problem, OutOfMemory>
     })
 }
 
-/// What a domain's tree says, or its first fault by place, and at one place by kind.
+/// What a domain's tree says, or its first fault by place, at one place by kind, and then by word.
 ///
 /// Refuses with `Shape`, `Unsupported`, `Parameters` or `Cost` exactly where the first fault is of that kind.
-#[tactic(auto, unfolding(crate::specs::FileValues::domain_value))]
+#[tactic(auto, unfolding(crate::specs::Values::Files::domain_value))]
 pub fn domain(alloc: Global, tree: &Tree) -> Result<Domain, ShapeRefusal>
-    ensures shape { IfOk result (λ domain. file_faults File.Domain (node_of tree.now) ≡ []) }
+    ensures shape { IfOk result (λ domain. domain_faults (node_of tree.now) ≡ []) }
     ensures value { IfOk result (λ domain. domain ≡ domain_value (node_of tree.now)) }
-    ensures fault { IfErr result (Refuses File.Domain (node_of tree.now)) }
+    ensures fault { IfErr result (Refuses domain_faults (node_of tree.now)) }
 {
     match domain_fault(alloc, tree)? {
-        Some(fault) => Err(refusal_of(alloc, fault, tree)),
+        Some(fault) => Err(refusal_of(alloc, fault)),
         None => Ok(domain_of(alloc, behind_first(members(tree)))?),
     }
 }
 
-/// What a problem's tree says, or its first fault by place, and at one place by kind.
+/// What a problem's tree says, or its first fault by place, at one place by kind, and then by word.
 ///
 /// Refuses with `Shape`, `Unsupported` or `Cost` exactly where the first fault is of that kind.
-#[tactic(auto, unfolding(crate::specs::FileValues::problem_value))]
+#[tactic(auto, unfolding(crate::specs::Values::Files::problem_value))]
 pub fn problem(alloc: Global, tree: &Tree) -> Result<Problem, ShapeRefusal>
-    ensures shape { IfOk result (λ problem. file_faults File.Problem (node_of tree.now) ≡ []) }
+    ensures shape { IfOk result (λ problem. problem_faults (node_of tree.now) ≡ []) }
     ensures value { IfOk result (λ problem. problem ≡ problem_value (node_of tree.now)) }
-    ensures fault { IfErr result (Refuses File.Problem (node_of tree.now)) }
+    ensures fault { IfErr result (Refuses problem_faults (node_of tree.now)) }
 {
     match problem_fault(alloc, tree)? {
-        Some(fault) => Err(refusal_of(alloc, fault, tree)),
+        Some(fault) => Err(refusal_of(alloc, fault)),
         None => Ok(problem_of(alloc, behind_first(members(tree)))?),
     }
 }

@@ -1,10 +1,12 @@
 //! What lists of predicates and functions declare.
 
-ghost use Rattle.std.specs.Prelude.{◌≡◌, ◌++◌, IfOk, OnOk};
+ghost use Rattle.std.specs.Prelude.{◌≡◌, ◌++◌, true, IfOk, OnOk};
+ghost use Rattle.std.specs.List.{flat_map};
 ghost use Rattle.mp_sexp.specs.Node.{node_of, nodes_in};
-ghost use Rattle.mp_factor.specs.SignatureValues.{signature_value, declared_by, inner_values, declared_item, signature_values};
+ghost use Rattle.mp_factor.specs.Values.Signatures.{signature_value, plain_values, member_values, signature_values};
 
-use crate::trees::{behind_first, is_headed, is_list, members};
+use crate::signatures::is_block;
+use crate::trees::{behind_first, is_list, members};
 use crate::typed_values::{TypedList, add_typed};
 use crate::word::{Word, first_word_in};
 use mp_list::{Copied, List, OutOfMemory};
@@ -35,7 +37,7 @@ impl Copied for Signature {
 }
 
 /// A name and its variables.
-#[tactic(auto, unfolding(crate::specs::SignatureValues::signature_value))]
+#[tactic(auto, unfolding(crate::specs::Values::Signatures::signature_value))]
 fn signature_in(alloc: Global, private: bool, tree: &Tree) -> Result<Signature, OutOfMemory>
     ensures { IfOk result (λ signature. signature ≡ signature_value private (node_of tree.now)) }
 {
@@ -51,14 +53,14 @@ fn signature_in(alloc: Global, private: bool, tree: &Tree) -> Result<Signature, 
 }
 
 /// Adds what a member declares that is no block.
-#[tactic(auto, unfolding(crate::specs::SignatureValues::declared_by))]
-fn add_signature(
+#[tactic(auto, unfolding(crate::specs::Values::Signatures::plain_values))]
+fn add_plain(
     alloc: Global,
     out: &mut SignatureList,
     private: bool,
     tree: &Tree,
 ) -> Result<(), OutOfMemory>
-    ensures { OnOk result (out.new ≡ out.old ++ declared_by private (node_of tree.now)) }
+    ensures { OnOk result (out.new ≡ out.old ++ plain_values private (node_of tree.now)) }
 {
     if is_list(tree) {
         out.push(signature_in(alloc, private, tree)?)
@@ -67,42 +69,37 @@ fn add_signature(
     }
 }
 
-/// Adds what the members of a block declare.
-#[tactic(auto, using(crate::proofs::BuildSteps::append_steps), unfolding(crate::specs::SignatureValues::inner_values))]
-fn add_inner(
-    alloc: Global,
-    out: &mut SignatureList,
-    private: bool,
-    trees: &[Tree],
-) -> Result<(), OutOfMemory>
-    ensures { OnOk result (out.new ≡ out.old ++ inner_values private (nodes_in trees.now)) }
+/// Adds what the members of a private block declare.
+#[tactic(auto, using(crate::proofs::BuildSteps::append_steps))]
+fn add_private(alloc: Global, out: &mut SignatureList, trees: &[Tree]) -> Result<(), OutOfMemory>
+    ensures { OnOk result (out.new ≡ out.old ++ flat_map (plain_values true) (nodes_in trees.now)) }
 {
     for tree in trees {
-        add_signature(alloc, out, private, tree)?;
+        add_plain(alloc, out, true, tree)?;
     }
     Ok(())
 }
 
 /// Adds what a member declares, a block too.
-#[tactic(auto, unfolding(crate::specs::SignatureValues::declared_item))]
-fn add_item(alloc: Global, out: &mut SignatureList, tree: &Tree) -> Result<(), OutOfMemory>
-    ensures { OnOk result (out.new ≡ out.old ++ declared_item (node_of tree.now)) }
+#[tactic(auto, unfolding(crate::specs::Values::Signatures::member_values))]
+fn add_member(alloc: Global, out: &mut SignatureList, tree: &Tree) -> Result<(), OutOfMemory>
+    ensures { OnOk result (out.new ≡ out.old ++ member_values (node_of tree.now)) }
 {
-    if is_headed(tree, b":private") {
-        add_inner(alloc, out, true, behind_first(members(tree)))
+    if is_block(tree) {
+        add_private(alloc, out, behind_first(members(tree)))
     } else {
-        add_signature(alloc, out, false, tree)
+        add_plain(alloc, out, false, tree)
     }
 }
 
 /// What a list of predicates or functions declares, its private blocks too.
-#[tactic(auto, using(crate::proofs::BuildSteps::append_steps), unfolding(crate::specs::SignatureValues::signature_values))]
+#[tactic(auto, using(crate::proofs::BuildSteps::append_steps))]
 pub fn signatures_in(alloc: Global, trees: &[Tree]) -> Result<SignatureList, OutOfMemory>
     ensures { IfOk result (λ signatures. signatures ≡ signature_values (nodes_in trees.now)) }
 {
     let mut out = List::new(alloc);
     for tree in trees {
-        add_item(alloc, &mut out, tree)?;
+        add_member(alloc, &mut out, tree)?;
     }
     Ok(out)
 }

@@ -1,32 +1,31 @@
 //! Predicates and functions: names with typed variables, which may stand in private blocks.
 
-ghost use Rattle.std.specs.Prelude.{◌≡◌};
-ghost use Rattle.mp_sexp.specs.Node.{node_of, nodes_in};
+ghost use Rattle.std.specs.Prelude.{◌≡◌, Bool};
+ghost use Rattle.mp_sexp.specs.Node.{Node, node_of, nodes_in};
 ghost use Rattle.mp_factor.specs.Faults.{leftmost};
-ghost use Rattle.mp_factor.specs.Signatures.{declared_faults, called_faults, signature_faults, listed_faults, state_behind, items_faults, block_faults, item_faults, signatures_faults};
+ghost use Rattle.mp_factor.specs.Faults.Objects.{with_blocks};
+ghost use Rattle.mp_factor.specs.Faults.Signatures.{is_predicate_name, is_function_name, declared_faults, is_block as block_test, is_signature as signature_test, signature_faults, called_faults, number_faults, plain_predicates, plain_functions};
 
 use crate::fault::{Fault, FaultKind, with};
+use crate::objects::block_fault;
 use crate::trees::{is_fixed, is_headed, is_list, is_name, is_word, members, place};
-use crate::typed::{ItemKind, Last, missing_type, typed_fault};
+use crate::typed::{Listing, Variables, typed_fault};
 use mp_sexp::{Place, Tree};
 
-/// What a list of signatures declares.
-#[derive(Clone, Copy, Debug, PartialEq, Eq)]
-pub enum Declared {
-    Predicates,
-    Functions,
+/// What signatures declare.
+trait Declared {
+    ghost allowed: { Node → Bool };
+
+    /// Whether a tree is a name that may be declared.
+    fn is_allowed(tree: &Tree) -> bool
+        ensures { result ≡ allowed (node_of tree.now) };
 }
 
-/// The first fault, with that of the name that is declared.
-#[tactic(auto, using(crate::proofs::Steps::leftmost_append), unfolding(crate::specs::Signatures::declared_faults))]
-fn declared_fault(least: Option<Fault>, declared: Declared, tree: &Tree) -> Option<Fault>
-    ensures { result ≡ leftmost least (declared_faults declared (node_of tree.now)) }
+/// The first fault, with that of a name that may not be declared.
+fn called_fault<'t, D: Declared>(least: Option<Fault<'t>>, tree: &'t Tree) -> Option<Fault<'t>>
+    ensures { result ≡ leftmost least.entry (called_faults D.allowed (node_of tree.now)) }
 {
-    let is_allowed = match declared {
-        Declared::Predicates => !is_fixed(tree),
-        Declared::Functions => !is_fixed(tree) || is_word(tree, b"total-cost"),
-    };
-    if is_name(tree) && is_allowed {
+    if D::is_allowed(tree) {
         least
     } else {
         with(least, place(tree), FaultKind::Shape)
@@ -34,137 +33,138 @@ fn declared_fault(least: Option<Fault>, declared: Declared, tree: &Tree) -> Opti
 }
 
 /// The first fault, with those of a name with typed variables, in the list at this place.
-fn called_fault(
-    least: Option<Fault>,
-    declared: Declared,
+fn declared_fault<'t, D: Declared>(
+    least: Option<Fault<'t>>,
     whole: Place,
-    trees: &[Tree],
-) -> Option<Fault>
-    ensures { result ≡ leftmost least (called_faults declared whole (nodes_in trees.now)) }
+    trees: &'t [Tree],
+) -> Option<Fault<'t>>
+    ensures { result ≡ leftmost least.entry (declared_faults D.allowed whole (nodes_in trees.now)) }
 {
     match trees {
         [] => with(least, whole, FaultKind::Shape),
-        [head, variables @ ..] => {
-            let first = declared_fault(least, declared, head);
-            typed_fault(first, ItemKind::Variables, whole, variables)
+        [head, params @ ..] => {
+            let first = called_fault::<D>(least, head);
+            typed_fault::<Variables>(first, whole, params)
         }
     }
 }
 
-/// The first fault, with those of a name with typed variables in brackets.
-#[tactic(auto, using(crate::proofs::Steps::leftmost_append), unfolding(crate::specs::Signatures::signature_faults))]
-fn signature_fault(least: Option<Fault>, declared: Declared, tree: &Tree) -> Option<Fault>
-    ensures { result ≡ leftmost least (signature_faults declared (node_of tree.now)) }
+/// Whether a tree is a private block.
+pub fn is_block(tree: &Tree) -> bool
+    ensures { result ≡ block_test (node_of tree.now) }
 {
-    called_fault(least, declared, place(tree), members(tree))
+    is_headed(tree, b":private")
 }
 
-/// What was last read of a list of signatures, when this follows.
-#[tactic(auto, using(crate::proofs::Steps::leftmost_append), unfolding(crate::specs::Signatures::state_behind))]
-fn behind(last: Last, tree: &Tree) -> Last
-    ensures { result ≡ state_behind last (node_of tree.now) }
+/// Whether a tree is a list that is no block.
+fn is_signature(tree: &Tree) -> bool
+    ensures { result ≡ signature_test (node_of tree.now) }
 {
-    match last {
-        Last::Dash => Last::Part,
-        Last::Item => {
-            if is_word(tree, b"-") {
-                Last::Dash
-            } else if is_list(tree) && !is_headed(tree, b":private") {
-                Last::Item
-            } else {
-                Last::Part
-            }
-        }
-        Last::Part => {
-            if is_list(tree) && !is_headed(tree, b":private") {
-                Last::Item
-            } else {
-                Last::Part
-            }
-        }
+    is_list(tree) && !is_block(tree)
+}
+
+/// The first fault, with those of a signature.
+#[tactic(auto, using(crate::proofs::Steps::leftmost_append), unfolding(crate::specs::Faults::Signatures::signature_faults))]
+fn signature_fault<'t, D: Declared>(least: Option<Fault<'t>>, tree: &'t Tree) -> Option<Fault<'t>>
+    ensures { result ≡ leftmost least.entry (signature_faults D.allowed (node_of tree.now)) }
+{
+    if is_signature(tree) {
+        declared_fault::<D>(least, place(tree), members(tree))
+    } else {
+        with(least, place(tree), FaultKind::Shape)
     }
 }
 
-/// The first fault, with those of a word that stands among signatures.
-#[tactic(auto, using(crate::proofs::Steps::leftmost_append), unfolding(crate::specs::Signatures::listed_faults))]
-fn word_fault(least: Option<Fault>, declared: Declared, last: Last, tree: &Tree) -> Option<Fault>
-    ensures { result ≡ leftmost least (listed_faults declared last (node_of tree.now)) }
+/// The first fault, with that of what should be `number`.
+#[tactic(auto, unfolding(crate::specs::Faults::Signatures::number_faults))]
+fn number_fault<'t>(least: Option<Fault<'t>>, tree: &'t Tree) -> Option<Fault<'t>>
+    ensures { result ≡ leftmost least.entry (number_faults (node_of tree.now)) }
 {
-    let is_allowed = match last {
-        Last::Dash => is_word(tree, b"number"),
-        Last::Item => is_word(tree, b"-") && declared == Declared::Functions,
-        Last::Part => false,
-    };
-    if is_allowed {
+    if is_word(tree, b"number") {
         least
     } else {
         with(least, place(tree), FaultKind::Shape)
     }
 }
 
-/// The first fault, with those of one member of a private block of signatures.
-#[tactic(auto, using(crate::proofs::Steps::leftmost_append), unfolding(crate::specs::Signatures::item_faults))]
-fn item_fault(least: Option<Fault>, declared: Declared, last: Last, tree: &Tree) -> Option<Fault>
-    ensures { result ≡ leftmost least (item_faults declared last (node_of tree.now)) }
-{
-    if last == Last::Dash || !is_list(tree) {
-        word_fault(least, declared, last, tree)
-    } else if is_headed(tree, b":private") {
-        with(least, place(tree), FaultKind::Shape)
-    } else {
-        signature_fault(least, declared, tree)
+/// A list of predicates without blocks.
+pub struct Predicates;
+
+#[tactic(auto, unfolding(crate::specs::Faults::Signatures::is_predicate_name))]
+impl Declared for Predicates {
+    ghost allowed = { is_predicate_name };
+
+    fn is_allowed(tree: &Tree) -> bool {
+        is_name(tree) && !is_fixed(tree)
     }
 }
 
-/// The first fault, with those of the members of a private block of signatures.
-#[tactic(auto, using(crate::proofs::Steps::leftmost_append), unfolding(crate::specs::Signatures::items_faults))]
-fn items_fault(
-    least: Option<Fault>,
-    declared: Declared,
-    whole: Place,
-    trees: &[Tree],
-) -> Option<Fault>
-    ensures { result ≡ leftmost least (items_faults declared whole Last.Part (nodes_in trees.now)) }
-{
-    let mut first = least;
-    let mut last = Last::Part;
-    for tree in trees {
-        first = item_fault(first, declared, last, tree);
-        last = behind(last, tree);
+impl Listing for Predicates {
+    ghost form = { plain_predicates };
+
+    fn item_fault<'t>(least: Option<Fault<'t>>, tree: &'t Tree) -> Option<Fault<'t>> {
+        signature_fault::<Predicates>(least, tree)
     }
-    missing_type(first, whole, last)
+
+    fn takes_type(_tree: &Tree) -> bool {
+        false
+    }
+
+    fn type_fault<'t>(least: Option<Fault<'t>>, tree: &'t Tree) -> Option<Fault<'t>> {
+        number_fault(least, tree)
+    }
 }
 
-/// The first fault, with those of one member of a list of signatures.
-#[tactic(auto, using(crate::proofs::Steps::leftmost_append), unfolding(crate::specs::Signatures::block_faults))]
-fn block_fault(least: Option<Fault>, declared: Declared, last: Last, tree: &Tree) -> Option<Fault>
-    ensures { result ≡ leftmost least (block_faults declared last (node_of tree.now)) }
-{
-    if last != Last::Dash && is_headed(tree, b":private") {
-        match members(tree) {
-            [] => least,
-            [_, items @ ..] => items_fault(least, declared, place(tree), items),
+/// A list of functions without blocks, which `- number` may follow.
+pub struct Functions;
+
+#[tactic(auto, unfolding(crate::specs::Faults::Signatures::is_function_name))]
+impl Declared for Functions {
+    ghost allowed = { is_function_name };
+
+    fn is_allowed(tree: &Tree) -> bool {
+        is_name(tree) && (!is_fixed(tree) || is_word(tree, b"total-cost"))
+    }
+}
+
+impl Listing for Functions {
+    ghost form = { plain_functions };
+
+    fn item_fault<'t>(least: Option<Fault<'t>>, tree: &'t Tree) -> Option<Fault<'t>> {
+        signature_fault::<Functions>(least, tree)
+    }
+
+    fn takes_type(tree: &Tree) -> bool {
+        is_signature(tree)
+    }
+
+    fn type_fault<'t>(least: Option<Fault<'t>>, tree: &'t Tree) -> Option<Fault<'t>> {
+        number_fault(least, tree)
+    }
+}
+
+/// A list of signatures that may also stand in private blocks.
+pub struct WithBlocks<L> {
+    /// What stands in a block.
+    pub inside: L,
+}
+
+impl<L: Listing> Listing for WithBlocks<L> {
+    ghost form = { with_blocks block_test L.form };
+
+    fn item_fault<'t>(least: Option<Fault<'t>>, tree: &'t Tree) -> Option<Fault<'t>> {
+        if is_block(tree) {
+            block_fault::<L>(least, tree)
+        } else {
+            L::item_fault(least, tree)
         }
-    } else {
-        item_fault(least, declared, last, tree)
     }
-}
 
-/// The first fault, with those of the signatures that stand in the list at this place.
-#[tactic(auto, using(crate::proofs::Steps::leftmost_append), unfolding(crate::specs::Signatures::signatures_faults))]
-pub fn signatures_fault(
-    least: Option<Fault>,
-    declared: Declared,
-    whole: Place,
-    trees: &[Tree],
-) -> Option<Fault>
-    ensures { result ≡ leftmost least (signatures_faults declared whole Last.Part (nodes_in trees.now)) }
-{
-    let mut first = least;
-    let mut last = Last::Part;
-    for tree in trees {
-        first = block_fault(first, declared, last, tree);
-        last = behind(last, tree);
+    fn takes_type(tree: &Tree) -> bool {
+        !is_block(tree) && L::takes_type(tree)
     }
-    missing_type(first, whole, last)
+
+    fn type_fault<'t>(least: Option<Fault<'t>>, tree: &'t Tree) -> Option<Fault<'t>> {
+        L::type_fault(least, tree)
+    }
 }

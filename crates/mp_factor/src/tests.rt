@@ -4,31 +4,29 @@
 ghost use Rattle.std.specs.Prelude.{◌<◌, ◌^◌, length};
 
 use super::*;
-use mp_sexp::{Place, read};
+use mp_sexp::read;
 use std::alloc::Global;
 use std::test::Fail;
 
-fn fault_of(alloc: Global, file: File, text: &[u8]) -> Result<Option<Fault>, Fail>
-    requires { length text.now < 2 ^ 31 }
-{
-    let tree = read(alloc, text)?;
-    Ok(match file {
-        File::Domain => domain_fault(alloc, &tree)?,
-        File::Problem => problem_fault(alloc, &tree)?,
-    })
-}
-
-fn fault_at(wanted: Option<(u32, u32, FaultKind)>) -> Option<Fault> {
-    match wanted {
-        Some((line, column, kind)) => Some(Fault {
-            place: Place { line, column },
-            kind,
-        }),
+/// The line, the column and the kind of a fault.
+fn parts_of(fault: Option<Fault<'_>>) -> Option<(u32, u32, FaultKind)> {
+    match fault {
+        Some(found) => Some((found.place.line, found.place.column, found.kind)),
         None => None,
     }
 }
 
-const FAULTS: [(File, &[u8], Option<(u32, u32, FaultKind)>); 27] = [
+fn fault_of(alloc: Global, file: File, text: &[u8]) -> Result<Option<(u32, u32, FaultKind)>, Fail>
+    requires { length text.now < 2 ^ 31 }
+{
+    let tree = read(alloc, text)?;
+    Ok(match file {
+        File::Domain => parts_of(domain_fault(alloc, &tree)?),
+        File::Problem => parts_of(problem_fault(alloc, &tree)?),
+    })
+}
+
+const FAULTS: [(File, &[u8], Option<(u32, u32, FaultKind)>); 40] = [
     (File::Domain, b"(define (domain d))", None),
     (
         File::Domain,
@@ -82,6 +80,16 @@ const FAULTS: [(File, &[u8], Option<(u32, u32, FaultKind)>); 27] = [
     ),
     (
         File::Domain,
+        b"(define (domain d) (:predicates (p) -))",
+        Some((1, 37, FaultKind::Shape)),
+    ),
+    (
+        File::Domain,
+        b"(define (domain d) (:functions (f) -))",
+        Some((1, 20, FaultKind::Shape)),
+    ),
+    (
+        File::Domain,
         b"(define (domain d) (:functions (total-cost) - number (:private (f ?x - t) - number (g))))",
         None,
     ),
@@ -112,6 +120,51 @@ const FAULTS: [(File, &[u8], Option<(u32, u32, FaultKind)>); 27] = [
     ),
     (
         File::Domain,
+        b"(define (domain d) (:action a :precondition (not (p ?x))))",
+        None,
+    ),
+    (
+        File::Domain,
+        b"(define (domain d) (:action a :precondition (not)))",
+        Some((1, 45, FaultKind::Shape)),
+    ),
+    (
+        File::Domain,
+        b"(define (domain d) (:action a :precondition (not ())))",
+        Some((1, 50, FaultKind::Shape)),
+    ),
+    (
+        File::Domain,
+        b"(define (domain d) (:action a :precondition (not p)))",
+        Some((1, 50, FaultKind::Shape)),
+    ),
+    (
+        File::Domain,
+        b"(define (domain d) (:action a :precondition (not (not (p)))))",
+        Some((1, 51, FaultKind::Unsupported)),
+    ),
+    (
+        File::Domain,
+        b"(define (domain d) (:action a :precondition (not (and))))",
+        Some((1, 51, FaultKind::Unsupported)),
+    ),
+    (
+        File::Domain,
+        b"(define (domain d) (:action a :precondition (not (p) (q))))",
+        Some((1, 54, FaultKind::Shape)),
+    ),
+    (
+        File::Domain,
+        b"(define (domain d) (:action a :precondition (not ((p)))))",
+        Some((1, 51, FaultKind::Shape)),
+    ),
+    (
+        File::Domain,
+        b"(define (domain d) (:action a :precondition (not (?x))))",
+        Some((1, 51, FaultKind::Shape)),
+    ),
+    (
+        File::Domain,
         b"(define (domain d) (:action a :effect (not (p) (q))))",
         Some((1, 48, FaultKind::Shape)),
     ),
@@ -136,6 +189,11 @@ const FAULTS: [(File, &[u8], Option<(u32, u32, FaultKind)>); 27] = [
         Some((1, 451, FaultKind::Cost)),
     ),
     (
+        File::Domain,
+        b"(define (domain d) (:action a :effect (and (increase (total-cost) 1)(increase (total-cost) 1)(increase (total-cost) 1)(increase (total-cost) 1)(increase (total-cost) 1)(increase (total-cost) 1)(increase (total-cost) 1)(increase (total-cost) 1) (and (and (increase (total-cost) 1)(increase (total-cost) 1)(increase (total-cost) 1)(increase (total-cost) 1)(increase (total-cost) 1)(increase (total-cost) 1)(increase (total-cost) 1)(increase (total-cost) 1) (p)) (and (increase (total-cost) 1))))))",
+        Some((1, 466, FaultKind::Cost)),
+    ),
+    (
         File::Problem,
         b"(define (problem p) (:init (or)))",
         Some((1, 1, FaultKind::Shape)),
@@ -153,7 +211,12 @@ const FAULTS: [(File, &[u8], Option<(u32, u32, FaultKind)>); 27] = [
     (
         File::Problem,
         b"(define (problem p) (:domain d) (:goal (not (p))))",
-        Some((1, 41, FaultKind::Unsupported)),
+        None,
+    ),
+    (
+        File::Problem,
+        b"(define (problem p) (:domain d) (:goal (and (not (p)) (not (or (q))))))",
+        Some((1, 61, FaultKind::Unsupported)),
     ),
     (
         File::Problem,
@@ -167,7 +230,7 @@ fn first_faults(rt: HostRuntime) -> Result<(), Fail> {
     for (file, text, wanted) in FAULTS {
         assert!(rt; text.len() < 10_000);
         let found = fault_of(rt.alloc(), file, text)?;
-        assert_eq!(rt; found, fault_at(wanted), "{text:?}");
+        assert_eq!(rt; found, wanted, "{text:?}");
     }
     Ok(())
 }

@@ -100,6 +100,19 @@ fn show_atoms(out: &mut Vec<u8>, list: &AtomList) -> Result<(), OutOfMemory> {
     Ok(())
 }
 
+/// Appends ` NAME(TERMS)`, or ` not NAME(TERMS)`.
+fn show_literal(out: &mut Vec<u8>, literal: &Literal) -> Result<(), OutOfMemory> {
+    show(out, if literal.positive { b"" } else { b" not" })?;
+    show_atom(out, &literal.atom)
+}
+
+fn show_literals(out: &mut Vec<u8>, list: &LiteralList) -> Result<(), OutOfMemory> {
+    for literal in list.as_slice() {
+        show_literal(out, literal)?;
+    }
+    Ok(())
+}
+
 /// Appends ` COST` or a function.
 fn show_increase(out: &mut Vec<u8>, increase: &Increase) -> Result<(), OutOfMemory> {
     match increase {
@@ -118,7 +131,7 @@ fn show_schema(out: &mut Vec<u8>, schema: &Schema) -> Result<(), OutOfMemory> {
     show(out, b"(")?;
     show_all_typed(out, &schema.params)?;
     show(out, b")[")?;
-    show_atoms(out, &schema.pre)?;
+    show_literals(out, &schema.pre)?;
     show(out, b"/")?;
     show_atoms(out, &schema.add)?;
     show(out, b"/")?;
@@ -169,7 +182,7 @@ fn show_problem(out: &mut Vec<u8>, problem: &Problem) -> Result<(), OutOfMemory>
         show_value(out, value)?;
     }
     show(out, b"|")?;
-    show_atoms(out, &problem.goals)?;
+    show_literals(out, &problem.goals)?;
     show(out, if problem.metric { b"|least" } else { b"" })
 }
 
@@ -228,7 +241,7 @@ fn shown(alloc: Global, file: File, text: &[u8]) -> Result<Vec<u8>, Fail>
     })
 }
 
-const VALUES: [(File, &[u8], &[u8]); 13] = [
+const VALUES: [(File, &[u8], &[u8]); 19] = [
     (
         File::Domain,
         b"(define (domain D) (:TYPES A b - c d e - (either f g) h))",
@@ -256,6 +269,11 @@ const VALUES: [(File, &[u8], &[u8]); 13] = [
     ),
     (
         File::Domain,
+        b"(define (domain d) (:action a :precondition (and (q) (and (not (p ?x))) (not (r a)))))",
+        b"d||||| a()[ q() not p( ?x) not r( 'a)///]",
+    ),
+    (
+        File::Domain,
         b"(define (domain d) (:action a :effect (and (and (not (p)) (q)) (and (and (not (r a)))) (s))))",
         b"d||||| a()[/ q() s()/ p() r( 'a)/]",
     ),
@@ -268,6 +286,21 @@ const VALUES: [(File, &[u8], &[u8]); 13] = [
         File::Domain,
         b"(define (domain d) (:action a :precondition (OR (p))))",
         b"unsupported or 1:46",
+    ),
+    (
+        File::Domain,
+        b"(define (domain d) (:derived (p)))",
+        b"unsupported :derived 1:21",
+    ),
+    (
+        File::Domain,
+        b"(define (domain d) (:action a :duration 1))",
+        b"unsupported :duration 1:31",
+    ),
+    (
+        File::Domain,
+        b"(define (domain d) (:requirements :strips :Unfactored-Privacy))",
+        b"unsupported :unfactored-privacy 1:43",
     ),
     (
         File::Domain,
@@ -286,8 +319,18 @@ const VALUES: [(File, &[u8], &[u8]); 13] = [
     ),
     (
         File::Problem,
+        b"(define (problem p) (:domain d) (:goal (not (p a))))",
+        b"p|d|||| not p( 'a)",
+    ),
+    (
+        File::Problem,
         b"(define (problem p) (:domain d) (:init (= (f) 1) (= (f) 2)))",
         b"cost 1:57",
+    ),
+    (
+        File::Problem,
+        b"(define (problem p) (:domain d) (:metric maximize (total-cost)))",
+        b"unsupported :metric 1:34",
     ),
     (File::Problem, b"(define (problem p))", b"shape 1:1"),
 ];

@@ -3,7 +3,7 @@
 ghost use Rattle.std.specs.Prelude.{◌≡◌};
 ghost use Rattle.std.specs.Str.{bytes_eq};
 ghost use Rattle.mp_sexp.specs.Node.{node_of, nodes_in};
-ghost use Rattle.mp_factor.specs.Parts.{is_word as word_test, place_of, word_of, parts, is_list as list_test, is_headed as headed_test, is_name_word, is_variable_word, is_term as term_test, is_fixed_word, is_same_word as same_word_test, rest_of};
+ghost use Rattle.mp_factor.specs.Parts.{is_word as word_test, place_of, word_of, parts, is_list as list_test, is_headed as headed_test, is_name_word, is_variable_word, is_term as term_test, is_fixed_word, rest_of};
 
 use crate::words;
 use mp_sexp::{Place, Tree};
@@ -66,13 +66,6 @@ pub fn is_word(tree: &Tree, keyword: &[u8]) -> bool
         Tree::Word(name, _) => words::is_same(name.as_slice(), keyword),
         Tree::List(_, _) => false,
     }
-}
-
-/// Whether two trees are the same word.
-pub fn is_same_word(a: &Tree, b: &Tree) -> bool
-    ensures { result ≡ same_word_test (node_of a.now) (node_of b.now) }
-{
-    !is_list(a) && is_word(b, word(a))
 }
 
 /// Whether a tree is a list that begins with this word.

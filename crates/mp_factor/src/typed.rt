@@ -1,72 +1,113 @@
-//! Typed lists: names or variables, each group followed by `-` and a type.
+//! Typed lists: items, where behind an item may stand `-` and a type.
 
-ghost use Rattle.std.specs.Prelude.{◌≡◌};
+ghost use Rattle.std.specs.Prelude.{◌≡◌, ◌≤◌, ◌∷◌, length};
 ghost use Rattle.mp_sexp.specs.Node.{node_of, nodes_in};
 ghost use Rattle.mp_factor.specs.Faults.{leftmost};
-ghost use Rattle.mp_factor.specs.Typed.{is_item as item_test, state_behind, name_faults, extra_faults, names_faults, type_faults, member_faults, missing_type as missing_type_of, typed_faults};
+ghost use Rattle.mp_factor.specs.Faults.Typed.{Listing as ListingForm, typed_faults, behind_item, behind_dash, name_faults, extra_faults, names_faults, type_faults, variable_faults, is_typed_word as typed_word_test, names, variables};
 
 use crate::fault::{Fault, FaultKind, with};
 use crate::trees::{is_list, is_name, is_variable, is_word, members, place};
 use mp_sexp::{Place, Tree};
 
-/// What a typed list holds.
-#[derive(Clone, Copy, Debug, PartialEq, Eq)]
-pub enum ItemKind {
-    Names,
-    Variables,
+/// What the items of a typed list are.
+pub trait Listing {
+    ghost form: { ListingForm };
+
+    /// The first fault, with those of a member in the place of an item.
+    fn item_fault<'t>(least: Option<Fault<'t>>, tree: &'t Tree) -> Option<Fault<'t>>
+        ensures { result ≡ leftmost least.entry (form.item (node_of tree.now)) };
+
+    /// Whether `-` and a type may stand behind the member.
+    fn takes_type(tree: &Tree) -> bool
+        ensures { result ≡ form.takes_type (node_of tree.now) };
+
+    /// The first fault, with those of a member in the place of a type.
+    fn type_fault<'t>(least: Option<Fault<'t>>, tree: &'t Tree) -> Option<Fault<'t>>
+        ensures { result ≡ leftmost least.entry (form.type (node_of tree.now)) };
 }
 
-/// What was last read of a typed list.
-#[derive(Clone, Copy, Debug, PartialEq, Eq)]
-pub enum Last {
-    /// Nothing, or a whole part of it.
-    Part,
-    /// Something that a type may follow.
-    Item,
-    /// The `-` before a type.
-    Dash,
-}
-
-/// Whether the tree may stand as an item.
-pub fn is_item(kind: ItemKind, tree: &Tree) -> bool
-    ensures { result ≡ item_test kind (node_of tree.now) }
+/// The first fault, with that of the type that these begin with, and what stands behind the type.
+#[tactic(auto, using(crate::proofs::Steps::leftmost_append), unfolding(crate::specs::Faults::Typed::typed_faults, crate::specs::Faults::Typed::behind_item, crate::specs::Faults::Typed::behind_dash))]
+fn type_first<'a, L: Listing>(
+    least: Option<Fault<'a>>,
+    whole: Place,
+    trees: &'a [Tree],
+) -> (Option<Fault<'a>>, &'a [Tree])
+    ensures first { leftmost result.0 (typed_faults L.form whole (nodes_in result.1.now))
+        ≡ leftmost least.entry (behind_dash L.form whole (nodes_in trees.now)) }
+    ensures fewer { length result.1.now ≤ length trees.now }
 {
-    match kind {
-        ItemKind::Names => is_name(tree),
-        ItemKind::Variables => is_variable(tree),
+    match trees {
+        [] => (with(least, whole, FaultKind::Shape), trees),
+        [tree, behind @ ..] => (L::type_fault(least, tree), behind),
     }
 }
 
-/// What was last read, when this follows.
-#[tactic(auto, using(crate::proofs::Steps::leftmost_append), unfolding(crate::specs::Typed::state_behind))]
-pub fn behind(last: Last, tree: &Tree) -> Last
-    ensures { result ≡ state_behind last (node_of tree.now) }
+/// The first fault, with that of the type behind an item, where these stand behind the item, and what stands behind
+/// the type.
+#[tactic(auto, using(crate::proofs::Steps::leftmost_append), unfolding(crate::specs::Faults::Typed::typed_faults, crate::specs::Faults::Typed::behind_item, crate::specs::Faults::Typed::behind_dash))]
+fn type_behind<'a, L: Listing>(
+    least: Option<Fault<'a>>,
+    whole: Place,
+    trees: &'a [Tree],
+) -> (Option<Fault<'a>>, &'a [Tree])
+    ensures first { leftmost result.0 (typed_faults L.form whole (nodes_in result.1.now))
+        ≡ leftmost least.entry (behind_item L.form whole (nodes_in trees.now)) }
+    ensures fewer { length result.1.now ≤ length trees.now }
 {
-    match last {
-        Last::Dash => Last::Part,
-        Last::Item => {
-            if is_word(tree, b"-") {
-                Last::Dash
-            } else if is_list(tree) {
-                Last::Part
+    match trees {
+        [] => (least, trees),
+        [dash, behind @ ..] => {
+            if is_word(dash, b"-") {
+                type_first::<L>(least, whole, behind)
             } else {
-                Last::Item
-            }
-        }
-        Last::Part => {
-            if is_word(tree, b"-") || is_list(tree) {
-                Last::Part
-            } else {
-                Last::Item
+                (least, trees)
             }
         }
     }
+}
+
+/// The first fault, with those of an item and its type, and what stands behind them.
+#[tactic(auto, using(crate::proofs::Steps::leftmost_append), unfolding(crate::specs::Faults::Typed::typed_faults, crate::specs::Faults::Typed::behind_item, crate::specs::Faults::Typed::behind_dash))]
+fn item_first<'a, L: Listing>(
+    least: Option<Fault<'a>>,
+    whole: Place,
+    tree: &'a Tree,
+    behind: &'a [Tree],
+) -> (Option<Fault<'a>>, &'a [Tree])
+    ensures first { leftmost result.0 (typed_faults L.form whole (nodes_in result.1.now))
+        ≡ leftmost least.entry (typed_faults L.form whole (node_of tree.now ∷ nodes_in behind.now)) }
+    ensures fewer { length result.1.now ≤ length behind.now }
+{
+    let first = L::item_fault(least, tree);
+    if L::takes_type(tree) {
+        type_behind::<L>(first, whole, behind)
+    } else {
+        (first, behind)
+    }
+}
+
+/// The first fault, with those of a typed list that stands in the list at this place.
+#[tactic(auto, unfolding(crate::specs::Faults::Typed::typed_faults))]
+pub fn typed_fault<'t, L: Listing>(
+    least: Option<Fault<'t>>,
+    whole: Place,
+    trees: &'t [Tree],
+) -> Option<Fault<'t>>
+    ensures { result ≡ leftmost least.entry (typed_faults L.form whole (nodes_in trees.now)) }
+{
+    let mut first = least;
+    let mut rest = trees;
+    while let [tree, behind @ ..] = rest {
+        (first, rest) = item_first::<L>(first, whole, tree, behind);
+    }
+    first
 }
 
 /// The first fault, with that of what should be a name.
-#[tactic(auto, using(crate::proofs::Steps::leftmost_append), unfolding(crate::specs::Typed::name_faults))]
-pub fn name_fault(least: Option<Fault>, tree: &Tree) -> Option<Fault>
-    ensures { result ≡ leftmost least (name_faults (node_of tree.now)) }
+#[tactic(auto, using(crate::proofs::Steps::leftmost_append), unfolding(crate::specs::Faults::Typed::name_faults))]
+pub fn name_fault<'t>(least: Option<Fault<'t>>, tree: &'t Tree) -> Option<Fault<'t>>
+    ensures { result ≡ leftmost least.entry (name_faults (node_of tree.now)) }
 {
     if is_name(tree) {
         least
@@ -75,10 +116,22 @@ pub fn name_fault(least: Option<Fault>, tree: &Tree) -> Option<Fault>
     }
 }
 
+/// The first fault, with that of what should be a variable.
+#[tactic(auto, using(crate::proofs::Steps::leftmost_append), unfolding(crate::specs::Faults::Typed::variable_faults))]
+pub fn variable_fault<'t>(least: Option<Fault<'t>>, tree: &'t Tree) -> Option<Fault<'t>>
+    ensures { result ≡ leftmost least.entry (variable_faults (node_of tree.now)) }
+{
+    if is_variable(tree) {
+        least
+    } else {
+        with(least, place(tree), FaultKind::Shape)
+    }
+}
+
 /// The first fault, with that of what stands where nothing more is wanted.
-#[tactic(auto, using(crate::proofs::Steps::leftmost_append), unfolding(crate::specs::Typed::extra_faults))]
-pub fn extra_fault(least: Option<Fault>, trees: &[Tree]) -> Option<Fault>
-    ensures { result ≡ leftmost least (extra_faults (nodes_in trees.now)) }
+#[tactic(auto, using(crate::proofs::Steps::leftmost_append), unfolding(crate::specs::Faults::Typed::extra_faults))]
+pub fn extra_fault<'t>(least: Option<Fault<'t>>, trees: &'t [Tree]) -> Option<Fault<'t>>
+    ensures { result ≡ leftmost least.entry (extra_faults (nodes_in trees.now)) }
 {
     match trees {
         [] => least,
@@ -87,9 +140,9 @@ pub fn extra_fault(least: Option<Fault>, trees: &[Tree]) -> Option<Fault>
 }
 
 /// The first fault, with those of what should be names.
-#[tactic(auto, using(crate::proofs::Steps::leftmost_append), unfolding(crate::specs::Typed::names_faults))]
-pub fn names_fault(least: Option<Fault>, trees: &[Tree]) -> Option<Fault>
-    ensures { result ≡ leftmost least (names_faults (nodes_in trees.now)) }
+#[tactic(auto, using(crate::proofs::Steps::leftmost_append), unfolding(crate::specs::Faults::Typed::names_faults))]
+pub fn names_fault<'t>(least: Option<Fault<'t>>, trees: &'t [Tree]) -> Option<Fault<'t>>
+    ensures { result ≡ leftmost least.entry (names_faults (nodes_in trees.now)) }
 {
     let mut first = least;
     for tree in trees {
@@ -99,9 +152,9 @@ pub fn names_fault(least: Option<Fault>, trees: &[Tree]) -> Option<Fault>
 }
 
 /// The first fault, with those of a type: a name, or `either` and names in brackets.
-#[tactic(auto, using(crate::proofs::Steps::leftmost_append), unfolding(crate::specs::Typed::type_faults))]
-pub fn type_fault(least: Option<Fault>, tree: &Tree) -> Option<Fault>
-    ensures { result ≡ leftmost least (type_faults (node_of tree.now)) }
+#[tactic(auto, using(crate::proofs::Steps::leftmost_append), unfolding(crate::specs::Faults::Typed::type_faults))]
+pub fn type_fault<'t>(least: Option<Fault<'t>>, tree: &'t Tree) -> Option<Fault<'t>>
+    ensures { result ≡ leftmost least.entry (type_faults (node_of tree.now)) }
 {
     if !is_list(tree) {
         return name_fault(least, tree);
@@ -118,56 +171,48 @@ pub fn type_fault(least: Option<Fault>, tree: &Tree) -> Option<Fault>
     }
 }
 
-/// The first fault, with those of one member of a typed list.
-#[tactic(auto, using(crate::proofs::Steps::leftmost_append), unfolding(crate::specs::Typed::member_faults))]
-pub fn member_fault(least: Option<Fault>, kind: ItemKind, last: Last, tree: &Tree) -> Option<Fault>
-    ensures { result ≡ leftmost least (member_faults kind last (node_of tree.now)) }
+/// Whether a type may stand behind the member: a word other than `-`.
+#[tactic(auto, unfolding(crate::specs::Faults::Typed::is_typed_word))]
+fn is_typed_word(tree: &Tree) -> bool
+    ensures { result ≡ typed_word_test (node_of tree.now) }
 {
-    match last {
-        Last::Dash => type_fault(least, tree),
-        Last::Item => {
-            if is_item(kind, tree) || is_word(tree, b"-") {
-                least
-            } else {
-                with(least, place(tree), FaultKind::Shape)
-            }
-        }
-        Last::Part => {
-            if is_item(kind, tree) {
-                least
-            } else {
-                with(least, place(tree), FaultKind::Shape)
-            }
-        }
+    !(is_list(tree) || is_word(tree, b"-"))
+}
+
+/// A typed list of names.
+pub struct Names;
+
+impl Listing for Names {
+    ghost form = { names };
+
+    fn item_fault<'t>(least: Option<Fault<'t>>, tree: &'t Tree) -> Option<Fault<'t>> {
+        name_fault(least, tree)
+    }
+
+    fn takes_type(tree: &Tree) -> bool {
+        is_typed_word(tree)
+    }
+
+    fn type_fault<'t>(least: Option<Fault<'t>>, tree: &'t Tree) -> Option<Fault<'t>> {
+        type_fault(least, tree)
     }
 }
 
-/// The first fault, with that of a list that ends behind this: its type may be missing.
-pub fn missing_type(least: Option<Fault>, whole: Place, last: Last) -> Option<Fault>
-    ensures { result ≡ leftmost least (missing_type_of whole last) }
-{
-    match last {
-        Last::Dash => with(least, whole, FaultKind::Shape),
-        Last::Item => least,
-        Last::Part => least,
-    }
-}
+/// A typed list of variables.
+pub struct Variables;
 
-/// The first fault, with those of a typed list that stands in the list at this place.
-#[tactic(auto, using(crate::proofs::Steps::leftmost_append), unfolding(crate::specs::Typed::typed_faults))]
-pub fn typed_fault(
-    least: Option<Fault>,
-    kind: ItemKind,
-    whole: Place,
-    trees: &[Tree],
-) -> Option<Fault>
-    ensures { result ≡ leftmost least (typed_faults kind whole Last.Part (nodes_in trees.now)) }
-{
-    let mut first = least;
-    let mut last = Last::Part;
-    for tree in trees {
-        first = member_fault(first, kind, last, tree);
-        last = behind(last, tree);
+impl Listing for Variables {
+    ghost form = { variables };
+
+    fn item_fault<'t>(least: Option<Fault<'t>>, tree: &'t Tree) -> Option<Fault<'t>> {
+        variable_fault(least, tree)
     }
-    missing_type(first, whole, last)
+
+    fn takes_type(tree: &Tree) -> bool {
+        is_typed_word(tree)
+    }
+
+    fn type_fault<'t>(least: Option<Fault<'t>>, tree: &'t Tree) -> Option<Fault<'t>> {
+        type_fault(least, tree)
+    }
 }

@@ -1,9 +1,11 @@
 //! What typed lists declare, and lists of objects with private blocks.
 
-ghost use Rattle.std.specs.Prelude.{◌≡◌, ◌++◌, ◌∷◌, false, IfOk, OnOk};
+ghost use Rattle.std.specs.Prelude.{◌≡◌, ◌++◌, ◌∷◌, List, IfOk, OnOk};
 ghost use Rattle.std.specs.Option.{option_map};
-ghost use Rattle.mp_sexp.specs.Node.{node_of, nodes_in};
-ghost use Rattle.mp_factor.specs.TypedValues.{type_words, types_of, types_ahead, declared_by, typed_values, declared_object, object_values};
+ghost use Rattle.mp_sexp.specs.Node.{Node, node_of, nodes_in};
+ghost use Rattle.mp_factor.specs.declared.word.Word.{Word};
+ghost use Rattle.mp_factor.specs.declared.typed_values.Typed.{Typed};
+ghost use Rattle.mp_factor.specs.Values.Typed.{type_words, types_of, types_ahead, declared_values, item_values, typed_values, object_item_values, object_values};
 
 use crate::trees::{behind_first, is_list, is_word, members};
 use crate::word::{Word, WordList, word_in, words_in};
@@ -36,7 +38,7 @@ impl Copied for Typed {
 }
 
 /// The words of a type: a name, or the names behind `either`.
-#[tactic(auto, unfolding(crate::specs::TypedValues::type_words, crate::specs::WordValues::word_values))]
+#[tactic(auto, unfolding(crate::specs::Values::Typed::type_words, crate::specs::Values::Words::word_values))]
 pub fn type_in(alloc: Global, tree: &Tree) -> Result<WordList, OutOfMemory>
     ensures { IfOk result (λ types. types ≡ type_words (node_of tree.now)) }
 {
@@ -49,7 +51,7 @@ pub fn type_in(alloc: Global, tree: &Tree) -> Result<WordList, OutOfMemory>
 }
 
 /// The type of a name, when these stand behind it: none where none is written.
-#[tactic(auto, unfolding(crate::specs::TypedValues::types_ahead))]
+#[tactic(auto, unfolding(crate::specs::Values::Typed::types_ahead))]
 fn type_ahead(trees: &[Tree]) -> Option<&Tree>
     ensures { types_of (option_map (λ t. node_of t.now) result) ≡ types_ahead (nodes_in trees.now) }
 {
@@ -74,50 +76,8 @@ pub fn words_of_type(alloc: Global, tree: Option<&Tree>) -> Result<WordList, Out
     }
 }
 
-/// Adds what a member of a typed list declares, with this type ahead.
-#[tactic(auto, unfolding(crate::specs::TypedValues::declared_by))]
-fn add_member(
-    alloc: Global,
-    out: &mut TypedList,
-    private: bool,
-    is_type: bool,
-    tree: &Tree,
-    ahead: Option<&Tree>,
-) -> Result<(), OutOfMemory>
-    ensures { OnOk result (out.new ≡ out.old ++ declared_by private is_type (node_of tree.now) (types_of (option_map (λ t. node_of t.now) ahead.entry))) }
-{
-    if is_type || is_word(tree, b"-") || is_list(tree) {
-        return Ok(());
-    }
-    out.push(Typed {
-        word: word_in(alloc, tree)?,
-        types: words_of_type(alloc, ahead)?,
-        private,
-    })
-}
-
-/// Adds what a typed list declares.
-#[tactic(auto, using(crate::proofs::BuildSteps::append_steps), unfolding(crate::specs::TypedValues::typed_values))]
-pub fn add_typed(
-    alloc: Global,
-    out: &mut TypedList,
-    private: bool,
-    trees: &[Tree],
-) -> Result<(), OutOfMemory>
-    ensures { OnOk result (out.new ≡ out.old ++ typed_values private false (nodes_in trees.now)) }
-{
-    let mut is_type = false;
-    let mut ahead = type_ahead(trees);
-    for (i, tree) in trees.iter().enumerate() {
-        ahead = type_behind(ahead, tree, &trees[i + 1..]);
-        add_member(alloc, out, private, is_type, tree, ahead)?;
-        is_type = is_word(tree, b"-");
-    }
-    Ok(())
-}
-
-/// The type ahead behind this member, where it is known before it.
-#[tactic(auto, unfolding(crate::specs::TypedValues::types_ahead))]
+/// The type ahead behind this item, where it is known before it.
+#[tactic(auto, unfolding(crate::specs::Values::Typed::types_ahead))]
 fn type_behind<'a>(ahead: Option<&'a Tree>, tree: &Tree, behind: &'a [Tree]) -> Option<&'a Tree>
     requires { types_of (option_map (λ t. node_of t.now) ahead) ≡ types_ahead (node_of tree.now ∷ nodes_in behind.now) }
     ensures { types_of (option_map (λ t. node_of t.now) result) ≡ types_ahead (nodes_in behind.now) }
@@ -129,36 +89,112 @@ fn type_behind<'a>(ahead: Option<&'a Tree>, tree: &Tree, behind: &'a [Tree]) -> 
     }
 }
 
-/// Adds what a member of a list of objects declares, with this type ahead.
-#[tactic(auto, unfolding(crate::specs::TypedValues::declared_object))]
-fn add_object(
+/// What the items of a list declare.
+trait Declares {
+    ghost values: { Self → Node → List Word → List Typed };
+
+    /// Adds what an item declares, with this type ahead.
+    fn add_item(
+        &self,
+        alloc: Global,
+        out: &mut TypedList,
+        tree: &Tree,
+        ahead: Option<&Tree>,
+    ) -> Result<(), OutOfMemory>
+        ensures { OnOk result (out.new ≡ out.old
+            ++ values self.now (node_of tree.now) (types_of (option_map (λ t. node_of t.now) ahead.entry))) };
+}
+
+/// Adds what a list declares.
+#[tactic(auto, using(crate::proofs::BuildSteps::append_steps), unfolding(crate::specs::Values::Typed::declared_values))]
+fn add_declared<D: Declares>(
     alloc: Global,
     out: &mut TypedList,
-    is_type: bool,
-    tree: &Tree,
-    ahead: Option<&Tree>,
+    items: &D,
+    trees: &[Tree],
 ) -> Result<(), OutOfMemory>
-    ensures { OnOk result (out.new ≡ out.old ++ declared_object is_type (node_of tree.now) (types_of (option_map (λ t. node_of t.now) ahead.entry))) }
+    ensures { OnOk result (out.new ≡ out.old
+        ++ declared_values (D.values items.now) (nodes_in trees.now)) }
 {
-    if !is_type && is_list(tree) {
-        add_typed(alloc, out, true, behind_first(members(tree)))
-    } else {
-        add_member(alloc, out, false, is_type, tree, ahead)
+    let mut rest = trees;
+    let mut ahead = type_ahead(trees);
+    while let [tree, behind @ ..] = rest {
+        if is_word(tree, b"-") {
+            rest = behind_first(behind);
+            ahead = type_ahead(rest);
+        } else {
+            ahead = type_behind(ahead, tree, behind);
+            items.add_item(alloc, out, tree, ahead)?;
+            rest = behind;
+        }
+    }
+    Ok(())
+}
+
+/// Names or variables.
+#[derive(Clone, Copy, Debug)]
+struct Items {
+    /// Whether they stand in a private block.
+    private: bool,
+}
+
+impl Declares for Items {
+    ghost values = { λ items node types. item_values items.private node types };
+
+    fn add_item(
+        &self,
+        alloc: Global,
+        out: &mut TypedList,
+        tree: &Tree,
+        ahead: Option<&Tree>,
+    ) -> Result<(), OutOfMemory> {
+        out.push(Typed {
+            word: word_in(alloc, tree)?,
+            types: words_of_type(alloc, ahead)?,
+            private: self.private,
+        })
+    }
+}
+
+/// Adds what a typed list declares.
+pub fn add_typed(
+    alloc: Global,
+    out: &mut TypedList,
+    private: bool,
+    trees: &[Tree],
+) -> Result<(), OutOfMemory>
+    ensures { OnOk result (out.new ≡ out.old ++ typed_values private (nodes_in trees.now)) }
+{
+    add_declared(alloc, out, &Items { private }, trees)
+}
+
+/// Names of objects, and private blocks of them.
+#[derive(Clone, Copy, Debug)]
+struct ObjectItems;
+
+impl Declares for ObjectItems {
+    ghost values = { λ items node types. object_item_values node types };
+
+    fn add_item(
+        &self,
+        alloc: Global,
+        out: &mut TypedList,
+        tree: &Tree,
+        ahead: Option<&Tree>,
+    ) -> Result<(), OutOfMemory> {
+        if is_list(tree) {
+            add_typed(alloc, out, true, behind_first(members(tree)))
+        } else {
+            Items { private: false }.add_item(alloc, out, tree, ahead)
+        }
     }
 }
 
 /// What a list of objects declares, its private blocks too.
-#[tactic(auto, using(crate::proofs::BuildSteps::append_steps), unfolding(crate::specs::TypedValues::object_values))]
 pub fn objects_in(alloc: Global, trees: &[Tree]) -> Result<TypedList, OutOfMemory>
-    ensures { IfOk result (λ objects. objects ≡ object_values false (nodes_in trees.now)) }
+    ensures { IfOk result (λ objects. objects ≡ object_values (nodes_in trees.now)) }
 {
     let mut out = List::new(alloc);
-    let mut is_type = false;
-    let mut ahead = type_ahead(trees);
-    for (i, tree) in trees.iter().enumerate() {
-        ahead = type_behind(ahead, tree, &trees[i + 1..]);
-        add_object(alloc, &mut out, is_type, tree, ahead)?;
-        is_type = is_word(tree, b"-");
-    }
+    add_declared(alloc, &mut out, &ObjectItems, trees)?;
     Ok(out)
 }

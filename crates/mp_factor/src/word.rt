@@ -2,7 +2,7 @@
 
 ghost use Rattle.std.specs.Prelude.{◌≡◌, IfOk};
 ghost use Rattle.mp_sexp.specs.Node.{node_of, nodes_in};
-ghost use Rattle.mp_factor.specs.WordValues.{word_value, word_values, first_word};
+ghost use Rattle.mp_factor.specs.Values.Words.{word_value, word_values, first_word};
 
 use mp_list::{Copied, List, OutOfMemory};
 use mp_sexp::{Name, Place, Tree};
@@ -29,7 +29,7 @@ impl Copied for Word {
 }
 
 /// The word that a tree is; of a list, the empty word at its bracket.
-#[tactic(auto, unfolding(crate::specs::WordValues::word_value))]
+#[tactic(auto, unfolding(crate::specs::Values::Words::word_value))]
 pub fn word_in(alloc: Global, tree: &Tree) -> Result<Word, OutOfMemory>
     ensures { IfOk result (λ word. word ≡ word_value (node_of tree.now)) }
 {
@@ -46,7 +46,7 @@ pub fn word_in(alloc: Global, tree: &Tree) -> Result<Word, OutOfMemory>
 }
 
 /// The words that some trees are.
-#[tactic(auto, using(crate::proofs::BuildSteps::append_steps), unfolding(crate::specs::WordValues::word_values))]
+#[tactic(auto, using(crate::proofs::BuildSteps::append_steps), unfolding(crate::specs::Values::Words::word_values))]
 pub fn words_in(alloc: Global, trees: &[Tree]) -> Result<WordList, OutOfMemory>
     ensures { IfOk result (λ words. words ≡ word_values (nodes_in trees.now)) }
 {

@@ -4,6 +4,7 @@ use Rattle.std.specs.Cmp.Lexicographic.{pointwise}
 use Rattle.std.specs.List.{list_any}
 use Rattle.std.specs.Str.{bytes_eq}
 use Rattle.mp_joint.specs.declared.fact.NamedFact.{NamedFact}
+use Rattle.mp_joint.specs.declared.fact.SignedFact.{SignedFact}
 
 -- a text, as its bytes
 abbrev pub Text : Type 0
@@ -40,3 +41,10 @@ owner agent privates predicate args =
 abbrev pub named : ℕ → Privates → Text → List Text → NamedFact
 named agent privates predicate args =
     record { owner = owner agent privates predicate args; predicate = predicate; args = args }
+
+-- a fact as it is, and its complement, which is true exactly where the fact is false
+abbrev pub plain : NamedFact → SignedFact
+plain f = record { positive = true; fact = f }
+
+abbrev pub complement : NamedFact → SignedFact
+complement f = record { positive = false; fact = f }

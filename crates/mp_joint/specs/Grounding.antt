@@ -1,5 +1,5 @@
 -- What stands for a schema's parameters: instances of atoms and costs (PDDL 2.1 actions; PDDL 3.1 action costs).
-use Rattle.std.specs.Prelude.{ℕ, ◌+◌, ◌&&◌, Bool, List, [], ◌∷◌, map, Option, Some, None, option_and_then, find, codes, if◌then◌else◌}
+use Rattle.std.specs.Prelude.{ℕ, ◌+◌, ◌&&◌, Bool, List, [], ◌∷◌, map, Option, Some, None, option_and_then, find, filter, not, codes, if◌then◌else◌}
 use Rattle.std.specs.Cmp.Lexicographic.{pointwise}
 use Rattle.std.specs.Option.{option_map}
 use Rattle.std.specs.Str.{bytes_eq}
@@ -7,6 +7,7 @@ use Rattle.mp_factor.specs.declared.typed_values.Typed.{Typed}
 use Rattle.mp_factor.specs.declared.atom_values.Term.{Term}
 use Rattle.mp_factor.specs.declared.atom_values.Term.TheVariants.{Variable, Object}
 use Rattle.mp_factor.specs.declared.atom_values.Atom.{Atom}
+use Rattle.mp_factor.specs.declared.literal.Literal.{Literal}
 use Rattle.mp_factor.specs.declared.effect_values.Increase.{Increase}
 use Rattle.mp_factor.specs.declared.effect_values.Increase.TheVariants.{Number, Function}
 use Rattle.mp_factor.specs.declared.init_values.Value.{Value}
@@ -26,6 +27,13 @@ object_of params objects (Object word) = word.name
 
 abbrev pub objects_of : List Typed → List Text → List Term → List Text
 objects_of params objects terms = map (object_of params objects) terms
+
+-- the atoms that a condition asks for, and those that it has under `not`
+abbrev pub asked_atoms : List Literal → List Atom
+asked_atoms literals = map (λ l. l.atom) (filter (λ l. l.positive) literals)
+
+abbrev pub negated_atoms : List Literal → List Atom
+negated_atoms literals = map (λ l. l.atom) (filter (λ l. not l.positive) literals)
 
 -- the fact that an atom becomes
 abbrev pub fact_of : ℕ → Privates → List Typed → List Text → Atom → NamedFact

@@ -3,3 +3,5 @@ pub mod FactorContribution
 pub mod Grounding
 pub mod Instance
 pub mod Plan
+pub mod Static
+pub mod Examples

@@ -1,19 +1,21 @@
 -- The united problem, its plans and what they cost (MA-STRIPS).
-use Rattle.std.specs.Prelude.{ℕ, suc, zero, Option, None, option_and_then, List, slice_get}
+use Rattle.std.specs.Prelude.{ℕ, suc, zero, Bool, ◌&&◌, Option, None, option_and_then, List, slice_get}
 use Rattle.std.specs.Option.{option_map_or}
 use Rattle.std.specs.List.{list_any, flat_map}
 use Rattle.mp_runs.specs.System.{System, IsPlanFrom, plan_cost}
 use Rattle.mp_joint.specs.declared.fact.NamedFact.{NamedFact}
 use Rattle.mp_joint.specs.declared.plan.PlanStep.{PlanStep}
 use Rattle.mp_joint.specs.Fact.{Text, is_among}
-use Rattle.mp_joint.specs.Instance.{Instance, State, all_true, successor}
+use Rattle.mp_joint.specs.Instance.{Instance, State, all_true, none_true, successor}
 
 -- What one agent's files bring into the united problem: the instance of each of its actions at each list of
--- objects (none where there is no such instance), its initial facts and its goals.
+-- objects (none where there is no such instance), its initial facts, the facts that its goals ask for and those that
+-- they negate.
 pub record Contribution : Type 0 where
   pub instance_at : Text → List Text → Option Instance
   pub init : List NamedFact
-  pub goals : List NamedFact
+  pub goal : List NamedFact
+  pub never : List NamedFact
 
 -- what an agent contributes; agents are numbered from 1
 abbrev pub contribution_of : List Contribution → ℕ → Option Contribution
@@ -36,16 +38,23 @@ step_cost team step = option_map_or (λ i. i.cost) (instance_of team step) 0
 abbrev pub joint_start : List Contribution → State
 joint_start team = λ f. list_any (λ c. is_among f c.init) team
 
--- the joint goal: the goals of all agents
+-- the joint goal: the facts that are to be true in the end, for all agents
 abbrev pub joint_goal : List Contribution → List NamedFact
-joint_goal team = flat_map (λ c. c.goals) team
+joint_goal team = flat_map (λ c. c.goal) team
 
--- the united problem, as a transition system: its goal states are those in which all goals are true
+-- and those that are to be false
+abbrev pub joint_never : List Contribution → List NamedFact
+joint_never team = flat_map (λ c. c.never) team
+
+-- the goals of all agents hold
+abbrev pub is_goal : List Contribution → State → Bool
+is_goal team s = all_true s (joint_goal team) && none_true s (joint_never team)
+
+-- the united problem, as a transition system
 abbrev pub united : List Contribution → System State PlanStep
-united team =
-    record { after = step_after team; cost = step_cost team; is_goal = λ s. all_true s (joint_goal team) }
+united team = record { after = step_after team; cost = step_cost team; is_goal = is_goal team }
 
--- a plan solves where each step may be applied in its turn from the start and all goals are true at the end
+-- a plan solves where each step may be applied in its turn from the start and all goals hold at the end
 abbrev pub Solves : List Contribution → List PlanStep → Type 0
 Solves team plan = IsPlanFrom (united team) (joint_start team) plan
 

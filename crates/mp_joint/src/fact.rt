@@ -1,6 +1,6 @@
 //! Facts by their names.
 
-use mp_list::{Copied, OutOfMemory};
+use mp_list::{Copied, List, OutOfMemory};
 use mp_sets::Agent;
 use mp_sexp::{Name, NameList};
 
@@ -20,6 +20,26 @@ impl Copied for NamedFact {
             owner: self.owner,
             predicate: self.predicate.copy()?,
             args: self.args.copy()?,
+        })
+    }
+}
+
+/// A fact, or the complement of one, which is true exactly where the fact is false.
+#[derive(Drop)]
+pub struct SignedFact {
+    /// Whether it is the fact itself.
+    pub positive: bool,
+    pub fact: NamedFact,
+}
+
+/// Facts and complements, one after another.
+pub type SignedFactList = List<SignedFact>;
+
+impl Copied for SignedFact {
+    fn copy(&self) -> Result<SignedFact, OutOfMemory> {
+        Ok(SignedFact {
+            positive: self.positive,
+            fact: self.fact.copy()?,
         })
     }
 }

@@ -3,9 +3,11 @@
 #![tactic(auto)]
 
 mod fact;
+mod laws;
 mod plan;
 
-pub use fact::NamedFact;
+pub use fact::{NamedFact, SignedFact, SignedFactList};
+pub use laws::{worked_plans, worked_predicates};
 pub use mp_sets::Agent;
 pub use plan::{JointPlan, Names, PlanStep};
 

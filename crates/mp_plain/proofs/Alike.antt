@@ -8,19 +8,20 @@ use Rattle.std.specs.Option.{option_map}
 use Rattle.std.specs.Prelude.{◌^◌, option_and_then, if◌then◌else◌}
 use Rattle.std.specs.Str.{bytes_eq}
 use Rattle.mp_factor.specs.declared.atom_values.Atom.{Atom}
+use Rattle.mp_factor.specs.declared.literal.Literal.{Literal}
 use Rattle.mp_factor.specs.declared.factor.Factor.{Factor}
 use Rattle.mp_factor.specs.declared.schema_values.Schema.{Schema}
 use Rattle.mp_factor.specs.declared.signature_values.Signature.{Signature}
 use Rattle.mp_factor.specs.declared.typed_values.Typed.{Typed}
 use Rattle.mp_joint.specs.Fact.{Text, Privates, named}
 use Rattle.mp_joint.specs.FactorContribution as joint
-use Rattle.mp_joint.specs.FactorContribution.{factor_contribution, privates_of, instance_of_schema, instance_with, may_stand_for}
-use Rattle.mp_joint.specs.Grounding.{fact_of, objects_of, cost_of}
+use Rattle.mp_joint.specs.FactorContribution.{factor_contribution, privates_of, facts_of, instance_of_schema, instance_with, may_stand_for}
+use Rattle.mp_joint.specs.Grounding.{asked_atoms, negated_atoms, fact_of, objects_of, cost_of}
 use Rattle.mp_joint.specs.Instance.{Instance}
 use Rattle.mp_joint.specs.declared.plan.PlanStep.{PlanStep}
-use Rattle.mp_search.specs.declared.answer.Answer.{Answer}
+use Rattle.mp_uniform.specs.declared.answer.Answer.{Answer}
 use Rattle.mp_plain.specs.PlainAnswer.{Answers}
-use Rattle.mp_plain.specs.PlainForm.{Makes, plain_of, plain_action, atom_names, is_plain_domain, is_plain_problem, is_plain_schema, is_plain_signature}
+use Rattle.mp_plain.specs.PlainForm.{Makes, are_positive, plain_of, plain_action, atom_names, is_plain_domain, is_plain_problem, is_plain_schema, is_plain_signature}
 use Rattle.mp_plain.specs.PlainContribution.{action_named, fact, instance, instance_at, no_privates, plain_contribution}
 use Rattle.mp_plain.specs.declared.form.PlainAction.{PlainAction}
 use Rattle.mp_plain.specs.declared.form.PlainFactor.{PlainFactor}
@@ -33,6 +34,7 @@ record IsPlain (factor : Factor) : Type 0 where
   schemas : list_all is_plain_schema factor.domain.schemas ≡ true
   objects : list_all (λ t. not t.private) factor.problem.objects ≡ true
   metric : factor.problem.metric ≡ false
+  goals : are_positive factor.problem.goals ≡ true
 
 plain_declarations : (factor : Factor) → is_plain_domain factor.domain ≡ true → is_plain_problem factor.problem ≡ true → IsPlain factor
 unfolding is_plain_domain is_plain_problem
@@ -45,9 +47,19 @@ plain_declarations factor d p =
       predicates = (and_parts _ _ predicates).0;
       constants = (and_parts _ _ constants).0;
       schemas = (and_parts (list_all (λ t. not t.private) factor.domain.constants) _ constants).1;
-      objects = (and_parts (not factor.problem.metric) _ p).1;
+      objects = (and_parts _ _ (and_parts (not factor.problem.metric) _ p).1).0;
+      goals =
+          (and_parts (list_all (λ t. not t.private) factor.problem.objects) _
+          (and_parts (not factor.problem.metric) _ p).1).1;
       metric = not-true _ ((and_parts _ _ p).0);
     }
+
+-- nothing stands under `not`
+none_negated : (literals : List Literal) → are_positive literals ≡ true → negated_atoms literals ≡ []
+none_negated [] h = refl
+none_negated (l ∷ ls) h =
+    let first : l.positive ≡ true = (and_parts _ _ h).0 in
+    rw first (none_negated ls (and_parts l.positive _ h).1)
 
 no_items : {X : Type 0} (xs : List X) → (length xs == 0) ≡ true → xs ≡ []
 no_items xs h = nil_from_length xs (eqb-true (length xs) 0 h)
@@ -86,24 +98,30 @@ same_facts privates params none (a ∷ as') h =
     ∙ ap (λ fs. fact_of 1 privates params [] a ∷ fs) (same_facts privates params none as' (All-tail HasNone a as' h))
 
 -- a schema without parameters has the instance of its plain action, at no objects
-plain_instance : (factor : Factor) → IsPlain factor → (s : Schema) → NoneInAction s → instance (plain_action s) ≡ instance_with 1 factor s [] 1
-plain_instance factor h s none =
+plain_instance : (factor : Factor) → IsPlain factor → (s : Schema) → is_plain_schema s ≡ true → NoneInAction s → instance (plain_action s) ≡ instance_with 1 factor s [] 1
+plain_instance factor h s plain none =
     let facts = same_facts (privates_of factor) s.params (nothing_private factor h) in
-    ap (λ l. record { pre = l; add = map fact (atom_names s.add); del = map fact (atom_names s.del); cost = 1 }) (facts s.pre none.0)
-    ∙ ap (λ l. record { pre = map (fact_of 1 (privates_of factor) s.params []) s.pre; add = l; del = map fact (atom_names s.del); cost = 1 }) (facts s.add none.1)
-    ∙ ap (λ l. record { pre = map (fact_of 1 (privates_of factor) s.params []) s.pre; add = map (fact_of 1 (privates_of factor) s.params []) s.add; del = l; cost = 1 }) (facts s.del none.2)
+    let negated =
+    sym (ap (facts_of 1 factor s.params []) (none_negated s.pre (and_parts (length s.params == 0) _ plain).1)) in
+    λ i. record {
+      positive = facts (asked_atoms s.pre) none.0 i;
+      negative = negated i;
+      add = facts s.add none.1 i;
+      del = facts s.del none.2 i;
+      cost = 1;
+    }
 
 schema_instance : (factor : Factor) → IsPlain factor → (s : Schema) → is_plain_schema s ≡ true → NoneInAction s → Some (instance (plain_action s)) ≡ instance_of_schema 1 factor [] s
 schema_instance factor h s plain none =
     let at_metric : Bool → Option Instance = λ m. option_map (instance_with 1 factor s []) (cost_of m factor.problem.values s.params [] s.increases) in
-    ap Some (plain_instance factor h s none)
-    ∙ sym (ap (λ ps. if may_stand_for factor ps [] then at_metric factor.problem.metric else None) (no_items s.params plain) ∙ ap at_metric h.metric)
+    ap Some (plain_instance factor h s plain none)
+    ∙ sym (ap (λ ps. if may_stand_for factor ps [] then at_metric factor.problem.metric else None) (no_items s.params (and_parts _ _ plain).0) ∙ ap at_metric h.metric)
 
 -- and none at any objects
 no_instance : (factor : Factor) (o : Text) (os : List Text) (s : Schema) → is_plain_schema s ≡ true → instance_of_schema 1 factor (o ∷ os) s ≡ None
 no_instance factor o os s plain =
     ap (λ ps. if may_stand_for factor ps (o ∷ os) then option_map (instance_with 1 factor s (o ∷ os)) (cost_of factor.problem.metric factor.problem.values s.params (o ∷ os) s.increases) else None)
-    (no_items s.params plain)
+    (no_items s.params (and_parts _ _ plain).0)
 
 here_or_later : (factor : Factor) (b : Bool) (s : Schema) (later : Option PlainAction) (later' : Option Schema) → Some (instance (plain_action s)) ≡ instance_of_schema 1 factor [] s → option_map instance later ≡ option_and_then (instance_of_schema 1 factor []) later' → option_map instance (if b then Some (plain_action s) else later) ≡ option_and_then (instance_of_schema 1 factor []) (if b then Some s else later')
 here_or_later factor true s later later' here rest = here
@@ -136,7 +154,8 @@ same_as_read factor h none =
     λ i. record {
       instance_at = λ name args. plain_instances factor h none name args i;
       init = facts factor.problem.init none.init i;
-      goals = facts factor.problem.goals none.goals i;
+      goal = facts (asked_atoms factor.problem.goals) none.goals i;
+      never = sym (ap (facts_of 1 factor [] []) (none_negated factor.problem.goals h.goals)) i;
     }
 
 -- a plain factor brings the same into the united problem as the factor that makes it

@@ -3,9 +3,10 @@ use Rattle.std.proofs.Common.{◌≡◌, List, [], ◌++◌, length, true}
 use Rattle.std.proofs.lemmas.Bool.{and_parts}
 use Rattle.std.specs.Prelude.{nat_le, ◌^◌}
 use Rattle.std.specs.List.{list_all, flat_map}
-use Rattle.mp_factor.specs.FactorParts.{DomainParts, ProblemParts}
+use Rattle.mp_factor.specs.declared.factor.Factor.{Factor}
+use Rattle.mp_factor.specs.FactorParts.{DomainParts}
 use Rattle.mp_factor.proofs.NoFaults.{none_in_first, none_in_second}
-use Rattle.mp_typing.specs.Lookups.{declared}
+use Rattle.mp_typing.specs.Lookups.{objects_of}
 use Rattle.mp_typing.specs.CheckFaults.{check_faults, owner_faults, declared_faults, schema_faults, problem_faults}
 use Rattle.mp_plain.specs.PlainForm.{is_plain_signature, is_plain_domain}
 
@@ -30,15 +31,13 @@ none_in_four as' bs cs ds h =
     (none_in_first as' bs two, none_in_second as' bs two, none_in_second (as' ++ bs) cs three, none_in_second (as' ++ bs ++ cs) ds h)
 
 -- nothing is wrong in the names that a factor declares, in its actions and in its problem
-pub record HasNoFaults (domain : DomainParts) (problem : ProblemParts) : Type 0 where
-  pub names : declared_faults (domain.constants ++ problem.objects) domain ≡ []
-  pub actions : flat_map (schema_faults (declared domain problem)) domain.schemas ≡ []
-  pub atoms : problem_faults (domain.constants ++ problem.objects) (declared domain problem) problem ≡ []
+pub record HasNoFaults (factor : Factor) : Type 0 where
+  pub names : declared_faults (objects_of factor) factor.domain ≡ []
+  pub actions : flat_map (schema_faults factor) factor.domain.schemas ≡ []
+  pub atoms : problem_faults factor ≡ []
 
-pub no_faults : (domain : DomainParts) (problem : ProblemParts) → check_faults domain problem ≡ [] → HasNoFaults domain problem
+pub no_faults : (factor : Factor) → check_faults factor.domain factor.problem ≡ [] → HasNoFaults factor
 unfolding check_faults
-no_faults domain problem h =
-    let objects = domain.constants ++ problem.objects in
-    let known = declared domain problem in
-    let parts = none_in_four (owner_faults domain.word problem.domain) (declared_faults objects domain) (flat_map (schema_faults known) domain.schemas) (problem_faults objects known problem) h in
+no_faults factor h =
+    let parts = none_in_four (owner_faults factor.domain.word factor.problem.domain) (declared_faults (objects_of factor) factor.domain) (flat_map (schema_faults factor) factor.domain.schemas) (problem_faults factor) h in
     record { names = parts.1; actions = parts.2; atoms = parts.3 }

@@ -2,11 +2,11 @@
 use Rattle.std.proofs.Common.{◌≡◌, ℕ, Some, ◌≤◌, List, sym, ap, ◌∙◌, subst}
 use Rattle.mp_factor.specs.declared.factor.Factor.{Factor}
 use Rattle.mp_joint.specs.declared.plan.PlanStep.{PlanStep}
-use Rattle.mp_search.specs.Outcome.{AnswerHolds, IsDecided, IsLeast}
-use Rattle.mp_search.specs.Run.{outcome_after, IsOnlySchedule}
-use Rattle.mp_search.specs.declared.answer.Answer.{Answer}
-use Rattle.mp_search.specs.declared.answer.Answer.TheVariants.{Nothing, Solved, Unsolvable, Undecided}
-use Rattle.mp_search.specs.declared.task.PlainTask.{PlainTask}
+use Rattle.mp_uniform.specs.Outcome.{AnswerHolds, IsDecided, IsLeast}
+use Rattle.mp_uniform.specs.Run.{outcome_after, IsOnlySchedule}
+use Rattle.mp_uniform.specs.declared.answer.Answer.{Answer}
+use Rattle.mp_uniform.specs.declared.answer.Answer.TheVariants.{Nothing, Solved, Unsolvable, Undecided}
+use Rattle.mp_uniform.specs.declared.task.PlainTask.{PlainTask}
 use Rattle.mp_plain.specs.declared.form.PlainFactor.{PlainFactor}
 use Rattle.mp_plain.specs.Numbered.{numbered, named_plan}
 use Rattle.mp_plain.specs.PlainAnswer.{Answers, IsFound, most_expansions}

@@ -6,6 +6,7 @@ use Rattle.std.specs.List.{find, list_all, cons_option}
 use Rattle.std.specs.Option.{option_map, option_map_or}
 use Rattle.std.specs.Prelude.{option_and_then, slice_get, if◌then◌else◌}
 use Rattle.std.specs.Str.{bytes_eq}
+use Rattle.mp_list.proofs.Bools.{and_true}
 use Rattle.mp_runs.specs.Simulation.{Simulates, HasAnswer, StandsForAll}
 use Rattle.mp_runs.proofs.Costs.{plan_cost-cons, equal_costs}
 use Rattle.mp_runs.proofs.Runs.{run-one}
@@ -16,11 +17,11 @@ use Rattle.mp_joint.specs.Instance.{Instance}
 use Rattle.mp_joint.specs.Plan as joint
 use Rattle.mp_joint.specs.Plan.{Contribution, united}
 use Rattle.mp_joint.specs.declared.plan.PlanStep.{PlanStep}
-use Rattle.mp_search.specs.Facts.{Facts}
-use Rattle.mp_search.specs.Task as task
-use Rattle.mp_search.specs.declared.task.Action.{Action}
-use Rattle.mp_search.proofs.PlanSteps.{step_parts, step_taken, step_cost_is}
-use Rattle.mp_search.proofs.Runs.{some_map, some_then, cond_some_parts}
+use Rattle.mp_uniform.specs.Facts.{Facts}
+use Rattle.mp_uniform.specs.Task as task
+use Rattle.mp_uniform.specs.declared.task.Action.{Action}
+use Rattle.mp_uniform.proofs.PlanSteps.{step_parts, step_taken, step_cost_is}
+use Rattle.mp_uniform.proofs.Runs.{some_map, some_then, cond_some_parts}
 use Rattle.mp_plain.specs.declared.form.PlainAction.{PlainAction}
 use Rattle.mp_plain.specs.declared.form.PlainFactor.{PlainFactor}
 use Rattle.mp_plain.specs.Numbered.{numbered, numbered_action, named_plan, step_of}
@@ -55,7 +56,8 @@ is_action factor w n a there = record {
 -- it may be applied in both or in neither
 both_apply : (factor : PlainFactor) (n : ℕ) (a : PlainAction) → IsAction factor n a → (s : named.State) (t : Facts) → Matches factor.predicates s t
     → named.applies (instance a) s ≡ task.applies (numbered_action factor.predicates a) t
-both_apply factor n a is s t m = all_match factor.predicates a.pre s t m (and_parts _ _ is.declared).0
+both_apply factor n a is s t m =
+    and_true (named.all_true s (map fact a.pre)) ∙ all_match factor.predicates a.pre s t m (and_parts _ _ is.declared).0
 
 -- it leads from a state by names to the one after its instance
 leads : (factor : PlainFactor) (n : ℕ) (a : PlainAction) → IsAction factor n a → (s : named.State) → named.applies (instance a) s ≡ true
@@ -72,9 +74,10 @@ numbered_cost factor n a is = step_cost_is (numbered factor) n (numbered_action 
 
 -- both have goals where they match
 same_goals : (factor : PlainFactor) → IsWellFormed factor → (s : named.State) (t : Facts) → Matches factor.predicates s t
-    → named.all_true s (joint.joint_goal (team factor)) ≡ task.is_goal (numbered factor) t
+    → joint.is_goal (team factor) s ≡ task.is_goal (numbered factor) t
 same_goals factor w s t m =
-    ap (named.all_true s) (append-nil (map fact factor.goals)) ∙ all_match factor.predicates factor.goals s t m w.goals
+    and_true (named.all_true s (joint.joint_goal (team factor)))
+    ∙ ap (named.all_true s) (append-nil (map fact factor.goals)) ∙ all_match factor.predicates factor.goals s t m w.goals
 
 starts : (factor : PlainFactor) → IsWellFormed factor → Matches factor.predicates (joint.joint_start (team factor)) (task.start (numbered factor))
 starts factor w = start_matches factor.predicates factor.init w.init

@@ -6,8 +6,8 @@ use Rattle.std.specs.List.{list_all, All}
 use Rattle.std.specs.Str.{bytes_eq}
 use Rattle.std.proofs.lemmas.List.Elements.{All-nil, All-cons}
 use Rattle.mp_joint.specs.Fact.{is_listed}
-use Rattle.mp_search.specs.Task.{IsSmall, IsSmallAction}
-use Rattle.mp_search.specs.declared.task.PlainTask.{PlainTask}
+use Rattle.mp_uniform.specs.Task.{IsSmall, IsSmallAction}
+use Rattle.mp_uniform.specs.declared.task.PlainTask.{PlainTask}
 use Rattle.mp_plain.specs.declared.form.PlainAction.{PlainAction}
 use Rattle.mp_plain.specs.declared.form.PlainFactor.{PlainFactor}
 use Rattle.mp_plain.specs.PlainContribution.{IsWellFormed, are_listed, is_declared}

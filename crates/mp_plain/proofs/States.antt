@@ -9,8 +9,8 @@ use Rattle.std.specs.FinSet.{contains-from_list_nat, contains-union, contains-di
 use Rattle.std.specs.Prelude.{not}
 use Rattle.mp_joint.specs.Fact.{is_listed, is_among}
 use Rattle.mp_joint.specs.Instance as named
-use Rattle.mp_search.specs.Facts.{Facts, all_true}
-use Rattle.mp_search.specs.Task as task
+use Rattle.mp_uniform.specs.Facts.{Facts, all_true}
+use Rattle.mp_uniform.specs.Task as task
 use Rattle.mp_plain.specs.declared.form.PlainAction.{PlainAction}
 use Rattle.mp_plain.specs.Numbered.{number_in, numbered_action}
 use Rattle.mp_plain.specs.PlainContribution.{fact, instance, are_listed, is_declared}

@@ -8,8 +8,8 @@ use Rattle.mp_joint.specs.Fact.{Text}
 use Rattle.mp_joint.specs.declared.plan.PlanStep.{PlanStep}
 use Rattle.mp_plain.specs.declared.form.PlainAction.{PlainAction}
 use Rattle.mp_plain.specs.declared.form.PlainFactor.{PlainFactor}
-use Rattle.mp_search.specs.declared.task.Action.{Action}
-use Rattle.mp_search.specs.declared.task.PlainTask.{PlainTask}
+use Rattle.mp_uniform.specs.declared.task.Action.{Action}
+use Rattle.mp_uniform.specs.declared.task.PlainTask.{PlainTask}
 
 -- the number of a predicate: its place among the declared ones, from 0
 abbrev pub number_in : List Text → Text → ℕ

@@ -4,9 +4,9 @@ use Rattle.mp_factor.specs.declared.factor.Factor.{Factor}
 use Rattle.mp_joint.specs.FactorContribution.{factor_contribution}
 use Rattle.mp_joint.specs.Plan.{Contribution, Solves, cost}
 use Rattle.mp_joint.specs.declared.plan.PlanStep.{PlanStep}
-use Rattle.mp_search.specs.Run.{outcome_after, IsOnlySchedule}
-use Rattle.mp_search.specs.declared.answer.Answer.{Answer}
-use Rattle.mp_search.specs.declared.answer.Answer.TheVariants.{Nothing, Solved, Unsolvable, Undecided}
+use Rattle.mp_uniform.specs.Run.{outcome_after, IsOnlySchedule}
+use Rattle.mp_uniform.specs.declared.answer.Answer.{Answer}
+use Rattle.mp_uniform.specs.declared.answer.Answer.TheVariants.{Nothing, Solved, Unsolvable, Undecided}
 use Rattle.mp_plain.specs.Numbered.{numbered, named_plan}
 use Rattle.mp_plain.specs.PlainForm.{plain_of}
 

@@ -20,7 +20,14 @@ fact predicate = named 1 no_privates predicate []
 
 -- the instance of an action without parameters
 abbrev pub instance : PlainAction → Instance
-instance a = record { pre = map fact a.pre; add = map fact a.add; del = map fact a.del; cost = 1 }
+instance a =
+    record {
+      positive = map fact a.pre;
+      negative = [];
+      add = map fact a.add;
+      del = map fact a.del;
+      cost = 1;
+    }
 
 -- the action of a name
 abbrev pub action_named : List PlainAction → Text → Option PlainAction
@@ -33,7 +40,12 @@ instance_at actions name (arg ∷ args) = None
 
 abbrev pub plain_contribution : PlainFactor → Contribution
 plain_contribution factor =
-    record { instance_at = instance_at factor.actions; init = map fact factor.init; goals = map fact factor.goals }
+    record {
+      instance_at = instance_at factor.actions;
+      init = map fact factor.init;
+      goal = map fact factor.goals;
+      never = [];
+    }
 
 -- all these names are declared
 abbrev pub are_listed : List Text → List Text → Bool

@@ -2,10 +2,12 @@
 
 ghost use Rattle.std.specs.Prelude.{◌≡◌, true, false, not, map, IfOk, IsErrOf, length};
 ghost use Rattle.std.specs.List.{list_all};
-ghost use Rattle.mp_plain.specs.PlainForm.{atom_names, plain_action, plain_actions, plain_of, is_plain_signature, is_plain_schema, is_plain_domain, is_plain_problem, Makes};
+ghost use Rattle.mp_plain.specs.PlainForm.{atom_names, plain_action, plain_actions, plain_of, are_positive, is_plain_signature, is_plain_schema, is_plain_domain, is_plain_problem, Makes};
+ghost use Rattle.mp_joint.specs.Grounding.{asked_atoms};
 
 use mp_factor::{
-    AtomList, Domain, File, Problem, Schema, SchemaList, Signature, SignatureList, TypedList,
+    AtomList, Domain, File, LiteralList, Problem, Schema, SchemaList, Signature, SignatureList,
+    TypedList,
 };
 use mp_list::{Copied, List, OutOfMemory};
 use mp_sexp::{Name, NameList};
@@ -75,11 +77,18 @@ fn is_plain_predicate(signature: &Signature) -> bool
     signature.params.len() == 0 && !signature.private
 }
 
-/// Whether an action has no parameters.
+/// Whether nothing stands under `not` in a condition.
+fn is_positive(literals: &LiteralList) -> bool
+    ensures { result ≡ are_positive literals.now }
+{
+    literals.as_slice().iter().all(|one| one.positive)
+}
+
+/// Whether an action has no parameters and nothing under `not` in its precondition.
 fn is_plain_action(schema: &Schema) -> bool
     ensures { result ≡ is_plain_schema schema.now }
 {
-    schema.params.len() == 0
+    schema.params.len() == 0 && is_positive(&schema.pre)
 }
 
 /// Whether these predicates have no parameters and are not private.
@@ -124,7 +133,7 @@ fn is_plain(domain: &Domain) -> bool
 fn is_plain_too(problem: &Problem) -> bool
     ensures { result ≡ is_plain_problem problem.now }
 {
-    !problem.metric && are_public(&problem.objects)
+    !problem.metric && are_public(&problem.objects) && is_positive(&problem.goals)
 }
 
 /// The predicates of atoms.
@@ -134,6 +143,19 @@ fn names_of(alloc: Global, atoms: &AtomList) -> Result<NameList, OutOfMemory>
     let mut names = List::new(alloc);
     for atom in atoms.as_slice() {
         names.push(atom.word.name.copy()?)?;
+    }
+    Ok(names)
+}
+
+/// The predicates of the atoms that a condition asks for.
+fn names_asked(alloc: Global, literals: &LiteralList) -> Result<NameList, OutOfMemory>
+    ensures { IfOk result (λ names. names ≡ atom_names (asked_atoms literals.now)) }
+{
+    let mut names = List::new(alloc);
+    for literal in literals.as_slice() {
+        if literal.positive {
+            names.push(literal.atom.word.name.copy()?)?;
+        }
     }
     Ok(names)
 }
@@ -155,7 +177,7 @@ fn action_of(alloc: Global, schema: &Schema) -> Result<PlainAction, OutOfMemory>
 {
     Ok(PlainAction {
         name: schema.word.name.copy()?,
-        pre: names_of(alloc, &schema.pre)?,
+        pre: names_asked(alloc, &schema.pre)?,
         add: names_of(alloc, &schema.add)?,
         del: names_of(alloc, &schema.del)?,
     })
@@ -173,7 +195,7 @@ fn actions_of(alloc: Global, schemas: &SchemaList) -> Result<List<PlainAction>, 
 }
 
 /// The plain form of a checked factor: at most 16 predicates, none of them and no action with parameters, no
-/// metric, and nothing private.
+/// metric, nothing private, and nothing under `not` in preconditions and goals.
 ///
 /// `NotBuilt` names the domain exactly where it is not of that form, and the problem exactly where the domain is
 /// and the problem is not.
@@ -194,6 +216,6 @@ pub fn plain(alloc: Global, checked: &CheckedFactor) -> Result<PlainFactor, Plai
         predicates: predicates_of(alloc, &factor.domain.predicates)?,
         actions: actions_of(alloc, &factor.domain.schemas)?,
         init: names_of(alloc, &factor.problem.init)?,
-        goals: names_of(alloc, &factor.problem.goals)?,
+        goals: names_asked(alloc, &factor.problem.goals)?,
     })
 }

@@ -6,7 +6,7 @@ ghost use Rattle.mp_plain.specs.Numbered.{named_plan, step_of};
 use crate::form::PlainAction;
 use mp_joint::{Agent, JointPlan, PlanStep};
 use mp_list::{Copied, List, OutOfMemory};
-use mp_search::ActionNumbers;
+use mp_uniform::ActionNumbers;
 use std::alloc::Global;
 
 /// The step that an action stands for.

@@ -3,12 +3,12 @@
 ghost use Rattle.std.specs.Prelude.{◌≡◌, ◌≤◌, IfOk, map, length};
 ghost use Rattle.mp_plain.specs.PlainForm.{IsRead};
 ghost use Rattle.mp_plain.specs.Numbered.{number_in, numbered, numbered_action};
-ghost use Rattle.mp_search.specs.Task.{IsSmall};
+ghost use Rattle.mp_uniform.specs.Task.{IsSmall};
 
 use crate::form::{PlainAction, PlainFactor};
 use mp_list::{List, OutOfMemory};
-use mp_search::{Action, ActionList, PlainTask};
 use mp_sexp::{Name, NameList};
+use mp_uniform::{Action, ActionList, PlainTask};
 use std::alloc::Global;
 
 /// The number of a predicate: its place among the declared ones, from 0, or how many there are where it is not

@@ -4,14 +4,14 @@ ghost use Rattle.std.specs.Prelude.{◌≡◌, IfOk};
 ghost use Rattle.mp_plain.specs.PlainAnswer.{IsFound};
 ghost use Rattle.mp_factor.specs.declared.factor.Factor.{Factor};
 ghost use Rattle.mp_plain.specs.PlainForm.{IsRead, Makes};
-ghost use Rattle.mp_search.specs.Outcome.{IsDecided};
+ghost use Rattle.mp_uniform.specs.Outcome.{IsDecided};
 
 use crate::form::PlainFactor;
 use crate::naming::steps;
 use crate::numbering::numbered_task;
 use mp_joint::{Agent, JointPlan};
 use mp_list::OutOfMemory;
-use mp_search::{Answer, uniform};
+use mp_uniform::{Answer, uniform};
 use std::alloc::Global;
 
 /// What a search found.

@@ -7,9 +7,9 @@ use super::*;
 use crate::numbering::numbered_task;
 use mp_factor::{Domain, File, Problem, domain, problem};
 use mp_list::{List, OutOfMemory};
-use mp_search::{Action, Answer, PlainTask};
 use mp_sexp::read;
 use mp_typing::{CheckedFactor, check};
+use mp_uniform::{Action, Answer, PlainTask};
 use std::alloc::Global;
 use std::test::Fail;
 

@@ -3,9 +3,9 @@ use Rattle.std.proofs.Common.{◌≡◌, ◌<◌, ◌⊎◌, inl, inr, [], Optio
 use Rattle.mp_outside.specs.Source.{Files}
 use Rattle.mp_factor.specs.declared.factor.Factor.{Factor}
 use Rattle.mp_factor.specs.declared.files.File.{File}
-use Rattle.mp_search.specs.Outcome.{IsDecided}
-use Rattle.mp_search.specs.declared.answer.Answer.{Answer}
-use Rattle.mp_search.specs.declared.answer.Answer.TheVariants as answer
+use Rattle.mp_uniform.specs.Outcome.{IsDecided}
+use Rattle.mp_uniform.specs.declared.answer.Answer.{Answer}
+use Rattle.mp_uniform.specs.declared.answer.Answer.TheVariants as answer
 use Rattle.mp_top.specs.Answered.{IsOutcome}
 use Rattle.mp_top.specs.Call.{Call, SeenSource, Says}
 use Rattle.mp_top.specs.Cause.{CannotRead, Rests}

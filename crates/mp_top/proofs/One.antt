@@ -2,10 +2,10 @@
 use Rattle.std.proofs.Common.{◌≡◌, ◌<◌, ◌≤◌, ◌⊎◌, inl, inr, ℕ, zero, suc, List, [], length, Option, Some, None, Result, Ok, Err, refl, sym, ap, ◌∙◌, subst, arith}
 use Rattle.std.specs.Prelude.{Bool, true, false, Contains}
 use Rattle.mp_factor.specs.FactorParts.{DomainParts, ProblemParts}
-use Rattle.mp_factor.specs.FileValues.{domain_value, problem_value}
-use Rattle.mp_factor.specs.Files.{file_faults}
-use Rattle.mp_factor.specs.First.{IsFirst as IsFirstOf}
-use Rattle.mp_factor.specs.declared.fault.Fault.{Fault as ShapeFault}
+use Rattle.mp_factor.specs.Values.Files.{domain_value, problem_value}
+use Rattle.mp_factor.specs.Faults.Files.{domain_faults, problem_faults}
+use Rattle.mp_factor.specs.Faults.First.{IsFirst as IsFirstOf}
+use Rattle.mp_factor.specs.Fault.{Fault as ShapeFault}
 use Rattle.mp_factor.specs.declared.factor.Factor.{Factor}
 use Rattle.mp_joint.specs.Fact.{Text}
 use Rattle.mp_outside.specs.Source.{Files}
@@ -91,20 +91,20 @@ none_first faults first none is =
     let among : Contains [] first = subst (λ fs. Contains fs first) none is.among in
     absurd (omega (arith, among.1))
 
-one_shape : {X : Type 0} → Laws → (at : File) (node : Node) (value : X) → IsOne (HasShape at node value)
-one_shape laws at node value (Ok m) (Ok n) h k = ap Ok (h.0 ∙ sym k.0)
-one_shape laws at node value (Ok m) (Err r) h k = absurd (none_first (file_faults at node) k.0 h.1 k.1)
-one_shape laws at node value (Err r) (Ok n) h k = absurd (none_first (file_faults at node) h.0 k.1 h.1)
-one_shape laws at node value (Err r) (Err s) h k =
-    ap Err (h.2 ∙ ap (shape_refusal at node) (laws.one_first (file_faults at node) h.0 k.0 h.1 k.1) ∙ sym k.2)
+one_shape : {X : Type 0} → Laws → (at : File) (faults : List ShapeFault) (value : X) → IsOne (HasShape at faults value)
+one_shape laws at faults value (Ok m) (Ok n) h k = ap Ok (h.0 ∙ sym k.0)
+one_shape laws at faults value (Ok m) (Err r) h k = absurd (none_first faults k.0 h.1 k.1)
+one_shape laws at faults value (Err r) (Ok n) h k = absurd (none_first faults h.0 k.1 h.1)
+one_shape laws at faults value (Err r) (Err s) h k =
+    ap Err (h.2 ∙ ap (shape_refusal at) (laws.one_first faults h.0 k.0 h.1 k.1) ∙ sym k.2)
 
 one_domain : Laws → (text : Text) → IsOne (SaysDomain text)
 one_domain laws text =
-    one_then (Spells file.Domain text) _ (one_spelled laws file.Domain text) (λ node. one_shape laws file.Domain node (domain_value node))
+    one_then (Spells file.Domain text) _ (one_spelled laws file.Domain text) (λ node. one_shape laws file.Domain (domain_faults node) (domain_value node))
 
 one_problem : Laws → (text : Text) → IsOne (SaysProblem text)
 one_problem laws text =
-    one_then (Spells file.Problem text) _ (one_spelled laws file.Problem text) (λ node. one_shape laws file.Problem node (problem_value node))
+    one_then (Spells file.Problem text) _ (one_spelled laws file.Problem text) (λ node. one_shape laws file.Problem (problem_faults node) (problem_value node))
 
 none_checked : (faults : List CheckFault) (first : CheckFault) → faults ≡ [] → IsFirstCheck faults first → ⊥
 none_checked faults first none is =

@@ -5,8 +5,8 @@ use Rattle.mp_joint.specs.Fact.{Text}
 use Rattle.mp_joint.specs.declared.plan.PlanStep.{PlanStep}
 use Rattle.mp_outside.specs.Source.{Files}
 use Rattle.mp_plain.specs.PlainAnswer.{IsFound}
-use Rattle.mp_search.specs.Outcome.{IsDecided}
-use Rattle.mp_search.specs.declared.answer.Answer.{Answer}
+use Rattle.mp_uniform.specs.Outcome.{IsDecided}
+use Rattle.mp_uniform.specs.declared.answer.Answer.{Answer}
 use Rattle.mp_top.specs.Files.{HoldsFactor}
 use Rattle.mp_top.specs.Outcome.{outcome_text}
 use Rattle.mp_top.specs.Words.{Request}

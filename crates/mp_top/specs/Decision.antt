@@ -8,7 +8,7 @@ use Rattle.mp_outside.specs.Source.{Files}
 use Rattle.mp_plain.specs.PlainAnswer.{IsFound}
 use Rattle.mp_plain.specs.PlainForm.{Makes}
 use Rattle.mp_plain.specs.declared.form.PlainFactor.{PlainFactor}
-use Rattle.mp_search.specs.Outcome.{IsDecided}
+use Rattle.mp_uniform.specs.Outcome.{IsDecided}
 use Rattle.mp_top.specs.Answered.{IsOutcome, lone_log}
 use Rattle.mp_top.specs.Call.{SeenSink, Says}
 use Rattle.mp_top.specs.Keeps.{answer_status}

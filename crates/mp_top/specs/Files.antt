@@ -1,15 +1,14 @@
 -- What the files of a request lead to, in the one order of refusals: each file in the order of the words is looked
 -- for and measured; then each text is read and its shape looked at; then names, numbers of terms and declarations are
 -- checked; and at last the form is looked at.
-use Rattle.std.specs.Prelude.{◌≡◌, ◌<◌, ◌≤◌, ℕ, [], length, true, false, Option, Some, None, Ok, Err, IsSomeAnd}
-use Rattle.mp_factor.specs.Files.{file_faults}
-use Rattle.mp_factor.specs.First.{IsFirst as IsFirstOf}
-use Rattle.mp_factor.specs.Shapes.{word_at, or_nothing}
-use Rattle.mp_factor.specs.declared.fault.Fault.{Fault as ShapeFault}
+use Rattle.std.specs.Prelude.{◌≡◌, ◌<◌, ◌≤◌, ℕ, List, [], length, true, false, Option, Some, None, Ok, Err, IsSomeAnd}
+use Rattle.mp_factor.specs.Faults.Files.{domain_faults, problem_faults}
+use Rattle.mp_factor.specs.Faults.First.{IsFirst as IsFirstOf}
+use Rattle.mp_factor.specs.Fault.{Fault as ShapeFault}
 use Rattle.mp_factor.specs.declared.fault.FaultKind.{FaultKind}
 use Rattle.mp_factor.specs.declared.fault.FaultKind.TheVariants as shape
 use Rattle.mp_factor.specs.FactorParts.{DomainParts, ProblemParts}
-use Rattle.mp_factor.specs.FileValues.{domain_value, problem_value}
+use Rattle.mp_factor.specs.Values.Files.{domain_value, problem_value}
 use Rattle.mp_factor.specs.declared.factor.Factor.{Factor}
 use Rattle.mp_factor.specs.declared.refusal.ShapeRefusal.{ShapeRefusal}
 use Rattle.mp_factor.specs.declared.refusal.ShapeRefusal.TheVariants as shapes
@@ -23,7 +22,6 @@ use Rattle.mp_factor.specs.declared.files.File.{File}
 use Rattle.mp_factor.specs.declared.files.File.TheVariants as file
 use Rattle.mp_sexp.specs.declared.refusal.ReadRefusal.{ReadRefusal}
 use Rattle.mp_sexp.specs.declared.refusal.ReadRefusal.TheVariants as text
-use Rattle.mp_sexp.specs.declared.tree.Place.{Place}
 use Rattle.mp_typing.specs.CheckFaults.{check_faults}
 use Rattle.mp_typing.specs.FirstFault.{IsFirst as IsFirstCheck}
 use Rattle.mp_typing.specs.declared.fault.Fault.{Fault as CheckFault}
@@ -72,15 +70,15 @@ abbrev pub Spells : File → Text → Reading Node
 Spells at text (Ok node) = HasTree text node
 Spells at text (Err r) = (first : ReadRefusal) × ReadFault text first × (r ≡ text_refusal at first)
 
--- what a fault of the shape of a file's tree is here, by its kind
-abbrev pub shape_fault : Node → Place → FaultKind → Fault
-shape_fault node place shape.Shape = fault.Shape
-shape_fault node place shape.Unsupported = fault.Unsupported (or_nothing (word_at place node))
-shape_fault node place shape.Parameters = fault.Parameters
-shape_fault node place shape.Cost = fault.Cost
+-- what a fault of the shape of a file's tree is here, by its word and kind
+abbrev pub shape_fault : Text → FaultKind → Fault
+shape_fault word shape.Shape = fault.Shape
+shape_fault word shape.Unsupported = fault.Unsupported word
+shape_fault word shape.Parameters = fault.Parameters
+shape_fault word shape.Cost = fault.Cost
 
-abbrev pub shape_refusal : File → Node → ShapeFault → Refusal
-shape_refusal at node first = why.Fault at (shape_fault node first.place first.kind) first.place
+abbrev pub shape_refusal : File → ShapeFault → Refusal
+shape_refusal at first = why.Fault at (shape_fault first.word first.kind) first.place
 
 -- what the refusal of a file's tree for its shape is here
 abbrev pub told_shape : File → ShapeRefusal → Refusal
@@ -90,19 +88,19 @@ told_shape at (shapes.Parameters place) = why.Fault at fault.Parameters place
 told_shape at (shapes.Cost place) = why.Fault at fault.Cost place
 told_shape at shapes.OutOfMemory = why.OutOfMemory
 
--- a tree that has the shape of such a file leads to what it says
-abbrev pub HasShape : {X : Type 0} → File → Node → X → Reading X
-HasShape at node value (Ok said) = (said ≡ value) × (file_faults at node ≡ [])
-HasShape at node value (Err r) =
-    (first : ShapeFault) × IsFirstOf (file_faults at node) first × (r ≡ shape_refusal at node first)
+-- a tree without faults of shape leads to what it says
+abbrev pub HasShape : {X : Type 0} → File → List ShapeFault → X → Reading X
+HasShape at faults value (Ok said) = (said ≡ value) × (faults ≡ [])
+HasShape at faults value (Err r) =
+    (first : ShapeFault) × IsFirstOf faults first × (r ≡ shape_refusal at first)
 
 -- a text leads to the domain that it says
 abbrev pub SaysDomain : Text → Reading DomainParts
-SaysDomain text = Then (Spells file.Domain text) (λ node. HasShape file.Domain node (domain_value node))
+SaysDomain text = Then (Spells file.Domain text) (λ node. HasShape file.Domain (domain_faults node) (domain_value node))
 
 -- and to the problem
 abbrev pub SaysProblem : Text → Reading ProblemParts
-SaysProblem text = Then (Spells file.Problem text) (λ node. HasShape file.Problem node (problem_value node))
+SaysProblem text = Then (Spells file.Problem text) (λ node. HasShape file.Problem (problem_faults node) (problem_value node))
 
 -- what a fault that the checks find is here, by its kind
 abbrev pub check_fault : Text → CheckKind → Fault

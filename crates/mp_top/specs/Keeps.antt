@@ -3,8 +3,8 @@ use Rattle.std.specs.Prelude.{◌≡◌, ◌<◌, ◌↔◌, ◌⊎◌, List, []
 use Rattle.std.specs.Io.KnownBytes.{Appends}
 use Rattle.mp_joint.specs.Fact.{Text}
 use Rattle.mp_outside.specs.Sink.{AppendsBeginning}
-use Rattle.mp_search.specs.declared.answer.Answer.{Answer}
-use Rattle.mp_search.specs.declared.answer.Answer.TheVariants as answer
+use Rattle.mp_uniform.specs.declared.answer.Answer.{Answer}
+use Rattle.mp_uniform.specs.declared.answer.Answer.TheVariants as answer
 use Rattle.mp_factor.specs.declared.files.File.{File}
 use Rattle.mp_top.specs.Answered.{IsOutcome}
 use Rattle.mp_top.specs.Call.{Call, SeenSource, SeenSink, Says}

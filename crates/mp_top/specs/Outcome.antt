@@ -5,8 +5,8 @@ use Rattle.mp_joint.specs.declared.plan.PlanStep.{PlanStep}
 use Rattle.mp_messages.specs.History.{schedule}
 use Rattle.mp_messages.specs.declared.history.Entry.{Entry}
 use Rattle.mp_messages.specs.declared.history.Entry.TheVariants.{Act, Put, Took}
-use Rattle.mp_search.specs.declared.Answer.{Answer}
-use Rattle.mp_search.specs.declared.Answer.TheVariants.{Nothing, Solved, Unsolvable, Undecided}
+use Rattle.mp_uniform.specs.declared.Answer.{Answer}
+use Rattle.mp_uniform.specs.declared.Answer.TheVariants.{Nothing, Solved, Unsolvable, Undecided}
 
 -- these lines, one after another
 abbrev pub text_of_lines : List (List ℕ) → List ℕ

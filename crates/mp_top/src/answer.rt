@@ -9,8 +9,8 @@ use crate::outcome::write_outcome;
 use mp_list::{List, OutOfMemory};
 use mp_messages::{Entry, Kind, Log};
 use mp_plain::{PlainFactor, solve};
-use mp_search::Answer;
 use mp_sets::Agent;
+use mp_uniform::Answer;
 use std::alloc::Global;
 
 /// How many agents there are.

@@ -19,7 +19,7 @@ use crate::status::Status;
 use crate::words::{Request, parse_words};
 use mp_outside::{Sink, Source, put};
 use mp_plain::PlainFactor;
-use mp_search::Answer;
+use mp_uniform::Answer;
 use std::alloc::Global;
 
 /// The answer to a plain factor.

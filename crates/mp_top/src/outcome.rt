@@ -9,7 +9,7 @@ use itoa::Buffer;
 use mp_joint::{JointPlan, PlanStep};
 use mp_list::OutOfMemory;
 use mp_messages::{Entry, Log};
-use mp_search::Answer;
+use mp_uniform::Answer;
 use std::alloc::Global;
 
 /// Appends bytes.

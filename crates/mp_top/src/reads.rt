@@ -1,7 +1,8 @@
 //! The two files of a request, read as one factor, and that brought into plain form.
 
 ghost use Rattle.std.specs.Prelude.{◌≡◌, ◌<◌, ◌≤◌, Some, Ok, IfOk, IfErr, IfSome, length, vec_len};
-ghost use Rattle.mp_factor.specs.FileValues.{domain_value, problem_value};
+ghost use Rattle.mp_factor.specs.Values.Files.{domain_value, problem_value};
+ghost use Rattle.mp_factor.specs.Faults.Files.{domain_faults, problem_faults};
 ghost use Rattle.mp_plain.specs.PlainForm.{IsRead};
 ghost use Rattle.mp_sexp.specs.Node.{node_of};
 ghost use Rattle.mp_sexp.specs.Spelling.{HasTree};
@@ -50,13 +51,13 @@ fn text_of<S: Source>(
     }
 }
 
-/// The tree of a file's text.
-fn tree_of(alloc: Global, text: &[u8], file: File) -> Result<Tree, Refusal>
-    requires { length text.now ≤ longest_file }
-    ensures tree { IfOk result (λ tree. HasTree text.now (node_of tree)) }
-    ensures cause { IfErr result (Refuses (Spells file text.now)) }
+/// The tree of a file's text, which is let go, so that text and factor are never held together.
+fn tree_of(alloc: Global, text: Vec<u8>, file: File) -> Result<Tree, Refusal>
+    requires { vec_len text ≤ longest_file }
+    ensures tree { IfOk result (λ tree. HasTree text.items (node_of tree)) }
+    ensures cause { IfErr result (Refuses (Spells file text.items)) }
 {
-    match read(alloc, text) {
+    match read(alloc, text.as_slice()) {
         Ok(tree) => Ok(tree),
         Err(ReadRefusal::Char(place)) => Err(Refusal::Fault(file, Fault::Char, place)),
         Err(ReadRefusal::Unbalanced(place)) => Err(Refusal::Fault(file, Fault::Unbalanced, place)),
@@ -104,8 +105,8 @@ fn refusal_of_check(refusal: CheckRefusal) -> Refusal
 
 /// What a domain's tree says.
 fn said_domain(alloc: Global, tree: &Tree) -> Result<Domain, Refusal>
-    ensures said { IfOk result (λ said. HasShape File.Domain (node_of tree.now) (domain_value (node_of tree.now)) (Ok said)) }
-    ensures cause { IfErr result (Refuses (HasShape File.Domain (node_of tree.now) (domain_value (node_of tree.now)))) }
+    ensures said { IfOk result (λ said. HasShape File.Domain (domain_faults (node_of tree.now)) (domain_value (node_of tree.now)) (Ok said)) }
+    ensures cause { IfErr result (Refuses (HasShape File.Domain (domain_faults (node_of tree.now)) (domain_value (node_of tree.now)))) }
 {
     match domain(alloc, tree) {
         Ok(said) => Ok(said),
@@ -115,8 +116,8 @@ fn said_domain(alloc: Global, tree: &Tree) -> Result<Domain, Refusal>
 
 /// What a problem's tree says.
 fn said_problem(alloc: Global, tree: &Tree) -> Result<Problem, Refusal>
-    ensures said { IfOk result (λ said. HasShape File.Problem (node_of tree.now) (problem_value (node_of tree.now)) (Ok said)) }
-    ensures cause { IfErr result (Refuses (HasShape File.Problem (node_of tree.now) (problem_value (node_of tree.now)))) }
+    ensures said { IfOk result (λ said. HasShape File.Problem (problem_faults (node_of tree.now)) (problem_value (node_of tree.now)) (Ok said)) }
+    ensures cause { IfErr result (Refuses (HasShape File.Problem (problem_faults (node_of tree.now)) (problem_value (node_of tree.now)))) }
 {
     match problem(alloc, tree) {
         Ok(said) => Ok(said),
@@ -125,20 +126,20 @@ fn said_problem(alloc: Global, tree: &Tree) -> Result<Problem, Refusal>
 }
 
 /// The domain that a text says.
-fn domain_of_text(alloc: Global, text: &[u8]) -> Result<Domain, Refusal>
-    requires { length text.now ≤ longest_file }
-    ensures said { IfOk result (λ said. SaysDomain text.now (Ok said)) }
-    ensures cause { IfErr result (Refuses (SaysDomain text.now)) }
+fn domain_of_text(alloc: Global, text: Vec<u8>) -> Result<Domain, Refusal>
+    requires { vec_len text ≤ longest_file }
+    ensures said { IfOk result (λ said. SaysDomain text.items (Ok said)) }
+    ensures cause { IfErr result (Refuses (SaysDomain text.items)) }
 {
     let tree = tree_of(alloc, text, File::Domain)?;
     said_domain(alloc, &tree)
 }
 
 /// The problem that a text says.
-fn problem_of_text(alloc: Global, text: &[u8]) -> Result<Problem, Refusal>
-    requires { length text.now ≤ longest_file }
-    ensures said { IfOk result (λ said. SaysProblem text.now (Ok said)) }
-    ensures cause { IfErr result (Refuses (SaysProblem text.now)) }
+fn problem_of_text(alloc: Global, text: Vec<u8>) -> Result<Problem, Refusal>
+    requires { vec_len text ≤ longest_file }
+    ensures said { IfOk result (λ said. SaysProblem text.items (Ok said)) }
+    ensures cause { IfErr result (Refuses (SaysProblem text.items)) }
 {
     let tree = tree_of(alloc, text, File::Problem)?;
     said_problem(alloc, &tree)
@@ -185,21 +186,21 @@ fn plain_factor(alloc: Global, domain: Domain, problem: Problem) -> Result<Plain
 }
 
 /// The plain form of the factor of a domain and of a problem's text.
-fn plain_with(alloc: Global, domain: Domain, problem: &[u8]) -> Result<PlainFactor, Refusal>
-    requires { length problem.now ≤ longest_file }
-    ensures factor { IfOk result (Leads (Then (SaysProblem problem.now) (MakesFactor domain))) }
-    ensures cause { IfErr result (Refuses (Then (SaysProblem problem.now) (MakesFactor domain))) }
+fn plain_with(alloc: Global, domain: Domain, problem: Vec<u8>) -> Result<PlainFactor, Refusal>
+    requires { vec_len problem ≤ longest_file }
+    ensures factor { IfOk result (Leads (Then (SaysProblem problem.items) (MakesFactor domain))) }
+    ensures cause { IfErr result (Refuses (Then (SaysProblem problem.items) (MakesFactor domain))) }
 {
     let said = problem_of_text(alloc, problem)?;
     plain_factor(alloc, domain, said)
 }
 
 /// The plain form of the factor of two texts.
-fn plain_of_texts(alloc: Global, domain: &[u8], problem: &[u8]) -> Result<PlainFactor, Refusal>
-    requires domain { length domain.now ≤ longest_file }
-    requires problem { length problem.now ≤ longest_file }
-    ensures factor { IfOk result (Leads (ReadsTexts domain.now problem.now)) }
-    ensures cause { IfErr result (Refuses (ReadsTexts domain.now problem.now)) }
+fn plain_of_texts(alloc: Global, domain: Vec<u8>, problem: Vec<u8>) -> Result<PlainFactor, Refusal>
+    requires domain { vec_len domain ≤ longest_file }
+    requires problem { vec_len problem ≤ longest_file }
+    ensures factor { IfOk result (Leads (ReadsTexts domain.items problem.items)) }
+    ensures cause { IfErr result (Refuses (ReadsTexts domain.items problem.items)) }
 {
     let said = domain_of_text(alloc, domain)?;
     plain_with(alloc, said, problem)
@@ -219,5 +220,5 @@ pub(crate) fn plain_of_files<S: Source>(
 {
     let domain = text_of(alloc, source, request, File::Domain)?;
     let problem = text_of(alloc, source, request, File::Problem)?;
-    plain_of_texts(alloc, domain.as_slice(), problem.as_slice())
+    plain_of_texts(alloc, domain, problem)
 }

@@ -4,7 +4,7 @@ ghost use Rattle.mp_top.specs.Report.{IsEmptyReport};
 
 use mp_list::List;
 use mp_messages::{Log, Views};
-use mp_search::Answer;
+use mp_uniform::Answer;
 use std::alloc::Global;
 
 /// What was found, and how: what each agent sees of the problem, as the bytes that it could show the others, the

@@ -7,8 +7,8 @@ use super::*;
 use mp_list::List;
 use mp_messages::{Entry, Kind};
 use mp_outside::{MemSink, MemSource, NamedText};
-use mp_search::Answer;
 use mp_sets::Agent;
+use mp_uniform::Answer;
 use std::alloc::Global;
 use std::test::Fail;
 

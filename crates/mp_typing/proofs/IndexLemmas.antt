@@ -2,7 +2,7 @@
 use Rattle.std.proofs.Common.{◌≡◌, ℕ, Bool, true, false, cond, List, [], ◌∷◌, ◌++◌, map, Option, Some, None, Bor, refl, sym, ap, subst, ◌∙◌}
 use Rattle.std.specs.Prelude.{if◌then◌else◌}
 use Rattle.std.specs.Map.{lookup}
-use Rattle.std.specs.Option.{is_some}
+use Rattle.std.specs.Option.{is_some, option_or}
 use Rattle.std.specs.Str.{bytes_eq}
 use Rattle.std.proofs.lemmas.Slice.Eq.{bytes_eq-Decides}
 use Rattle.mp_typing.specs.Indexed.{Entry, number_of, SameNumbers}
@@ -31,29 +31,26 @@ looked_up_by {K} key name (e ∷ es) =
 pub looked_up : (name : List ℕ) (es : List (Bor (List ℕ) × ℕ)) → lookup (λ (k : Bor (List ℕ)). bytes_eq name k.now) es ≡ number_of name (entries_of es)
 looked_up name es = looked_up_by (λ (k : Bor (List ℕ)). k.now) name es
 
-abbrev or_else : Option ℕ → Option ℕ → Option ℕ
-or_else None other = other
-or_else (Some n) other = Some n
-
-abbrev alone : Entry → List ℕ → Option ℕ
+-- the number that an entry gives a name
+abbrev pub alone : Entry → List ℕ → Option ℕ
 alone e name = if bytes_eq e.name name then Some e.number else None
 
-moves_in : (b : Bool) (n : ℕ) (x y : Option ℕ) → (if b then Some n else or_else x y) ≡ or_else (if b then Some n else x) y
+moves_in : (b : Bool) (n : ℕ) (x y : Option ℕ) → (if b then Some n else option_or x y) ≡ option_or (if b then Some n else x) y
 moves_in true n x y = refl
 moves_in false n x y = refl
 
-number_push : (name : List ℕ) (es : List Entry) (e : Entry) → number_of name (es ++ e ∷ []) ≡ or_else (number_of name es) (alone e name)
+pub number_push : (name : List ℕ) (es : List Entry) (e : Entry) → number_of name (es ++ e ∷ []) ≡ option_or (number_of name es) (alone e name)
 unfolding number_of
 number_push name [] e = refl
 number_push name (x ∷ xs) e =
     ap (λ (o : Option ℕ). if bytes_eq x.name name then Some x.number else o) (number_push name xs e)
     ∙ moves_in (bytes_eq x.name name) x.number (number_of name xs) (alone e name)
 
-of_none : (o : Option ℕ) → or_else o None ≡ o
+of_none : (o : Option ℕ) → option_or o None ≡ o
 of_none None = refl
 of_none (Some n) = refl
 
-of_some : (o other : Option ℕ) → is_some o ≡ true → or_else o other ≡ o
+of_some : (o other : Option ℕ) → is_some o ≡ true → option_or o other ≡ o
 of_some None other e = cc
 of_some (Some n) other e = refl
 
@@ -65,7 +62,7 @@ same : (a b : List ℕ) → bytes_eq a b ≡ true → a ≡ b
 same a b e = (bytes_eq-Decides a b).0 e
 
 known_by : (name q : List ℕ) (n : ℕ) (es : List Entry) (b : Bool) → b ≡ bytes_eq name q → is_some (number_of name es) ≡ true
-    → number_of q es ≡ or_else (number_of q es) (if b then Some n else None)
+    → number_of q es ≡ option_or (number_of q es) (if b then Some n else None)
 known_by name q n es true e some =
     sym (of_some (number_of q es) (Some n) (subst (λ (k : List ℕ). is_some (number_of k es) ≡ true) (same name q (sym e)) some))
 known_by name q n es false e some = sym (of_none (number_of q es))
@@ -76,9 +73,9 @@ known name n es some q =
     known_by name q n es (bytes_eq name q) refl some ∙ sym (number_push q es record { name = name; number = n })
 
 new_by : (name q : List ℕ) (n : ℕ) (es : List Entry) (b : Bool) → b ≡ bytes_eq name q → is_some (number_of name es) ≡ false
-    → cond b (Some n) (number_of q es) ≡ or_else (number_of q es) (if b then Some n else None)
+    → cond b (Some n) (number_of q es) ≡ option_or (number_of q es) (if b then Some n else None)
 new_by name q n es true e none =
-    sym (ap (λ (o : Option ℕ). or_else o (Some n)) (ap (λ (k : List ℕ). number_of k es) (sym (same name q (sym e))) ∙ not_some (number_of name es) none))
+    sym (ap (λ (o : Option ℕ). option_or o (Some n)) (ap (λ (k : List ℕ). number_of k es) (sym (same name q (sym e))) ∙ not_some (number_of name es) none))
 new_by name q n es false e none = sym (of_none (number_of q es))
 
 -- a name that has no number yet gets one
@@ -87,7 +84,3 @@ pub added : (name : List ℕ) (n : ℕ) (es fs : List Entry) → is_some (number
     → SameNumbers fs (es ++ record { name = name; number = n } ∷ [])
 added name n es fs none changed q =
     changed q ∙ new_by name q n es (bytes_eq name q) refl none ∙ sym (number_push q es record { name = name; number = n })
-
-pub same_push : (es fs : List Entry) (e : Entry) → SameNumbers es fs → SameNumbers (es ++ e ∷ []) (fs ++ e ∷ [])
-same_push es fs e alike q =
-    number_push q es e ∙ ap (λ (o : Option ℕ). or_else o (alone e q)) (alike q) ∙ sym (number_push q fs e)

@@ -1,26 +1,25 @@
--- What is declared under a name.
-use Rattle.std.specs.Prelude.{ℕ, List, [], ◌∷◌, ◌+◌, ◌++◌, length, map}
+-- What a factor declares under a name.
+use Rattle.std.specs.Prelude.{ℕ, Bool, List, ◌++◌, length, Option, find}
+use Rattle.std.specs.List.{list_any}
+use Rattle.std.specs.Option.{option_map}
+use Rattle.std.specs.Str.{bytes_eq}
 use Rattle.mp_factor.specs.declared.typed_values.Typed.{Typed}
 use Rattle.mp_factor.specs.declared.signature_values.Signature.{Signature}
+use Rattle.mp_factor.specs.declared.factor.Factor.{Factor}
 use Rattle.mp_factor.specs.FactorParts.{DomainParts, ProblemParts}
-use Rattle.mp_typing.specs.Indexed.{Entry}
 
--- the names that a factor declares: objects with their places, predicates and functions with their numbers of parameters
-pub record Declared : Type 0 where
-  pub objects : List Entry
-  pub predicates : List Entry
-  pub functions : List Entry
+-- the factor of two files
+abbrev pub factor_of : DomainParts → ProblemParts → Factor
+factor_of domain problem = record { domain = domain; problem = problem }
 
--- a predicate or a function with the number of its parameters
-abbrev pub arity_entry : Signature → Entry
-arity_entry s = record { name = s.word.name; number = length s.params }
+-- its objects: the constants of the domain and then the objects of the problem
+abbrev pub objects_of : Factor → List Typed
+objects_of factor = factor.domain.constants ++ factor.problem.objects
 
--- objects with their places in the list, counted from this number on
-unfoldable pub counted_from : ℕ → List Typed → List Entry
-counted_from n [] = []
-counted_from n (o ∷ os) = record { name = o.word.name; number = n } ∷ counted_from (n + 1) os
+-- whether one of these objects has a name
+unfoldable pub is_object : List Typed → List ℕ → Bool
+is_object objects name = list_any (λ o. bytes_eq o.word.name name) objects
 
--- what the two files of a factor declare, constants before objects
-abbrev pub declared : DomainParts → ProblemParts → Declared
-declared domain problem =
-    record { objects = counted_from 0 (domain.constants ++ problem.objects); predicates = map arity_entry domain.predicates; functions = map arity_entry domain.functions }
+-- the number of parameters of the first of these predicates, or functions, that has a name
+unfoldable pub arity_of : List Signature → List ℕ → Option ℕ
+arity_of signatures name = option_map (λ s. length s.params) (find (λ s. bytes_eq s.word.name name) signatures)

@@ -1,8 +1,9 @@
 -- Names that are declared more than once.
-use Rattle.std.specs.Prelude.{Bool, true, false, not, ◌==◌, nat_lt, ◌&&◌, ◌||◌, List, [], ◌∷◌, ◌++◌, Option, Some, None, if◌then◌else◌}
+use Rattle.std.specs.Prelude.{Bool, true, false, not, ◌==◌, nat_lt, ◌&&◌, ◌||◌, List, [], ◌∷◌, ◌++◌, map, Option, Some, None, if◌then◌else◌}
 use Rattle.std.specs.List.{list_any, find}
 use Rattle.std.specs.Cmp.Lexicographic.{pointwise}
 use Rattle.std.specs.Str.{bytes_eq}
+use Rattle.mp_list.specs.Repeats.{repeats}
 use Rattle.mp_sexp.specs.declared.tree.Place.{Place}
 use Rattle.mp_factor.specs.declared.files.File.{File}
 use Rattle.mp_factor.specs.declared.files.File.TheVariants.{Domain}
@@ -20,14 +21,10 @@ is_same a b = bytes_eq a.name b.name
 abbrev pub twice_if : Bool → File → Word → List Fault
 twice_if is_second file word = if is_second then fault_at Twice file word ∷ [] else []
 
--- a word that has the name of one of these
-unfoldable pub repeat_faults : File → List Word → Word → List Fault
-repeat_faults file before word = twice_if (list_any (λ w. is_same w word) before) file word
-
--- words that have the name of one of these or of an earlier one
-unfoldable pub repeated_faults : File → List Word → List Word → List Fault
-repeated_faults file before [] = []
-repeated_faults file before (w ∷ ws) = repeat_faults file before w ++ repeated_faults file (before ++ w ∷ []) ws
+-- the items that have the name of an item before them, by the words that declare them
+unfoldable pub repeated_faults : {X : Type 0} → File → (X → Word) → List X → List Fault
+repeated_faults file word_of items =
+    map (λ x. fault_at Twice file (word_of x)) (repeats bytes_eq (λ x. (word_of x).name) items)
 
 -- a place stands before another in a file
 abbrev pub is_before : Place → Place → Bool

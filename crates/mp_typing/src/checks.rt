@@ -3,7 +3,7 @@
 ghost use Rattle.std.specs.Prelude.{◌≡◌, ◌++◌, [], IfOk, IfErr};
 ghost use Rattle.std.specs.List.{flat_map};
 ghost use Rattle.mp_typing.specs.Faults.{leftmost};
-ghost use Rattle.mp_typing.specs.Lookups.{declared as declared_of};
+ghost use Rattle.mp_typing.specs.Lookups.{factor_of, objects_of};
 ghost use Rattle.mp_typing.specs.CheckFaults.{owner_faults, schema_faults as faults_of_schema, declared_faults as faults_of_declared, value_faults as faults_of_value, problem_faults as faults_of_problem, check_faults};
 ghost use Rattle.mp_typing.specs.Refused.{RestsOn, refusal_of};
 
@@ -13,7 +13,7 @@ use crate::fault::{Fault, FaultKind, with};
 use crate::parameters::parameters_fault;
 use crate::refusal::CheckRefusal;
 use crate::repeats::{objects_fault, repeated_fault};
-use crate::uses::{atoms_fault, function_fault, increases_fault};
+use crate::uses::{atoms_fault, function_fault, increases_fault, literals_fault};
 use mp_factor::{Domain, File, Problem, Schema, Value, Word};
 use mp_list::OutOfMemory;
 use std::alloc::Global;
@@ -46,7 +46,7 @@ fn schema_fault(
     let file = File::Domain;
     let params = schema.params.as_slice();
     let listed = parameters_fault(least, params)?;
-    let pre = atoms_fault(listed, file, params, declared, schema.pre.as_slice())?;
+    let pre = literals_fault(listed, file, params, declared, schema.pre.as_slice())?;
     let add = atoms_fault(pre, file, params, declared, schema.add.as_slice())?;
     let del = atoms_fault(add, file, params, declared, schema.del.as_slice())?;
     increases_fault(del, file, params, declared, schema.increases.as_slice())
@@ -74,15 +74,11 @@ fn declared_fault(
     least: Option<Fault>,
     declared: &Declared,
     domain: &Domain,
-    problem: &Problem,
 ) -> Result<Option<Fault>, OutOfMemory>
-    requires { declared.now ≡ declared_of domain.now problem.now }
-    ensures { IfOk result (λ first. first ≡ leftmost least (faults_of_declared (domain.now.constants ++ problem.now.objects) domain.now)) }
+    ensures { IfOk result (λ first. first ≡ leftmost least (faults_of_declared (objects_of declared.now) domain.now)) }
 {
     let file = File::Domain;
-    let constants = domain.constants.as_slice();
-    let others = problem.objects.as_slice();
-    let objects = objects_fault(least, file, declared, constants, others, constants)?;
+    let objects = objects_fault(least, file, declared, domain.constants.as_slice())?;
     let predicates = repeated_fault(alloc, objects, file, domain.predicates.as_slice())?;
     let functions = repeated_fault(alloc, predicates, file, domain.functions.as_slice())?;
     repeated_fault(alloc, functions, file, domain.schemas.as_slice())
@@ -120,19 +116,16 @@ fn values_fault(
 fn problem_fault(
     least: Option<Fault>,
     declared: &Declared,
-    domain: &Domain,
     problem: &Problem,
 ) -> Result<Option<Fault>, OutOfMemory>
-    requires { declared.now ≡ declared_of domain.now problem.now }
-    ensures { IfOk result (λ first. first ≡ leftmost least (faults_of_problem (domain.now.constants ++ problem.now.objects) declared.now problem.now)) }
+    requires { declared.now.problem ≡ problem.now }
+    ensures { IfOk result (λ first. first ≡ leftmost least (faults_of_problem declared.now)) }
 {
     let file = File::Problem;
-    let constants = domain.constants.as_slice();
-    let others = problem.objects.as_slice();
-    let objects = objects_fault(least, file, declared, constants, others, others)?;
+    let objects = objects_fault(least, file, declared, problem.objects.as_slice())?;
     let init = atoms_fault(objects, file, &[], declared, problem.init.as_slice())?;
     let values = values_fault(init, declared, problem.values.as_slice())?;
-    atoms_fault(values, file, &[], declared, problem.goals.as_slice())
+    literals_fault(values, file, &[], declared, problem.goals.as_slice())
 }
 
 /// The first fault of a factor. Refuses only for want of memory.
@@ -146,9 +139,9 @@ fn first_fault(
 {
     let declared = Declared::new(alloc, domain, problem)?;
     let owner = owner_fault(None, &domain.word, &problem.domain)?;
-    let names = declared_fault(alloc, owner, &declared, domain, problem)?;
+    let names = declared_fault(alloc, owner, &declared, domain)?;
     let schemas = schemas_fault(names, &declared, domain.schemas.as_slice())?;
-    problem_fault(schemas, &declared, domain, problem)
+    problem_fault(schemas, &declared, problem)
 }
 
 /// The refusal that says a fault.

@@ -1,8 +1,11 @@
 //! What the two files of a factor declare.
 
-ghost use Rattle.std.specs.Prelude.{◌≡◌, ◌+◌, ◌<◌, ◌^◌, ◌++◌, List, map, length, IfOk, OnOk};
-ghost use Rattle.mp_typing.specs.Indexed.{Entry, number_of, SameNumbers};
-ghost use Rattle.mp_typing.specs.Lookups.{arity_entry, counted_from, declared as declared_of};
+ghost use Rattle.std.specs.Prelude.{◌≡◌, ◌+◌, ◌<◌, ◌^◌, ◌++◌, List, length, slice_get, find as find_in, IfOk, OnOk};
+ghost use Rattle.std.specs.Option.{option_copied};
+ghost use Rattle.std.specs.Str.{bytes_eq};
+ghost use Rattle.mp_factor.specs.declared.typed_values.Typed.{Typed as TypedValue};
+ghost use Rattle.mp_typing.specs.Indexed.{HasArities, HasPlaces};
+ghost use Rattle.mp_typing.specs.Lookups.{arity_of, factor_of, is_object, objects_of};
 
 use crate::index::Index;
 use mp_factor::{Domain, Problem, Signature, Typed};
@@ -25,21 +28,22 @@ pub struct Declared<'a> {
 }
 
 impl<'a> Model for Declared<'a> {
-    ghost use Rattle.mp_typing.specs.Lookups.{Declared, declared};
-    ghost use Rattle.mp_typing.specs.Indexed.{SameNumbers};
+    ghost use Rattle.mp_factor.specs.declared.factor.Factor.{Factor};
+    ghost use Rattle.mp_typing.specs.Indexed.{HasArities, HasPlaces};
+    ghost use Rattle.mp_typing.specs.Lookups.{factor_of, objects_of};
 
-    ghost Value = { Declared };
+    ghost Value = { Factor };
 
-    ghost view = { λ d. declared d.domain.now d.problem.now };
+    ghost view = { λ d. factor_of d.domain.now d.problem.now };
 
-    ghost invariant = { λ d. SameNumbers d.objects (declared d.domain.now d.problem.now).objects
-        × SameNumbers d.predicates (declared d.domain.now d.problem.now).predicates
-        × SameNumbers d.functions (declared d.domain.now d.problem.now).functions };
+    ghost invariant = { λ d. HasPlaces d.objects (objects_of (factor_of d.domain.now d.problem.now))
+        × HasArities d.predicates d.domain.now.predicates
+        × HasArities d.functions d.domain.now.functions };
 }
 
 /// Predicates or functions, each with the number of its parameters. Refuses only for want of memory.
 fn arities<'a>(alloc: Global, signatures: &'a [Signature]) -> Result<Index<'a>, OutOfMemory>
-    ensures { IfOk result (λ index. SameNumbers index (map arity_entry signatures.now)) }
+    ensures { IfOk result (λ index. HasArities index signatures.now) }
 {
     let mut index = Index::new(alloc);
     for signature in signatures {
@@ -51,7 +55,8 @@ fn arities<'a>(alloc: Global, signatures: &'a [Signature]) -> Result<Index<'a>, 
 /// Adds objects, each with its place, of which the first is given. Refuses only for want of memory.
 fn count<'a>(index: &mut Index<'a>, first: usize, objects: &'a [Typed]) -> Result<(), OutOfMemory>
     requires { first + length objects.now < 2 ^ 64 }
-    ensures { OnOk result ((before : List Entry) → SameNumbers index.old before → SameNumbers index.new (before ++ counted_from first objects.now)) }
+    ensures { OnOk result ((before : List TypedValue) → length before ≡ first → HasPlaces index.old before
+        → HasPlaces index.new (before ++ objects.now)) }
 {
     for (i, object) in objects.iter().enumerate() {
         index.add(&object.word.name, first + i)?;
@@ -65,12 +70,23 @@ fn places<'a>(
     constants: &'a [Typed],
     objects: &'a [Typed],
 ) -> Result<Index<'a>, OutOfMemory>
-    ensures { IfOk result (λ index. SameNumbers index (counted_from 0 (constants.now ++ objects.now))) }
+    ensures { IfOk result (λ index. HasPlaces index (constants.now ++ objects.now)) }
 {
     let mut index = Index::new(alloc);
     count(&mut index, 0, constants)?;
     count(&mut index, constants.len(), objects)?;
     Ok(index)
+}
+
+/// The object at this place, constants before objects.
+fn object_at<'a>(constants: &'a [Typed], objects: &'a [Typed], at: usize) -> Option<&'a Typed>
+    ensures { option_copied result ≡ slice_get (constants.now ++ objects.now) at }
+{
+    if at < constants.len() {
+        constants.get(at)
+    } else {
+        objects.get(at - constants.len())
+    }
 }
 
 impl<'a> Declared<'a> {
@@ -80,7 +96,7 @@ impl<'a> Declared<'a> {
         domain: &'a Domain,
         problem: &'a Problem,
     ) -> Result<Declared<'a>, OutOfMemory>
-        ensures { IfOk result (λ known. known ≡ declared_of domain.now problem.now) }
+        ensures { IfOk result (λ known. known ≡ factor_of domain.now problem.now) }
     {
         let constants = domain.constants.as_slice();
         Ok(Declared {
@@ -92,23 +108,35 @@ impl<'a> Declared<'a> {
         })
     }
 
-    /// The place of the first object that has this name.
-    pub fn object(&self, name: &Name) -> Option<usize>
-        ensures { result ≡ number_of name.now self.now.objects }
+    /// The first object that has this name, constants before objects.
+    pub fn object(&self, name: &Name) -> Option<&'a Typed>
+        ensures { option_copied result ≡ find_in (λ o. bytes_eq o.word.name name.now) (objects_of self.now) }
     {
-        self.objects.find(name.as_slice())
+        let domain = self.domain;
+        let problem = self.problem;
+        match self.objects.find(name.as_slice()) {
+            Some(at) => object_at(domain.constants.as_slice(), problem.objects.as_slice(), at),
+            None => None,
+        }
+    }
+
+    /// Whether an object has this name.
+    pub fn has_object(&self, name: &Name) -> bool
+        ensures { result ≡ is_object (objects_of self.now) name.now }
+    {
+        self.objects.find(name.as_slice()).is_some()
     }
 
     /// The number of parameters of the first predicate that has this name.
     pub fn predicate(&self, name: &Name) -> Option<usize>
-        ensures { result ≡ number_of name.now self.now.predicates }
+        ensures { result ≡ arity_of self.now.domain.predicates name.now }
     {
         self.predicates.find(name.as_slice())
     }
 
     /// The number of parameters of the first function that has this name.
     pub fn function(&self, name: &Name) -> Option<usize>
-        ensures { result ≡ number_of name.now self.now.functions }
+        ensures { result ≡ arity_of self.now.domain.functions name.now }
     {
         self.functions.find(name.as_slice())
     }

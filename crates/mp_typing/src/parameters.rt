@@ -4,7 +4,7 @@ ghost use Rattle.std.specs.Prelude.{◌≡◌, ◌&&◌, [], not, IfOk};
 ghost use Rattle.std.specs.List.{list_any};
 ghost use Rattle.mp_factor.specs.declared.files.File.TheVariants.{Domain as DomainFile};
 ghost use Rattle.mp_typing.specs.Faults.{leftmost};
-ghost use Rattle.mp_typing.specs.Repeats.{is_before as before, is_same, is_second as second, parameter_faults, twice_if};
+ghost use Rattle.mp_typing.specs.Repeats.{is_before, is_same, is_second as second, parameter_faults, twice_if};
 
 use crate::fault::{Fault, FaultKind, with};
 use crate::repeats::is_same_name;
@@ -13,25 +13,26 @@ use mp_list::OutOfMemory;
 use mp_sexp::Place;
 
 /// Whether a place stands before another in a file.
-fn is_before(a: Place, b: Place) -> bool
-    ensures { result ≡ before a b }
+fn stands_before(a: Place, b: Place) -> bool
+    ensures { result ≡ is_before a b }
 {
     a.line < b.line || a.line == b.line && a.column < b.column
 }
 
 /// Whether one of these has the name of a parameter and does not stand behind it in the file.
 fn has_one_not_behind(params: &[Typed], param: &Typed) -> bool
-    ensures { result ≡ list_any (λ p. is_same p.word param.now.word && not (before param.now.word.at p.word.at)) params.now }
+    ensures { result ≡ list_any (λ p. is_same p.word param.now.word && not (is_before param.now.word.at p.word.at)) params.now }
 {
     params.iter().any(|p| is_same_name(&p.word, &param.word)
-        && !is_before(param.word.at, p.word.at))
+        && !stands_before(param.word.at, p.word.at))
 }
 
 /// Whether one of these has the name of a parameter and stands before it in the file.
 fn has_one_before(params: &[Typed], param: &Typed) -> bool
-    ensures { result ≡ list_any (λ p. is_same p.word param.now.word && before p.word.at param.now.word.at) params.now }
+    ensures { result ≡ list_any (λ p. is_same p.word param.now.word && is_before p.word.at param.now.word.at) params.now }
 {
-    params.iter().any(|p| is_same_name(&p.word, &param.word) && is_before(p.word.at, param.word.at))
+    params.iter().any(|p| is_same_name(&p.word, &param.word)
+        && stands_before(p.word.at, param.word.at))
 }
 
 /// The first fault, with that of a parameter that stands between others of its action. Refuses only for want of memory.

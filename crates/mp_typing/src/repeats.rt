@@ -1,22 +1,19 @@
 //! Names that are declared more than once.
 
-ghost use Rattle.std.specs.Prelude.{◌≡◌, ◌++◌, [], IfOk, length, map, slice_get};
-ghost use Rattle.std.specs.List.{flat_map, find as find_in};
+ghost use Rattle.std.specs.Prelude.{◌≡◌, IfOk};
+ghost use Rattle.std.specs.List.{flat_map};
 ghost use Rattle.std.specs.Cmp.Lexicographic.{pointwise};
-ghost use Rattle.std.specs.Str.{bytes_eq};
 ghost use Rattle.mp_factor.specs.declared.word.Word.{Word};
 ghost use Rattle.mp_typing.specs.Faults.{leftmost};
-ghost use Rattle.std.specs.Option.{option_copied, is_some};
-ghost use Rattle.mp_typing.specs.Indexed.{number_of};
-ghost use Rattle.mp_typing.specs.Lookups.{counted_from};
-ghost use Rattle.mp_typing.specs.Repeats.{is_same as same_word, is_alike as alike, repeat_faults as faults_of_repeat, repeated_faults as faults_of_repeats, object_faults as faults_of_object, unlike_faults, twice_if};
+ghost use Rattle.std.specs.Option.{option_copied};
+ghost use Rattle.mp_typing.specs.Lookups.{objects_of};
+ghost use Rattle.mp_typing.specs.Repeats.{is_same as same_word, is_alike, repeated_faults as faults_of_repeats, object_faults as faults_of_object, unlike_faults, twice_if};
 
 use crate::declared::Declared;
 use crate::fault::{Fault, FaultKind, with};
 use crate::names::NameSet;
 use mp_factor::{File, Schema, Signature, Typed, Word};
-use mp_list::{Copied, OutOfMemory};
-use mp_sexp::Name;
+use mp_list::OutOfMemory;
 use std::alloc::Global;
 
 /// What is declared under a name.
@@ -75,7 +72,7 @@ pub fn repeated_fault<T: Named>(
     file: File,
     items: &[T],
 ) -> Result<Option<Fault>, OutOfMemory>
-    ensures { IfOk result (λ first. first ≡ leftmost least (faults_of_repeats file [] (map T.called items.now))) }
+    ensures { IfOk result (λ first. first ≡ leftmost least (faults_of_repeats file T.called items.now)) }
 {
     let mut before = NameSet::new(alloc);
     let mut first = least;
@@ -111,13 +108,13 @@ fn is_same_list(a: &[Word], b: &[Word]) -> bool
 
 /// Whether two objects are of the same types as they are written, and of the same privacy.
 #[tactic(auto, unfolding(crate::specs::Repeats::is_alike))]
-fn is_alike(a: &Typed, b: &Typed) -> bool
-    ensures { result ≡ alike a.now b.now }
+fn has_same_types(a: &Typed, b: &Typed) -> bool
+    ensures { result ≡ is_alike a.now b.now }
 {
     is_same_list(a.types.as_slice(), b.types.as_slice()) && a.private == b.private
 }
 
-/// The first fault, with that of an object that is unlike the first one of its name. Refuses only for want of memory.
+/// The first fault, with that of an object that is unlike the first of its name. Refuses only for want of memory.
 fn unlike_fault(
     least: Option<Fault>,
     file: File,
@@ -129,7 +126,7 @@ fn unlike_fault(
     match first {
         None => Ok(least),
         Some(first) => {
-            if is_alike(first, object) {
+            if has_same_types(first, object) {
                 Ok(least)
             } else {
                 with(least, FaultKind::Twice, file, &object.word)
@@ -138,67 +135,33 @@ fn unlike_fault(
     }
 }
 
-/// The object at this place, constants before objects.
-fn object_at<'a>(constants: &'a [Typed], objects: &'a [Typed], at: usize) -> Option<&'a Typed>
-    ensures { option_copied result ≡ slice_get (constants.now ++ objects.now) at }
-{
-    if at < constants.len() {
-        constants.get(at)
-    } else {
-        objects.get(at - constants.len())
-    }
-}
-
-/// The first of all objects that has this name, where `declared` has the place of each.
-fn first_called<'a>(
-    declared: &Declared,
-    constants: &'a [Typed],
-    objects: &'a [Typed],
-    name: &Name,
-) -> Option<&'a Typed>
-    requires { declared.now.objects ≡ counted_from 0 (constants.now ++ objects.now) }
-    ensures { option_copied result ≡ find_in (λ o. bytes_eq o.word.name name.now) (constants.now ++ objects.now) }
-{
-    match declared.object(name) {
-        Some(at) => object_at(constants, objects, at),
-        None => None,
-    }
-}
-
-/// The first fault, with that of an object that is unlike the first of all objects of its name, where `declared` has
-/// the place of each. Refuses only for want of memory.
+/// The first fault, with that of an object that is unlike the first one of its name. Refuses only for want of memory.
 #[tactic(auto, unfolding(crate::specs::Repeats::object_faults))]
 fn object_fault(
     least: Option<Fault>,
     file: File,
     declared: &Declared,
-    constants: &[Typed],
-    objects: &[Typed],
     object: &Typed,
 ) -> Result<Option<Fault>, OutOfMemory>
-    requires { declared.now.objects ≡ counted_from 0 (constants.now ++ objects.now) }
-    ensures { IfOk result (λ first. first ≡ leftmost least (faults_of_object file (constants.now ++ objects.now) object.now)) }
+    ensures { IfOk result (λ first. first ≡ leftmost least (faults_of_object file (objects_of declared.now) object.now)) }
 {
-    let first = first_called(declared, constants, objects, &object.word.name);
+    let first = declared.object(&object.word.name);
     unlike_fault(least, file, first, object)
 }
 
 /// The first fault, with those of the constants, or of the objects, that are unlike the first of all objects of their
-/// name, where `declared` has the place of each. Refuses only for want of memory.
+/// name. Refuses only for want of memory.
 pub fn objects_fault(
     least: Option<Fault>,
     file: File,
     declared: &Declared,
-    constants: &[Typed],
-    objects: &[Typed],
     listed: &[Typed],
 ) -> Result<Option<Fault>, OutOfMemory>
-    requires { declared.now.objects ≡ counted_from 0 (constants.now ++ objects.now) }
-    ensures { IfOk result (λ first. first ≡ leftmost least (flat_map (faults_of_object file (constants.now ++ objects.now)) listed.now)) }
+    ensures { IfOk result (λ first. first ≡ leftmost least (flat_map (faults_of_object file (objects_of declared.now)) listed.now)) }
 {
     let mut first = least;
     for object in listed {
-        first = object_fault(first, file, declared, constants, objects, object)?;
+        first = object_fault(first, file, declared, object)?;
     }
     Ok(first)
 }

@@ -80,7 +80,11 @@ const OWNER: &[u8] = b"(define (problem p) (:domain d))";
 const USER: &[u8] =
     b"(define (domain d) (:predicates (q ?x) (r)) (:functions (f ?x ?y)) (:constants c - t)\n(:action a :parameters (?x) :precondition (and (q ?x) (q o) (q c)) :effect (and (r) (increase (total-cost) (f ?x o)))))";
 
-const FAULTS: [(&[u8], &[u8], Wanted); 13] = [
+/// A domain of which problems use the predicates.
+const SIGNATURES: &[u8] = b"(define (domain d) (:predicates (q) (r ?x)))";
+
+/// The last eight stand under `not`, in preconditions and in goals.
+const FAULTS: [(&[u8], &[u8], Wanted); 21] = [
     (USER, OWNER, (FaultKind::Unknown, File::Domain, 2, 58, b"o")),
     (
         USER,
@@ -142,6 +146,46 @@ const FAULTS: [(&[u8], &[u8], Wanted); 13] = [
         OWNER,
         (FaultKind::Arity, File::Domain, 1, 109, b"total-cost"),
     ),
+    (
+        b"(define (domain d) (:predicates (q) (r ?x)) (:action a :parameters (?x) :precondition (not (s))))",
+        OWNER,
+        (FaultKind::Unknown, File::Domain, 1, 93, b"s"),
+    ),
+    (
+        b"(define (domain d) (:predicates (q) (r ?x)) (:action a :parameters (?x) :precondition (and (q) (not (q ?x)))))",
+        OWNER,
+        (FaultKind::Arity, File::Domain, 1, 102, b"q"),
+    ),
+    (
+        b"(define (domain d) (:predicates (q) (r ?x)) (:action a :parameters (?x) :precondition (and (q) (not (r o)))))",
+        OWNER,
+        (FaultKind::Unknown, File::Domain, 1, 104, b"o"),
+    ),
+    (
+        b"(define (domain d) (:predicates (q) (r ?x)) (:action a :parameters (?x) :precondition (not (r ?y))))",
+        OWNER,
+        (FaultKind::Unknown, File::Domain, 1, 95, b"?y"),
+    ),
+    (
+        SIGNATURES,
+        b"(define (problem p) (:domain d) (:goal (not (s))))",
+        (FaultKind::Unknown, File::Problem, 1, 46, b"s"),
+    ),
+    (
+        SIGNATURES,
+        b"(define (problem p) (:domain d) (:goal (and (q) (not (r)))))",
+        (FaultKind::Arity, File::Problem, 1, 55, b"r"),
+    ),
+    (
+        SIGNATURES,
+        b"(define (problem p) (:domain d) (:goal (and (q) (not (r o)))))",
+        (FaultKind::Unknown, File::Problem, 1, 57, b"o"),
+    ),
+    (
+        SIGNATURES,
+        b"(define (problem p) (:domain d) (:goal (not (r ?x))))",
+        (FaultKind::Unknown, File::Problem, 1, 48, b"?x"),
+    ),
 ];
 
 #[test]
@@ -166,7 +210,7 @@ fn is_accepted(alloc: Global, domain: &[u8], problem: &[u8], name: &[u8]) -> boo
 #[test]
 fn accepted(rt: HostRuntime) -> Result<(), Fail> {
     let problem =
-        b"(define (problem p) (:domain d) (:objects o - u o - u c - t) (:init (q o) (r) (= (f o c) 1)) (:goal (and (q c))))";
+        b"(define (problem p) (:domain d) (:objects o - u o - u c - t) (:init (q o) (r) (= (f o c) 1)) (:goal (and (q c) (not (q o)) (not (r)))))";
     assert!(rt; is_accepted(rt.alloc(), USER, problem, b"d"));
     Ok(())
 }

@@ -4,11 +4,11 @@ ghost use Rattle.std.specs.Prelude.{◌≡◌, IfOk, length, codes};
 ghost use Rattle.std.specs.List.{flat_map, list_any};
 ghost use Rattle.std.specs.Str.{bytes_eq};
 ghost use Rattle.mp_typing.specs.Faults.{leftmost};
-ghost use Rattle.mp_typing.specs.Uses.{is_declared as declared_test, term_faults as faults_of_term, applied_faults as faults_applied, called_faults as faults_called, atom_faults as faults_of_atom, function_faults as faults_of_function, increase_faults as faults_of_increase};
+ghost use Rattle.mp_typing.specs.Uses.{is_declared, term_faults as faults_of_term, applied_faults as faults_applied, called_faults as faults_called, atom_faults as faults_of_atom, literal_faults as faults_of_literal, function_faults as faults_of_function, increase_faults as faults_of_increase};
 
 use crate::declared::Declared;
 use crate::fault::{Fault, FaultKind, with};
-use mp_factor::{Atom, File, Increase, Term, Typed, Word};
+use mp_factor::{Atom, File, Increase, Literal, Term, Typed, Word};
 use mp_list::OutOfMemory;
 use mp_sexp::Name;
 
@@ -23,12 +23,12 @@ fn is_parameter(params: &[Typed], name: &Name) -> bool
 
 /// Whether a variable is one of these parameters, or an object is declared.
 #[tactic(auto, unfolding(crate::specs::Uses::is_declared))]
-fn is_declared(params: &[Typed], declared: &Declared, term: &Term) -> bool
-    ensures { result ≡ declared_test params.now declared.now term.now }
+fn is_known(params: &[Typed], declared: &Declared, term: &Term) -> bool
+    ensures { result ≡ is_declared params.now declared.now term.now }
 {
     match term {
         Term::Variable(word) => is_parameter(params, &word.name),
-        Term::Object(word) => declared.object(&word.name).is_some(),
+        Term::Object(word) => declared.has_object(&word.name),
     }
 }
 
@@ -43,7 +43,7 @@ fn term_fault(
 ) -> Result<Option<Fault>, OutOfMemory>
     ensures { IfOk result (λ first. first ≡ leftmost least (faults_of_term file params.now declared.now term.now)) }
 {
-    if is_declared(params, declared, term) {
+    if is_known(params, declared, term) {
         return Ok(least);
     }
     match term {
@@ -122,6 +122,37 @@ pub fn atoms_fault(
     let mut first = least;
     for atom in atoms {
         first = atom_fault(first, file, params, declared, atom)?;
+    }
+    Ok(first)
+}
+
+/// The first fault, with those of a literal's atom, whatever its sign. Refuses only for want of memory.
+#[tactic(auto, unfolding(crate::specs::Uses::literal_faults))]
+fn literal_fault(
+    least: Option<Fault>,
+    file: File,
+    params: &[Typed],
+    declared: &Declared,
+    literal: &Literal,
+) -> Result<Option<Fault>, OutOfMemory>
+    ensures { IfOk result (λ first. first ≡ leftmost least (faults_of_literal file params.now declared.now literal.now)) }
+{
+    atom_fault(least, file, params, declared, &literal.atom)
+}
+
+/// The first fault, with those of literals. Refuses only for want of memory.
+pub fn literals_fault(
+    least: Option<Fault>,
+    file: File,
+    params: &[Typed],
+    declared: &Declared,
+    literals: &[Literal],
+) -> Result<Option<Fault>, OutOfMemory>
+    ensures { IfOk result (λ first. first ≡ leftmost least (flat_map (faults_of_literal file params.now declared.now) literals.now)) }
+{
+    let mut first = least;
+    for literal in literals {
+        first = literal_fault(first, file, params, declared, literal)?;
     }
     Ok(first)
 }

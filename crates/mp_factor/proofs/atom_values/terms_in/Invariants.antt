@@ -1,6 +1,6 @@
 use Rattle.std.proofs.Common.{◌≡◌, ◌++◌, drop}
 use Rattle.mp_sexp.specs.Node.{nodes_in}
-use Rattle.mp_factor.specs.AtomValues.{term_values}
+use Rattle.mp_factor.specs.Values.Atoms.{term_values}
 use Rattle.mp_factor.proofs.atom_values.terms_in.Given as goal
 
 abbrev pub invariant-loop-tree : goal.invariant-loop-tree

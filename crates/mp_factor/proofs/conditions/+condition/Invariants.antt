@@ -1,9 +1,9 @@
-use Rattle.std.proofs.Common.{◌≡◌, drop}
+use Rattle.std.proofs.Common.{◌≡◌, drop, flat_map}
 use Rattle.mp_sexp.specs.Node.{nodes_in}
 use Rattle.mp_factor.specs.Faults.{leftmost}
-use Rattle.mp_factor.specs.Conditions.{conditions_faults}
+use Rattle.mp_factor.specs.Faults.Conditions.{condition_faults}
 use Rattle.mp_factor.proofs.conditions.+condition.Given as goal
 
 abbrev pub invariant-conditions_fault-loop-tree : goal.invariant-conditions_fault-loop-tree
 invariant-conditions_fault-loop-tree l =
-    leftmost l.first (conditions_faults (nodes_in (drop l.tree-index l.trees))) ≡ leftmost l.fn.least (conditions_faults (nodes_in l.trees))
+    leftmost l.first (flat_map condition_faults (nodes_in (drop l.tree-index l.trees))) ≡ leftmost l.fn.least (flat_map condition_faults (nodes_in l.trees))

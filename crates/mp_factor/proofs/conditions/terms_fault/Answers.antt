@@ -1,6 +1,6 @@
 use Rattle.std.proofs.Common.{List, refl}
 use Rattle.mp_sexp.specs.Node.{Node}
-use Rattle.mp_factor.specs.Conditions.{terms_faults}
+use Rattle.mp_factor.specs.Faults.Conditions.{terms_faults}
 use Rattle.mp_factor.proofs.Steps.{goes_on}
 use Rattle.mp_factor.proofs.conditions.terms_fault.Goals as goal
 

@@ -1,7 +1,7 @@
 use Rattle.std.proofs.Common.{◌≡◌, drop}
 use Rattle.mp_sexp.specs.Node.{nodes_in}
 use Rattle.mp_factor.specs.Faults.{leftmost}
-use Rattle.mp_factor.specs.Conditions.{terms_faults}
+use Rattle.mp_factor.specs.Faults.Conditions.{terms_faults}
 use Rattle.mp_factor.proofs.conditions.terms_fault.Given as goal
 
 abbrev pub invariant-loop-tree : goal.invariant-loop-tree

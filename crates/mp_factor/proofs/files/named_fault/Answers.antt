@@ -1,9 +1,9 @@
 use Rattle.std.proofs.Common.{List, sym, ap, ◌∙◌}
 use Rattle.mp_sexp.specs.Node.{Node, node_of, nodes_in}
-use Rattle.mp_factor.specs.Sections.{owner_faults}
-use Rattle.mp_factor.specs.Files.{keyword_faults}
+use Rattle.mp_factor.specs.Faults.Sections.{owner_faults}
+use Rattle.mp_factor.specs.Faults.Files.{keyword_faults}
 use Rattle.mp_factor.specs.Faults.{leftmost}
-use Rattle.mp_factor.specs.Files.{title_parts}
+use Rattle.mp_factor.specs.Faults.Files.{title_parts}
 use Rattle.mp_factor.proofs.Steps.{both, first_and_others, behind}
 use Rattle.mp_factor.proofs.files.named_fault.Goals as goal
 

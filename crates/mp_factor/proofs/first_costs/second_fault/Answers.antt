@@ -1,11 +1,11 @@
-use Rattle.std.proofs.Common.{◌≡◌, ℕ, not, List, [], Option, Some, None, refl, sym, ap, subst, ◌∙◌}
+use Rattle.std.proofs.Common.{◌≡◌, ℕ, not, List, Option, Some, None, sym, ap, subst, ◌∙◌}
 use Rattle.std.specs.BTreeMap.{get_by, Updates}
 use Rattle.mp_sexp.specs.Node.{Node, node_of}
-use Rattle.mp_factor.specs.declared.fault.Fault.{Fault}
+use Rattle.mp_factor.specs.Fault.{Fault}
 use Rattle.mp_factor.specs.Faults.{leftmost}
 use Rattle.mp_factor.specs.Parts.{parts}
-use Rattle.mp_factor.specs.Init.{same_cost, cost_in, function_in, number_faults}
-use Rattle.mp_factor.specs.FirstCosts.{key_of}
+use Rattle.mp_factor.specs.Faults.Init.{same_cost, cost_in, function_in, number_faults}
+use Rattle.mp_factor.specs.Faults.FirstCosts.{key_of}
 use Rattle.mp_factor.proofs.FirstCostLemmas.{by_bytes, in_order, is_other, no_value, no_value_differs, known, new, fault_by}
 use Rattle.mp_factor.proofs.first_costs.second_fault.Goals as goal
 
@@ -36,8 +36,8 @@ returns-in-Some-clause-costs c before holds =
     known c.args.costs.now before n c.in-Some.first holds (sym c.gives_value.ensures ∙ c.if-not-gives_value.false)
     (subst (λ (k : List ℕ). get_by (by_bytes k) c.args.costs.now ≡ Some c.in-Some.first) key (sym c.first_cost.ensures ∙ c.in-Some.is))
 
-pub returns-in_ok-insert-in-None-clause-fault : goal.returns-in_ok-insert-in-None-clause-fault
-returns-in_ok-insert-in-None-clause-fault c before holds =
+pub returns-clause-fault : goal.returns-clause-fault
+returns-clause-fault c before holds =
     let n : Node = node_of c.args.tree.now in
     let key = c.as_slice.ensures.value ∙ c.in_ok-key.ensures ∙ ap key_of c.function_words.ensures in
     let none : get_by (by_bytes (key_of (function_in n))) c.args.costs.now ≡ None =
@@ -46,8 +46,8 @@ returns-in_ok-insert-in-None-clause-fault c before holds =
     (sym (fault_by c.args.costs.now before n holds (sym c.gives_value.ensures ∙ c.if-not-gives_value.false)
     ∙ ap (λ (o : Option (Option ℕ)). number_faults (is_other o (cost_in n)) (parts n)) none))
 
-pub returns-in_ok-insert-in-None-clause-costs : goal.returns-in_ok-insert-in-None-clause-costs
-returns-in_ok-insert-in-None-clause-costs c before holds =
+pub returns-clause-costs : goal.returns-clause-costs
+returns-clause-costs c before holds =
     let n : Node = node_of c.args.tree.now in
     let key = c.in_ok-key.ensures ∙ ap key_of c.function_words.ensures in
     new c.args.costs.now c.insert.new.self before n c.in_ok-key.key holds (sym c.gives_value.ensures ∙ c.if-not-gives_value.false)

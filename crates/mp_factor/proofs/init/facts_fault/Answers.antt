@@ -1,6 +1,6 @@
 use Rattle.std.proofs.Common.{List, refl}
 use Rattle.mp_sexp.specs.Node.{Node}
-use Rattle.mp_factor.specs.Init.{facts_faults}
+use Rattle.mp_factor.specs.Faults.Init.{facts_faults}
 use Rattle.mp_factor.proofs.Steps.{goes_on}
 use Rattle.mp_factor.proofs.init.facts_fault.Goals as goal
 

@@ -1,7 +1,7 @@
 use Rattle.std.proofs.Common.{List, ◌++◌, take, ◌+◌, refl, ap, subst}
 use Rattle.mp_sexp.specs.Node.{Node, node_of, nodes_in}
-use Rattle.mp_factor.specs.Init.{all_second_faults, second_faults}
-use Rattle.mp_factor.specs.FirstCosts.{AreFirst}
+use Rattle.mp_factor.specs.Faults.Init.{all_second_faults, second_faults}
+use Rattle.mp_factor.specs.Faults.FirstCosts.{AreFirst}
 use Rattle.mp_factor.proofs.Steps.{goes_on, one_before}
 use Rattle.mp_factor.proofs.FirstCostLemmas.{empty}
 use Rattle.mp_factor.proofs.init.seconds_fault.Goals as goal

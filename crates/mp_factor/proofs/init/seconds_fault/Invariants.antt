@@ -1,8 +1,8 @@
 use Rattle.std.proofs.Common.{◌≡◌, [], take, drop}
 use Rattle.mp_sexp.specs.Node.{nodes_in}
 use Rattle.mp_factor.specs.Faults.{leftmost}
-use Rattle.mp_factor.specs.Init.{all_second_faults}
-use Rattle.mp_factor.specs.FirstCosts.{AreFirst}
+use Rattle.mp_factor.specs.Faults.Init.{all_second_faults}
+use Rattle.mp_factor.specs.Faults.FirstCosts.{AreFirst}
 use Rattle.mp_factor.proofs.init.seconds_fault.Given as goal
 
 abbrev pub invariant-loop-tree : goal.invariant-loop-tree

@@ -1,10 +1,10 @@
 use Rattle.std.proofs.Common.{List, ◌++◌, sym, ap, ◌∙◌}
 use Rattle.mp_sexp.specs.Node.{Node, node_of, nodes_in}
-use Rattle.mp_factor.specs.Typed.{extra_faults}
-use Rattle.mp_factor.specs.Effects.{cost_faults}
-use Rattle.mp_factor.specs.Init.{function_faults}
+use Rattle.mp_factor.specs.Faults.Typed.{extra_faults}
+use Rattle.mp_factor.specs.Faults.Effects.{cost_faults}
+use Rattle.mp_factor.specs.Faults.Init.{function_faults}
 use Rattle.mp_factor.specs.Faults.{leftmost}
-use Rattle.mp_factor.specs.Init.{value_faults}
+use Rattle.mp_factor.specs.Faults.Init.{value_faults}
 use Rattle.mp_factor.proofs.Steps.{both, two_and_others, behind}
 use Rattle.mp_factor.proofs.init.value_fault.Goals as goal
 

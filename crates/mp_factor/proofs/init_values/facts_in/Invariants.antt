@@ -1,6 +1,6 @@
 use Rattle.std.proofs.Common.{◌≡◌, ◌++◌, drop}
 use Rattle.mp_sexp.specs.Node.{nodes_in}
-use Rattle.mp_factor.specs.InitValues.{fact_values}
+use Rattle.mp_factor.specs.Values.Init.{fact_values}
 use Rattle.mp_factor.proofs.init_values.facts_in.Given as goal
 
 abbrev pub invariant-loop-tree : goal.invariant-loop-tree

@@ -1,9 +1,9 @@
 use Rattle.std.proofs.Common.{List, sym, ap, ◌∙◌}
 use Rattle.mp_sexp.specs.Node.{Node, node_of, nodes_in}
-use Rattle.mp_factor.specs.Typed.{extra_faults}
-use Rattle.mp_factor.specs.Conditions.{condition_faults}
+use Rattle.mp_factor.specs.Faults.Typed.{extra_faults}
+use Rattle.mp_factor.specs.Faults.Conditions.{condition_faults}
 use Rattle.mp_factor.specs.Faults.{leftmost}
-use Rattle.mp_factor.specs.Sections.{goal_faults}
+use Rattle.mp_factor.specs.Faults.Sections.{goal_faults}
 use Rattle.mp_factor.proofs.Steps.{both, first_and_others, behind}
 use Rattle.mp_factor.proofs.sections.goal_fault.Goals as goal
 

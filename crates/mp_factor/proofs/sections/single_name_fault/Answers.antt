@@ -1,8 +1,8 @@
 use Rattle.std.proofs.Common.{List, sym, ap, ◌∙◌}
 use Rattle.mp_sexp.specs.Node.{Node, node_of, nodes_in}
-use Rattle.mp_factor.specs.Typed.{name_faults, extra_faults}
+use Rattle.mp_factor.specs.Faults.Typed.{name_faults, extra_faults}
 use Rattle.mp_factor.specs.Faults.{leftmost}
-use Rattle.mp_factor.specs.Sections.{owner_faults}
+use Rattle.mp_factor.specs.Faults.Sections.{owner_faults}
 use Rattle.mp_factor.proofs.Steps.{both, first_and_others, behind}
 use Rattle.mp_factor.proofs.sections.single_name_fault.Goals as goal
 

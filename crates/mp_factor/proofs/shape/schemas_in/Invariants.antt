@@ -1,6 +1,6 @@
 use Rattle.std.proofs.Common.{◌≡◌, ◌++◌, drop}
 use Rattle.mp_sexp.specs.Node.{nodes_in}
-use Rattle.mp_factor.specs.FileValues.{schema_values}
+use Rattle.mp_factor.specs.Values.Files.{schema_values}
 use Rattle.mp_factor.proofs.shape.schemas_in.Given as goal
 
 abbrev pub invariant-loop-tree : goal.invariant-loop-tree

@@ -1,6 +1,6 @@
 use Rattle.std.proofs.Common.{◌≡◌, drop}
 use Rattle.mp_sexp.specs.Node.{nodes_in}
-use Rattle.mp_factor.specs.FileValues.{section_in}
+use Rattle.mp_factor.specs.Values.Files.{section_in}
 use Rattle.mp_factor.proofs.shape.section_in.Given as goal
 
 abbrev pub invariant-loop-tree : goal.invariant-loop-tree

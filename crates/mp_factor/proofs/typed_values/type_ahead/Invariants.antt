@@ -1,6 +1,6 @@
 use Rattle.std.proofs.Common.{◌≡◌, drop}
 use Rattle.mp_sexp.specs.Node.{nodes_in}
-use Rattle.mp_factor.specs.TypedValues.{types_ahead}
+use Rattle.mp_factor.specs.Values.Typed.{types_ahead}
 use Rattle.mp_factor.proofs.typed_values.type_ahead.Given as goal
 
 abbrev pub invariant-loop-i : goal.invariant-loop-i

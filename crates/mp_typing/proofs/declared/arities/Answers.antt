@@ -1,7 +1,10 @@
 use Rattle.std.proofs.Common.{◌++◌, ◌∷◌, [], ℕ, subst}
 use Rattle.mp_typing.specs.Indexed.{SameNumbers}
-use Rattle.mp_typing.proofs.CountLemmas.{arities_on}
+use Rattle.mp_typing.proofs.LookupLemmas.{arities_none, arities_on}
 use Rattle.mp_typing.proofs.declared.arities.Goals as goal
+
+pub loop-signature-init : goal.loop-signature-init
+loop-signature-init c = arities_none _ c.new-index.ensures
 
 pub loop-signature-preserved : goal.loop-signature-preserved
 loop-signature-preserved c =

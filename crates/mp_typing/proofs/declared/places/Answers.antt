@@ -1,6 +1,8 @@
-use Rattle.mp_typing.proofs.CountLemmas.{both}
+use Rattle.std.proofs.Common.{[], refl}
+use Rattle.mp_typing.proofs.LookupLemmas.{places_none}
 use Rattle.mp_typing.proofs.declared.places.Goals as goal
 
 pub returns : goal.returns
 returns c =
-    both _ _ c.count-2.new.index c.args.constants.now c.args.objects.now c.new-index.ensures c.in_ok-count.ensures c.in_ok-count-2.ensures
+    c.in_ok-count-2.ensures c.args.constants.now refl
+    (c.in_ok-count.ensures [] refl (places_none _ c.new-index.ensures))

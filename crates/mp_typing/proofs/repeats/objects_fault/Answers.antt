@@ -1,4 +1,4 @@
-use Rattle.std.proofs.Common.{◌++◌}
+use Rattle.mp_typing.specs.Lookups.{objects_of}
 use Rattle.mp_typing.specs.Repeats.{object_faults}
 use Rattle.mp_list.proofs.Steps.{goes_on}
 use Rattle.mp_typing.specs.Faults.{is_earlier}
@@ -6,5 +6,5 @@ use Rattle.mp_typing.proofs.repeats.objects_fault.Goals as goal
 
 pub loop-object-preserved : goal.loop-object-preserved
 loop-object-preserved c =
-    goes_on is_earlier (object_faults c.args.file (c.args.constants.now ++ c.args.objects.now)) _ _ _ c.args.listed.now c.loop-object.object-index c.object-item.result
+    goes_on is_earlier (object_faults c.args.file (objects_of c.args.declared.now)) _ _ _ c.args.listed.now c.loop-object.object-index c.object-item.result
     c.loop-object-test.true c.object-item.is c.in_ok-first.ensures c.loop-object.invariant

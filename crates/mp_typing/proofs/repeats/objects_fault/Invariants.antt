@@ -1,10 +1,11 @@
-use Rattle.std.proofs.Common.{◌≡◌, ◌++◌, drop}
+use Rattle.std.proofs.Common.{◌≡◌, drop}
 use Rattle.std.specs.List.{flat_map}
 use Rattle.mp_typing.specs.Faults.{leftmost}
+use Rattle.mp_typing.specs.Lookups.{objects_of}
 use Rattle.mp_typing.specs.Repeats.{object_faults}
 use Rattle.mp_typing.proofs.repeats.objects_fault.Given as goal
 
 abbrev pub invariant-loop-object : goal.invariant-loop-object
 invariant-loop-object l =
-    leftmost l.first (flat_map (object_faults l.file (l.constants ++ l.objects)) (drop l.object-index l.listed))
-    ≡ leftmost l.fn.least (flat_map (object_faults l.fn.file (l.fn.constants ++ l.fn.objects)) l.fn.listed)
+    leftmost l.first (flat_map (object_faults l.file (objects_of l.declared)) (drop l.object-index l.listed))
+    ≡ leftmost l.fn.least (flat_map (object_faults l.fn.file (objects_of l.fn.declared)) l.fn.listed)

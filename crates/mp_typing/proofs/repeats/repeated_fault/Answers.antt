@@ -1,9 +1,8 @@
-use Rattle.std.proofs.Common.{refl}
-use Rattle.mp_typing.proofs.RepeatLemmas.{repeats_on, repeats_end, seen_on, seen_none}
+use Rattle.mp_typing.proofs.RepeatLemmas.{repeats_on, repeats_end, repeats_begin, seen_on, seen_none}
 use Rattle.mp_typing.proofs.repeats.repeated_fault.Goals as goal
 
 pub loop-item-init : goal.loop-item-init
-loop-item-init g c = (seen_none _ c.new-before.ensures, refl)
+loop-item-init g c = (seen_none _ c.new-before.ensures, repeats_begin g.T.Named.called c.args.file _ c.args.items.now)
 
 pub loop-item-preserved : goal.loop-item-preserved
 loop-item-preserved g c = (

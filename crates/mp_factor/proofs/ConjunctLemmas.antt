@@ -1,0 +1,91 @@
+-- The conjuncts of a tree, by the members of its list, and what is said of each of them.
+use Rattle.std.proofs.Common.{◌≡◌, ◌<◌, ◌≤◌, Bool, true, false, List, [], ◌∷◌, ◌++◌, map, length, get_or, flat_map, refl, sym, ap, ◌∙◌, arith}
+use Rattle.std.specs.Prelude.{ℕ, codes, if◌then◌else◌}
+use Rattle.std.specs.Global.{Vec}
+use Rattle.std.proofs.lemmas.List.{append-nil, map-append}
+use Rattle.std.proofs.lemmas.List.Concat.{flat_map-append}
+use Rattle.mp_sexp.specs.declared.tree.Place.{Place}
+use Rattle.mp_sexp.specs.declared.tree.Tree.{Tree, Word as tree_word, List as tree_list}
+use Rattle.mp_sexp.specs.Node.{Node, list, node_of, nodes_from, nodes_in}
+use Rattle.mp_sexp.proofs.Trees.{node_of-list}
+use Rattle.mp_factor.specs.Parts.{is_word}
+use Rattle.mp_factor.specs.Conjuncts.{conjuncts, conjuncts_of_all}
+use Rattle.mp_factor.proofs.Steps.{first_and_others, behind}
+
+of_all-from : (ns : List Node) → conjuncts_of_all (nodes_from ns) ≡ flat_map conjuncts ns
+unfolding conjuncts conjuncts_of_all
+of_all-from [] = refl
+of_all-from (n ∷ ns) = ap (λ (cs : List Node). conjuncts n ++ cs) (of_all-from ns)
+
+-- the conjuncts of a list with these members, at this place
+abbrev of_members : Place → List Node → List Node
+of_members place [] = []
+of_members place (head ∷ rest) = if is_word (codes "and") head then flat_map conjuncts rest else list (nodes_from (head ∷ rest)) place ∷ []
+
+members-from : (place : Place) (ns : List Node) → conjuncts (list (nodes_from ns) place) ≡ of_members place ns
+unfolding conjuncts conjuncts_of_all
+members-from place [] = refl
+members-from place (n ∷ ns) = ap (λ (cs : List Node). (if is_word (codes "and") n then cs else list (nodes_from (n ∷ ns)) place ∷ [])) (of_all-from ns)
+
+-- a tree whose list has these members
+pub record IsListOf (tree : Tree) (items : Vec Tree) (place : Place) (trees : List Tree) : Type 0 where
+  pub is : tree ≡ tree_list record { items = items } place
+  pub members : trees ≡ items.items
+
+of_list : (tree : Tree) (items : Vec Tree) (place : Place) (trees : List Tree) → IsListOf tree items place trees
+    → conjuncts (node_of tree) ≡ of_members place (nodes_in trees)
+of_list tree items place trees l =
+    ap (λ (t : Tree). conjuncts (node_of t)) l.is ∙ ap conjuncts (node_of-list items place)
+    ∙ members-from place (nodes_in items.items) ∙ ap (λ (ts : List Tree). of_members place (nodes_in ts)) (sym l.members)
+
+nothing : (place : Place) (trees : List Tree) → length trees < 1 → of_members place (nodes_in trees) ≡ []
+nothing place [] lt = refl
+nothing place (t ∷ ts) lt = absurd (omega (arith, lt))
+
+pub of_nothing : (tree : Tree) (items : Vec Tree) (place : Place) (trees : List Tree) → IsListOf tree items place trees
+    → length trees < 1 → conjuncts (node_of tree) ≡ []
+of_nothing tree items place trees l lt = of_list tree items place trees l ∙ nothing place trees lt
+
+pub of_and : (tree : Tree) (items : Vec Tree) (place : Place) (trees : List Tree) → IsListOf tree items place trees
+    → (head : Tree) → 1 ≤ length trees → head ≡ get_or trees 0 head → is_word (codes "and") (node_of head) ≡ true
+    → conjuncts (node_of tree) ≡ flat_map conjuncts (nodes_in (behind 1 trees))
+of_and tree items place trees l head le is word =
+    of_list tree items place trees l ∙ ap (of_members place) (first_and_others trees head le is)
+    ∙ ap (λ (b : Bool). (if b then flat_map conjuncts (nodes_in (behind 1 trees)) else list (nodes_from (node_of head ∷ nodes_in (behind 1 trees))) place ∷ [])) word
+
+-- this list as it stands
+as_list : (tree : Tree) (items : Vec Tree) (place : Place) (trees : List Tree) → IsListOf tree items place trees
+    → list (nodes_from (nodes_in trees)) place ≡ node_of tree
+as_list tree items place trees l =
+    ap (λ (ts : List Tree). list (nodes_from (nodes_in ts)) place) l.members ∙ sym (node_of-list items place) ∙ sym (ap node_of l.is)
+
+pub of_other : (tree : Tree) (items : Vec Tree) (place : Place) (trees : List Tree) → IsListOf tree items place trees
+    → (head : Tree) → 1 ≤ length trees → head ≡ get_or trees 0 head → is_word (codes "and") (node_of head) ≡ false
+    → conjuncts (node_of tree) ≡ node_of tree ∷ []
+of_other tree items place trees l head le is word =
+    of_list tree items place trees l ∙ ap (of_members place) (first_and_others trees head le is)
+    ∙ ap (λ (b : Bool). (if b then flat_map conjuncts (nodes_in (behind 1 trees)) else list (nodes_from (node_of head ∷ nodes_in (behind 1 trees))) place ∷ [])) word
+    ∙ ap (λ (ns : List Node). list (nodes_from ns) place ∷ []) (sym (first_and_others trees head le is))
+    ∙ ap (λ (n : Node). n ∷ []) (as_list tree items place trees l)
+
+pub of_word : (tree : Tree) (name : List ℕ) (place : Place) → tree ≡ tree_word name place → conjuncts (node_of tree) ≡ node_of tree ∷ []
+unfolding conjuncts conjuncts_of_all
+of_word tree name place is = rw is refl
+
+-- what is said of a lone conjunct, and of those of some members
+pub of_one : {X : Type 0} (says : Node → List X) (node : Node) → conjuncts node ≡ node ∷ [] → flat_map says (conjuncts node) ≡ says node
+of_one says node e = ap (flat_map says) e ∙ append-nil (says node)
+
+pub of_all : {X : Type 0} (says : Node → List X) (nodes : List Node)
+    → flat_map says (flat_map conjuncts nodes) ≡ flat_map (λ n. flat_map says (conjuncts n)) nodes
+of_all says [] = refl
+of_all {X} says (n ∷ ns) =
+    flat_map-append says (conjuncts n) (flat_map conjuncts ns)
+    ∙ ap (λ (xs : List X). flat_map says (conjuncts n) ++ xs) (of_all says ns)
+
+pub map_all : {X : Type 0} (value : Node → X) (nodes : List Node)
+    → map value (flat_map conjuncts nodes) ≡ flat_map (λ n. map value (conjuncts n)) nodes
+map_all value [] = refl
+map_all {X} value (n ∷ ns) =
+    map-append value (conjuncts n) (flat_map conjuncts ns)
+    ∙ ap (λ (xs : List X). map value (conjuncts n) ++ xs) (map_all value ns)

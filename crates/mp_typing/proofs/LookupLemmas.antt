@@ -1,0 +1,138 @@
+-- What an index says of the signatures and objects that are put into it, one after the other.
+use Rattle.std.proofs.Common.{◌≡◌, ℕ, suc, ◌+◌, ◌<◌, Bool, true, false, ◌||◌, cond, List, [], ◌∷◌, ◌++◌, length, get_or, take, Option, Some, None, refl, sym, ap, subst, ◌∙◌, arith}
+use Rattle.std.proofs.lemmas.Bool.{ltb-false}
+use Rattle.std.proofs.lemmas.List.{take_more, append_assoc, append-nil, length-append, length-take-le}
+use Rattle.std.proofs.lemmas.List.Folds.{find-append, find_at}
+use Rattle.std.proofs.lemmas.Iterator.Adapters.{position_from-zero}
+use Rattle.std.proofs.lemmas.Option.{slice_get_past}
+use Rattle.std.specs.Prelude.{find, nat_lt, slice_get, if◌then◌else◌}
+use Rattle.std.specs.List.{list_any, position_from, position_or_len}
+use Rattle.std.specs.Option.{is_some, option_map, option_or}
+use Rattle.std.specs.Str.{bytes_eq}
+use Rattle.mp_factor.specs.declared.typed_values.Typed.{Typed}
+use Rattle.mp_factor.specs.declared.signature_values.Signature.{Signature}
+use Rattle.mp_typing.specs.Indexed.{Entry, number_of, SameNumbers, HasArities, HasPlaces}
+use Rattle.mp_typing.specs.Lookups.{arity_of, is_object}
+use Rattle.mp_typing.proofs.IndexLemmas.{alone, number_push}
+
+-- ---- numbers of parameters
+
+pub arities_none : (index : List Entry) → index ≡ [] → HasArities index []
+unfolding number_of arity_of
+arities_none index none name = ap (number_of name) none
+
+one_arity : (o : Option Signature) (b : Bool) (s : Signature)
+    → option_map (λ (t : Signature). length t.params) (option_or o (cond b (Some s) None))
+    ≡ option_or (option_map (λ (t : Signature). length t.params) o) (if b then Some (length s.params) else None)
+one_arity None true s = refl
+one_arity None false s = refl
+one_arity (Some t) b s = refl
+
+abbrev arity_entry : Signature → Entry
+arity_entry s = record { name = s.word.name; number = length s.params }
+
+arity_push : (ss : List Signature) (s : Signature) (name : List ℕ)
+    → arity_of (ss ++ s ∷ []) name ≡ option_or (arity_of ss name) (alone (arity_entry s) name)
+unfolding arity_of
+arity_push ss s name =
+    let test : Signature → Bool = λ (t : Signature). bytes_eq t.word.name name in
+    ap (option_map (λ (t : Signature). length t.params)) (find-append test ss (s ∷ []))
+    ∙ one_arity (find test ss) (test s) s
+
+-- one more signature
+pub arities_on : (index after : List Entry) (ss : List Signature) (i : ℕ) (s : Signature) → i < length ss → s ≡ get_or ss i s
+    → HasArities index (take i ss) → SameNumbers after (index ++ record { name = s.word.name; number = length s.params } ∷ [])
+    → HasArities after (take (i + 1) ss)
+arities_on index after ss i s lt is has added name =
+    added name ∙ number_push name index (arity_entry s)
+    ∙ ap (λ (o : Option ℕ). option_or o (alone (arity_entry s) name)) (has name)
+    ∙ sym (arity_push (take i ss) s name)
+    ∙ ap (λ (ts : List Signature). arity_of ts name) (sym (take_more ss i s lt ∙ ap (λ (t : Signature). take i ss ++ t ∷ []) (sym is)))
+
+-- ---- places of objects
+
+abbrev named : List ℕ → Typed → Bool
+named name o = bytes_eq o.word.name name
+
+moves_in : (b : Bool) (n : ℕ) (x y : Option ℕ) → cond b (Some n) (option_or x y) ≡ option_or (cond b (Some n) x) y
+moves_in true n x y = refl
+moves_in false n x y = refl
+
+position_push : (test : Typed → Bool) (n : ℕ) (xs : List Typed) (x : Typed)
+    → position_from test n (xs ++ x ∷ []) ≡ option_or (position_from test n xs) (cond (test x) (Some (n + length xs)) None)
+position_push test n [] x =
+    let none : n ≡ n + 0 = omega arith in
+    ap (λ (k : ℕ). cond (test x) (Some k) None) none
+position_push test n (y ∷ ys) x =
+    let more : n + 1 + length ys ≡ n + suc (length ys) = omega arith in
+    ap (λ (o : Option ℕ). cond (test y) (Some n) o) (position_push test (n + 1) ys x)
+    ∙ moves_in (test y) n (position_from test (n + 1) ys) (cond (test x) (Some (n + 1 + length ys)) None)
+    ∙ ap (λ (k : ℕ). option_or (cond (test y) (Some n) (position_from test (n + 1) ys)) (cond (test x) (Some k) None)) more
+
+alone_placed : (b : Bool) (n m : ℕ) → n ≡ m → (if b then Some n else None) ≡ cond b (Some m) None
+alone_placed true n m e = ap Some e
+alone_placed false n m e = refl
+
+place_added : (index after : List Entry) (xs : List Typed) (x : Typed) (n : ℕ) → n ≡ length xs
+    → HasPlaces index xs → SameNumbers after (index ++ record { name = x.word.name; number = n } ∷ []) → HasPlaces after (xs ++ x ∷ [])
+place_added index after xs x n at has added name =
+    added name ∙ number_push name index record { name = x.word.name; number = n }
+    ∙ ap (λ (o : Option ℕ). option_or o (alone record { name = x.word.name; number = n } name)) (has name)
+    ∙ ap (λ (o : Option ℕ). option_or (position_from (named name) 0 xs) o) (alone_placed (named name x) n (0 + length xs) (omega (arith, at)))
+    ∙ sym (position_push (named name) 0 xs x)
+
+pub places_none : (index : List Entry) → index ≡ [] → HasPlaces index []
+unfolding number_of
+places_none index none name = ap (number_of name) none
+
+-- no object is added yet
+pub places_begin : (index : List Entry) (before : List Typed) → HasPlaces index before → HasPlaces index (before ++ [])
+places_begin index before has = subst (HasPlaces index) (sym (append-nil before)) has
+
+-- one more object
+pub places_on : (index after : List Entry) (before : List Typed) (first : ℕ) (xs : List Typed) (i : ℕ) (x : Typed)
+    → i < length xs → x ≡ get_or xs i x → length before ≡ first
+    → HasPlaces index (before ++ take i xs) → SameNumbers after (index ++ record { name = x.word.name; number = first + i } ∷ [])
+    → HasPlaces after (before ++ take (i + 1) xs)
+places_on index after before first xs i x lt is long has added =
+    let short : length (take i xs) ≡ i = length-take-le i xs (omega (arith, lt)) in
+    let all : length (before ++ take i xs) ≡ length before + length (take i xs) = length-append before (take i xs) in
+    let at : first + i ≡ length (before ++ take i xs) = omega (arith, short, all, long) in
+    subst (HasPlaces after)
+    (append_assoc before (take i xs) (x ∷ [])
+    ∙ ap (λ (ys : List Typed). before ++ ys) (sym (take_more xs i x lt ∙ ap (λ (y : Typed). take i xs ++ y ∷ []) (sym is))))
+    (place_added index after (before ++ take i xs) x (first + i) at has added)
+
+-- ---- the object at a place
+
+-- the object at a place, where there is one
+abbrev pub object_by : Option ℕ → List Typed → Option Typed
+object_by None xs = None
+object_by (Some at) xs = slice_get xs at
+
+by_place : (xs : List Typed) (at : ℕ) (b : Bool) → nat_lt at (length xs) ≡ b → object_by (cond b (Some at) None) xs ≡ slice_get xs at
+by_place xs at true e = refl
+by_place xs at false e = sym (slice_get_past xs at (ltb-false at (length xs) e))
+
+-- at the place of the first that has a name stands the first that has it
+pub first_at : (entries : List Entry) (xs : List Typed) (name : List ℕ) (r : Option ℕ) → HasPlaces entries xs → r ≡ number_of name entries
+    → object_by r xs ≡ find (λ (o : Typed). bytes_eq o.word.name name) xs
+first_at entries xs name r has is =
+    let at = position_or_len (named name) xs in
+    ap (λ (o : Option ℕ). object_by o xs) (is ∙ has name ∙ sym (position_from-zero (named name) xs))
+    ∙ by_place xs at (nat_lt at (length xs)) refl ∙ sym (find_at (named name) xs)
+
+some_or : (b : Bool) (n : ℕ) (o : Option ℕ) → is_some (cond b (Some n) o) ≡ (b || is_some o)
+some_or true n o = refl
+some_or false n o = refl
+
+some_placed : (test : Typed → Bool) (n : ℕ) (xs : List Typed) → is_some (position_from test n xs) ≡ list_any test xs
+some_placed test n [] = refl
+some_placed test n (x ∷ xs) =
+    some_or (test x) n (position_from test (n + 1) xs) ∙ ap (λ (b : Bool). test x || b) (some_placed test (n + 1) xs)
+
+-- there is a place exactly where one has the name
+pub is_placed : (entries : List Entry) (xs : List Typed) (name : List ℕ) → HasPlaces entries xs
+    → is_some (number_of name entries) ≡ is_object xs name
+unfolding is_object
+is_placed entries xs name has = ap is_some (has name) ∙ some_placed (named name) 0 xs
