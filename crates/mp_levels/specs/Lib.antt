@@ -1,0 +1,4 @@
+pub mod Numbering
+pub mod Touched
+pub mod Stands
+pub mod Plans
