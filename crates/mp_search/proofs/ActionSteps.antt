@@ -1,0 +1,171 @@
+-- Own actions one after another, and the expansion of an entry.
+use Rattle.std.proofs.Common.{Ok, Err, ◌≡◌, ℕ, ◌+◌, ◌<◌, ◌≤◌, Bool, true, false, cond, List, [], ◌∷◌, ◌++◌, length, drop, Option, Some, None, refl, sym, ap, subst, ◌∙◌, arith}
+use Rattle.std.specs.Prelude.{if◌then◌else◌, slice_get, slice_set, option_map, Contains}
+use Rattle.std.specs.Option.{option_map_or}
+use Rattle.std.proofs.lemmas.List.{append-nil, append_assoc, drop_all, drop_more, get_or-set_same, length-set}
+use Rattle.std.proofs.lemmas.Option.{get_or_from_slice_get, slice_get_within}
+use Rattle.mp_sets.specs.Numbers.{Numbers}
+use Rattle.mp_task.specs.declared.act.Act.{Act}
+use Rattle.mp_task.specs.AgentTask.{AgentTask}
+use Rattle.mp_store.specs.declared.entry.Entry.{Entry}
+use Rattle.mp_store.specs.Record.{Record, is_open}
+use Rattle.mp_list.specs.First.{earlier, leftmost}
+use Rattle.mp_list.proofs.Members.{contains_head, contains_tail}
+use Rattle.mp_store.specs.declared.entry.Mark.TheVariants.{Expanded}
+use Rattle.mp_store.specs.Minima.{Numbered, popped, closed, first_open, is_nearer, least_open, those}
+use Rattle.mp_store.proofs.RankLemmas.{those_have}
+use Rattle.mp_search.specs.declared.answer.Sending.{Sending}
+use Rattle.mp_search.specs.declared.answer.ExpandRefusal.TheVariants.{AtLimit, Nothing}
+use Rattle.mp_search.specs.AgentState.{AgentState}
+use Rattle.mp_search.specs.Expansion.{Parent, and_then, answered, expanded, expansion, expanded_entry, one_more, with_action, with_actions}
+use Rattle.mp_search.specs.Search.{SearchRecord, is_open_below, is_spent}
+use Rattle.mp_search.specs.StateKeys.{KeptStates}
+use Rattle.mp_search.specs.Steps.{AreStatesOf, HaveSent}
+
+-- the items from a place inside on
+drop_at : {X : Type 0} (xs : List X) (i : ℕ) (x : X) → slice_get xs i ≡ Some x → drop i xs ≡ x ∷ drop (i + 1) xs
+drop_at xs i x is = drop_more xs i x (slice_get_within xs i x is) ∙ (λ j. get_or_from_slice_get xs i x x is j ∷ drop (i + 1) xs)
+
+module _ (t : AgentTask) (value : Numbers → Numbers → Option ℕ) (p : Parent) where
+  -- the actions below a number were applied: with those that are left, all is sent that is to be sent
+  pub record AreApplied (i : ℕ) (before out : List Sending) (old new : KeptStates) : Type 0 where
+    pub sent : out ++ (with_actions t value p i (drop i t.acts) new.kept).0 ≡ before ++ (with_actions t value p 0 t.acts old.kept).0
+    pub kept : (with_actions t value p i (drop i t.acts) new.kept).1 ≡ (with_actions t value p 0 t.acts old.kept).1
+    pub states : AreStatesOf t new
+    pub longer : length old.kept.entries ≤ length new.kept.entries
+
+  pub none_applied : (out : List Sending) (k : KeptStates) → AreStatesOf t k → AreApplied 0 out out k k
+  none_applied out k of = record { sent = refl; kept = refl; states = of; longer = omega arith }
+
+  step : (i : ℕ) (act : Act) (r : Record AgentState) → slice_get t.acts i ≡ Some act
+      → with_actions t value p i (drop i t.acts) r ≡ and_then (with_action t value p i act r) (with_actions t value p (i + 1) (drop (i + 1) t.acts))
+  unfolding with_actions
+  step i act r is = ap (λ (acts : List Act). with_actions t value p i acts r) (drop_at t.acts i act is)
+
+  pub one_applied : (i : ℕ) (act : Act) (before mid out : List Sending) (old k new : KeptStates) → AreApplied i before mid old k → slice_get t.acts i ≡ Some act
+      → HaveSent t (with_action t value p i act k.kept) mid out k new → AreApplied (i + 1) before out old new
+  one_applied i act before mid out old k new applied is sent =
+      let left = λ (r : Record AgentState). with_actions t value p (i + 1) (drop (i + 1) t.acts) r in
+      let made = with_action t value p i act k.kept in
+      record {
+        sent =
+            (λ j. sent.out j ++ (left (sent.kept j)).0)
+            ∙ append_assoc mid made.0 (left made.1).0
+            ∙ ap (λ (d : List Sending × Record AgentState). mid ++ d.0) (sym (step i act k.kept is))
+            ∙ applied.sent;
+        kept = ap (λ (r : Record AgentState). (left r).1) sent.kept ∙ ap (λ (d : List Sending × Record AgentState). d.1) (sym (step i act k.kept is)) ∙ applied.kept;
+        states = sent.states;
+        longer = let h = applied.longer in let l = sent.longer in omega arith;
+      }
+
+  nothing_left : (i : ℕ) (r : Record AgentState) → length t.acts ≤ i → with_actions t value p i (drop i t.acts) r ≡ ([], r)
+  unfolding with_actions
+  nothing_left i r all = ap (λ (acts : List Act). with_actions t value p i acts r) (drop_all i t.acts all)
+
+  pub all_applied : (i : ℕ) (before out : List Sending) (old new : KeptStates) → length t.acts ≤ i → AreApplied i before out old new
+      → HaveSent t (with_actions t value p 0 t.acts old.kept) before out old new
+  all_applied i before out old new all applied =
+      let none = nothing_left i new.kept all in
+      record {
+        out = sym (append-nil out) ∙ ap (λ (d : List Sending × Record AgentState). out ++ d.0) (sym none) ∙ applied.sent;
+        kept = ap (λ (d : List Sending × Record AgentState). d.1) (sym none) ∙ applied.kept;
+        states = applied.states;
+        longer = applied.longer;
+      }
+
+-- ---- the least open entry
+
+module _ (t : AgentTask) (value : Numbers → Numbers → Option ℕ) (n expansions : ℕ) (r : Record AgentState) (out : List Sending) (after : Record AgentState)
+    (least : least_open r ≡ Some n) (e : Entry AgentState) (is : slice_get (closed n r).entries n ≡ Some e)
+    (out_is : out ≡ (with_actions t value (record { number = n; state = e.key; g = e.g }) 0 t.acts (closed n r)).0)
+    (after_is : after ≡ (with_actions t value (record { number = n; state = e.key; g = e.g }) 0 t.acts (closed n r)).1) where
+  pub least_expanded : (old : Entry AgentState) → slice_get r.entries n ≡ Some old → old.key ≡ e.key → old.g ≡ e.g
+      → (out, record { kept = after; expansions = expansions + 1 }) ≡ expanded t value (record { kept = r; expansions = expansions })
+  unfolding expanded expanded_entry
+  least_expanded old there key cost =
+      let all = λ (x : Entry AgentState). with_actions t value (record { number = n; state = x.key; g = x.g }) 0 t.acts (closed n r) in
+      let same : all e ≡ all old = λ j. with_actions t value (record { number = n; state = sym key j; g = sym cost j }) 0 t.acts (closed n r) in
+      (λ j. (out_is j, record { kept = after_is j; expansions = expansions + 1 }))
+      ∙ ap (one_more expansions) same
+      ∙ ap (λ (o : Option (Entry AgentState)). option_map_or (λ x. one_more expansions (all x)) o ([], record { kept = r; expansions = expansions })) (sym there)
+      ∙ ap (λ (o : Option ℕ). option_map_or (λ m. option_map_or (λ x. expanded_entry t value m x (record { kept = r; expansions = expansions })) (slice_get r.entries m) ([], record { kept = r; expansions = expansions })) o ([], record { kept = r; expansions = expansions })) (sym least)
+
+-- ---- what is found is one of the items
+
+leftmost_keeps : {X : Type 0} (P : X → Type 0) (before : X → X → Bool) (known : X) (xs : List X) → P known → ((x : X) → Contains xs x → P x)
+    → (f : X) → leftmost before (Some known) xs ≡ Some f → P f
+leftmost_keeps P before known [] here all f is = subst P (let same : known ≡ f = cc in same) here
+leftmost_keeps {X} P before known (x ∷ xs) here all f is =
+    leftmost_keeps P before (earlier before (Some known) x) xs (by (before x known)) (λ y found. all y (contains_tail x xs y found)) f is
+  where
+    by : (b : Bool) → P (cond b x known)
+    by true = all x (contains_head x xs)
+    by false = here
+
+leftmost_among : {X : Type 0} (P : X → Type 0) (before : X → X → Bool) (xs : List X) → ((x : X) → Contains xs x → P x)
+    → (f : X) → leftmost before None xs ≡ Some f → P f
+leftmost_among P before [] all f is = absurd (let impossible : ⊥ = cc in impossible)
+leftmost_among P before (x ∷ xs) all f is = leftmost_keeps P before x xs (all x (contains_head x xs)) (λ y found. all y (contains_tail x xs y found)) f is
+
+pub least_inside : {K : Type 0} (r : Record K) (n : ℕ) → least_open r ≡ Some n → n < length r.entries
+least_inside {K} r n least = by (first_open r.entries) refl least
+  where
+    by : (o : Option (Numbered K)) → first_open r.entries ≡ o → option_map (λ x. x.0) o ≡ Some n → n < length r.entries
+    by None found e = absurd (let impossible : ⊥ = cc in impossible)
+    by (Some x) found e =
+        let inside =
+        leftmost_among (λ (y : Numbered K). y.0 < length r.entries) is_nearer (those (λ e. is_open e.mark) r.entries)
+        (λ y among. (those_have (λ e. is_open e.mark) r.entries y among).inside) x found
+        in
+        let number : x.0 ≡ n = cc in
+        subst (λ m. m < length r.entries) number inside
+
+pub closed_length : {K : Type 0} (n : ℕ) (r : Record K) → length (closed n r).entries ≡ length r.entries
+closed_length {K} n r = by (slice_get r.entries n)
+  where
+    by : (o : Option (Entry K)) → length (option_map_or (λ (e : Entry K). record r { entries = slice_set r.entries n (record e { mark = Expanded }) }) o r).entries ≡ length r.entries
+    by None = refl
+    by (Some e) = length-set r.entries n (record e { mark = Expanded })
+
+-- the entry that was closed
+pub closed_entry : {K : Type 0} (n : ℕ) (r : Record K) (old e : Entry K) → slice_get r.entries n ≡ Some old → slice_get (closed n r).entries n ≡ Some e → e ≡ record old { mark = Expanded }
+closed_entry {K} n r old e there is =
+    let after : closed n r ≡ record r { entries = slice_set r.entries n (record old { mark = Expanded }) } =
+    ap (λ (o : Option (Entry K)). option_map_or (λ (e : Entry K). record r { entries = slice_set r.entries n (record e { mark = Expanded }) }) o r) there
+    in
+    let at : slice_get (slice_set r.entries n (record old { mark = Expanded })) n ≡ Some e = ap (λ (x : Record K). slice_get x.entries n) (sym after) ∙ is in
+    sym (get_or_from_slice_get (slice_set r.entries n (record old { mark = Expanded })) n e e at)
+    ∙ get_or-set_same r.entries n (record old { mark = Expanded }) e (slice_get_within r.entries n old there)
+
+module _ (r : Record AgentState) (n : ℕ) (o : Option ℕ) (new : Record AgentState) (pops : (o, new) ≡ popped r) (some : o ≡ Some n) where
+  pub popped_least : least_open r ≡ Some n
+  popped_least = sym (ap (λ (x : Option ℕ × Record AgentState). x.0) pops) ∙ some
+
+  pub popped_kept : new ≡ closed n r
+  popped_kept =
+      ap (λ (x : Option ℕ × Record AgentState). x.1) pops ∙ ap (λ (o : Option ℕ). option_map_or (λ n. closed n r) o r) popped_least
+
+  pub popped_inside : n < length new.entries
+  popped_inside =
+      subst (λ (m : ℕ). n < m) (sym (ap (λ (k : Record AgentState). length k.entries) popped_kept ∙ closed_length n r)) (least_inside r n popped_least)
+
+-- ---- what a search does when it is to expand
+
+module _ (t : AgentTask) (value : Numbers → Numbers → Option ℕ) (limit : ℕ) (r : SearchRecord) where
+  pub at_limit : is_spent limit r ≡ true → (Err AtLimit, r) ≡ expansion t value limit r
+  unfolding expansion
+  at_limit spent = ap (λ (b : Bool). if b then (Err AtLimit, r) else if is_open_below r.kept then answered (expanded t value r) else (Err Nothing, r)) (sym spent)
+
+  pub nothing_open : is_spent limit r ≡ false → is_open_below r.kept ≡ false → (Err Nothing, r) ≡ expansion t value limit r
+  unfolding expansion
+  nothing_open spent none =
+      ap (λ (b : Bool). if b then answered (expanded t value r) else (Err Nothing, r)) (sym none)
+      ∙ ap (λ (b : Bool). if b then (Err AtLimit, r) else if is_open_below r.kept then answered (expanded t value r) else (Err Nothing, r)) (sym spent)
+
+  pub one_expanded : (out : List Sending) (new : SearchRecord) → is_spent limit r ≡ false → is_open_below r.kept ≡ true → (out, new) ≡ expanded t value r
+      → (Ok out, new) ≡ expansion t value limit r
+  unfolding expansion
+  one_expanded out new spent some is =
+      ap answered is
+      ∙ ap (λ (b : Bool). if b then answered (expanded t value r) else (Err Nothing, r)) (sym some)
+      ∙ ap (λ (b : Bool). if b then (Err AtLimit, r) else if is_open_below r.kept then answered (expanded t value r) else (Err Nothing, r)) (sym spent)

@@ -1,0 +1,12 @@
+-- keys with indices of sets, and the states that they stand for
+pub mod KeyedStates
+-- offers of keys, and of their states
+pub mod OfferedStates
+-- the private sets in the states that were sent
+pub mod SentSets
+-- steps of an expansion, one after another
+pub mod SendingSteps
+-- own actions one after another, and the expansion of an entry
+pub mod ActionSteps
+-- what is answered to a state that comes from another agent
+pub mod Receiving

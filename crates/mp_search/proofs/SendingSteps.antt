@@ -1,0 +1,194 @@
+-- Steps of an expansion, one after another.
+use Rattle.std.proofs.Common.{map-id, ◌≡◌, ℕ, zero, suc, ◌+◌, ◌<◌, ◌≤◌, Bool, true, false, cond, List, [], ◌∷◌, ◌++◌, length, Option, Some, None, Result, Ok, Err, refl, sym, ap, subst, ◌∙◌, arith}
+use Rattle.std.specs.Prelude.{slice_get, option_map, IfSome, OnOk, if◌then◌else◌}
+use Rattle.std.specs.FinSet as set
+use Rattle.std.specs.Option.{option_map_or}
+use Rattle.std.proofs.lemmas.List.{append-nil}
+use Rattle.std.proofs.lemmas.List.FromFn.{filter_of_map_range_with_len_more}
+use Rattle.mp_sets.specs.Numbers.{Numbers, listed}
+use Rattle.mp_task.specs.AgentTask.{AgentTask}
+use Rattle.mp_task.specs.Met.{is_met}
+use Rattle.mp_messages.specs.declared.message.State.{State}
+use Rattle.mp_tokens.specs.Order.{order_of_use, place, with_set}
+use Rattle.mp_store.specs.declared.entry.Entry.{Entry}
+use Rattle.mp_store.specs.Record.{Record}
+use Rattle.mp_store.specs.Sent.{mark_sent}
+use Rattle.mp_search.specs.declared.answer.Sending.{Sending}
+use Rattle.mp_search.specs.declared.states.Shown.{Shown}
+use Rattle.mp_search.specs.AgentState.{AgentState, applies, same_state, successor, with_tag}
+use Rattle.mp_search.specs.Concern.{one_if, receivers}
+use Rattle.mp_search.specs.Expansion.{Parent, with_action, with_successor}
+use Rattle.mp_search.specs.Offering.{offered_at}
+use Rattle.mp_search.specs.declared.answer.Received.{Received}
+use Rattle.mp_search.specs.declared.reached.Reached.{Reached}
+use Rattle.mp_store.specs.declared.entry.Origin.TheVariants.{Own}
+use Rattle.mp_task.specs.declared.act.Act.{Act}
+use Rattle.mp_task.specs.Limits.{ActFits}
+use Rattle.std.specs.List.{filter, range_with_len}
+use Rattle.mp_search.specs.Search.{sent_sets, tokens_given}
+use Rattle.mp_search.specs.Sending.{message_of, sending_of, sent_entry_of, sent_if_due}
+use Rattle.mp_search.specs.StateKeys.{HasSizes, IsMessageOf, IsSent, IsShown, KeptStates, used_after}
+use Rattle.mp_search.specs.Steps.{AreStatesOf, HaveSent}
+use Rattle.mp_search.proofs.SentSets.{more_sets, order_more, same_entries, unsent_sets}
+
+-- nothing is sent, and nothing else happens
+pub nothing_sent : (t : AgentTask) (out : List Sending) (k : KeptStates) → AreStatesOf t k → HaveSent t ([], k.kept) out out k k
+nothing_sent t out k of = record { out = sym (append-nil out); kept = refl; states = of; longer = omega arith }
+
+-- what was not sent before counts as no sending
+pub later_sent : (t : AgentTask) (done : List Sending × Record AgentState) (before after : List Sending) (old mid new : KeptStates)
+    → length old.kept.entries ≤ length mid.kept.entries → HaveSent t done before after mid new → HaveSent t done before after old new
+later_sent t done before after old mid new more sent =
+    record { out = sent.out; kept = sent.kept; states = sent.states; longer = let h = sent.longer in omega arith }
+
+-- states whose sent sets are the same
+pub same_states : (t : AgentTask) (old new : KeptStates) → AreStatesOf t old → new.publics ≡ old.publics → new.privates ≡ old.privates
+    → new.used ≡ old.used → sent_sets new.kept ≡ sent_sets old.kept → AreStatesOf t new
+same_states t old new of publics privates used sets = record {
+  publics = publics ∙ of.publics;
+  privates = privates ∙ of.privates;
+  used = used ∙ of.used ∙ ap (order_of_use (set.from_list t.start_priv)) (sym sets);
+}
+
+-- ---- the state of an entry is sent
+
+module _ (t : AgentTask) (s : AgentState) (n : ℕ) (answer : Option (ℕ × ℕ)) (old new : KeptStates) (of : AreStatesOf t old)
+    (sent : IsSent n answer old new) (publics : new.publics ≡ old.publics) (privates : new.privates ≡ old.privates)
+    (e : Entry AgentState) (is : slice_get old.kept.entries n ≡ Some e) where
+  as_decided : sent_entry_of t s (Some n) old.kept ≡ sending_of t s e (option_map (λ x. x.0) answer, new.kept)
+  unfolding sent_entry_of
+  as_decided =
+      ap (λ (o : Option (Entry AgentState)). option_map_or (λ (e : Entry AgentState). sending_of t s e (mark_sent same_state n old.kept)) o ([], old.kept)) is
+      ∙ ap (sending_of t s e) (sym sent.marked)
+
+  pub entries_kept : new.kept.entries ≡ old.kept.entries
+  entries_kept = same_entries n old.kept e is (option_map (λ x. x.0) answer) new.kept sent.marked
+
+  not_shorter : length old.kept.entries ≤ length new.kept.entries
+  not_shorter = let same = ap (λ (es : List (Entry AgentState)). length es) entries_kept in omega arith
+
+  pub states_unsent : answer ≡ None → AreStatesOf t new
+  states_unsent none =
+      let same : new.kept ≡ old.kept = unsent_sets n old.kept e is (option_map (λ x. x.0) answer) new.kept sent.marked (ap (option_map (λ (x : ℕ × ℕ). x.0)) none) in
+      record {
+        publics = publics ∙ of.publics;
+        privates = privates ∙ of.privates;
+        used =
+            subst (λ (a : Option (ℕ × ℕ)). new.used ≡ used_after a e old.used) none (sent.used e is)
+            ∙ of.used ∙ ap (tokens_given t) (sym same);
+      }
+
+  pub none_sent : answer ≡ None → (out : List Sending) → HaveSent t (sent_entry_of t s (Some n) old.kept) out out old new
+  none_sent none out =
+      let done : sent_entry_of t s (Some n) old.kept ≡ ([], new.kept) = as_decided ∙ ap (λ (a : Option (ℕ × ℕ)). sending_of t s e (option_map (λ x. x.0) a, new.kept)) none in
+      record {
+        out = sym (append-nil out) ∙ ap (λ (d : List Sending × Record AgentState). out ++ d.0) (sym done);
+        kept = ap (λ (d : List Sending × Record AgentState). d.1) (sym done);
+        states = states_unsent none;
+        longer = not_shorter;
+      }
+
+  module _ (number own_token : ℕ) (some : answer ≡ Some (number, own_token)) where
+    pub used_now : new.used ≡ tokens_given t new.kept
+    used_now =
+        subst (λ (a : Option (ℕ × ℕ)). new.used ≡ used_after a e old.used) some (sent.used e is)
+        ∙ ap (λ (u : List Numbers). with_set u e.key.mine) of.used
+        ∙ sym (order_more (set.from_list t.start_priv) (sent_sets old.kept) e.key.mine)
+        ∙ ap (order_of_use (set.from_list t.start_priv))
+        (sym (more_sets n old.kept e is (option_map (λ x. x.0) answer) new.kept sent.marked number (ap (option_map (λ (x : ℕ × ℕ). x.0)) some)))
+
+    pub message_is : (x : Shown) (m : State) (seen : Entry AgentState) → slice_get new.kept.entries n ≡ Some seen → IsShown x seen → x.publics.now.size ≡ new.publics
+        → IsMessageOf t number own_token x m → m ≡ message_of t new.kept number e
+    unfolding message_of
+    message_is x m seen at shown size made =
+        let one : Some seen ≡ Some e = sym at ∙ ap (λ (es : List (Entry AgentState)). slice_get es n) entries_kept ∙ is in
+        let same : seen ≡ e = cc in
+        let token_is : own_token ≡ place (tokens_given t new.kept) e.key.mine =
+        subst (λ (a : Option (ℕ × ℕ)). IfSome a (λ x. x.1 ≡ place new.used e.key.mine)) some (sent.token e is)
+        ∙ ap (λ (u : List Numbers). place u e.key.mine) used_now
+        in
+        let sized : x.publics.now ≡ record { size = t.publics; members = e.key.publics } =
+        λ j. record { size = (size ∙ publics ∙ of.publics) j; members = (shown.publics ∙ ap (λ (y : Entry AgentState). y.key.publics) same) j }
+        in
+        λ j. record {
+          sent = made.sent j;
+          g = (made.g ∙ shown.g ∙ ap (λ (y : Entry AgentState). y.g) same) j;
+          h = (made.h ∙ shown.h ∙ ap (λ (y : Entry AgentState). y.h) same) j;
+          facts = (made.facts ∙ ap listed sized) j;
+          tags = (made.tags ∙ (λ i. with_tag ((shown.tags ∙ ap (λ (y : Entry AgentState). y.key.tags) same) i) t.me (record {
+            token = token_is i;
+            met = is_met t ((shown.mine ∙ ap (λ (y : Entry AgentState). y.key.mine) same) i);
+          }))) j;
+        }
+
+    pub one_sent : (out : List Sending) (m : State) → m ≡ message_of t new.kept number e
+        → HaveSent t (sent_entry_of t s (Some n) old.kept) out (out ++ record { state = m; to = receivers t s } ∷ []) old new
+    one_sent out m is_message =
+        let done : sent_entry_of t s (Some n) old.kept ≡ (record { state = message_of t new.kept number e; to = receivers t s } ∷ [], new.kept) =
+        as_decided ∙ ap (λ (a : Option (ℕ × ℕ)). sending_of t s e (option_map (λ x. x.0) a, new.kept)) some
+        in
+        record {
+          out = (λ j. out ++ record { state = is_message j; to = receivers t s } ∷ []) ∙ ap (λ (d : List Sending × Record AgentState). out ++ d.0) (sym done);
+          kept = ap (λ (d : List Sending × Record AgentState). d.1) (sym done);
+          states = record { publics = publics ∙ of.publics; privates = privates ∙ of.privates; used = used_now };
+          longer = not_shorter;
+        }
+
+-- no entry, no sending
+pub none_best : (t : AgentTask) (s : AgentState) (out : List Sending) (k : KeptStates) → AreStatesOf t k → HaveSent t (sent_entry_of t s None k.kept) out out k k
+unfolding sent_entry_of
+none_best t s out k of = nothing_sent t out k of
+
+-- ---- a state that an own action led to
+
+module _ (t : AgentTask) (value : Numbers → Numbers → Option ℕ) (p : Parent) (number : ℕ) (act : Act) where
+  pub successor_sent : (s reached : AgentState) (found : Option ℕ) (answer : Received) (old mid new : KeptStates) (out after : List Sending)
+      → reached ≡ s → found ≡ value s.publics s.mine
+      → (answer, mid.kept) ≡ offered_at t s (p.g + act.cost) found (Own number p.number) old.kept
+      → length old.kept.entries ≤ length mid.kept.entries
+      → HaveSent t (sent_if_due t act p.state reached mid.kept) out after mid new
+      → HaveSent t (with_successor t value p number act s old.kept) out after old new
+  unfolding with_successor
+  successor_sent s reached found answer old mid new out after same found_is offered more sent =
+      let kept_is : mid.kept ≡ (offered_at t s (p.g + act.cost) (value s.publics s.mine) (Own number p.number) old.kept).1 =
+      ap (λ (x : Received × Record AgentState). x.1) offered
+      ∙ ap (λ (f : Option ℕ). (offered_at t s (p.g + act.cost) f (Own number p.number) old.kept).1) found_is
+      in
+      subst (λ (r : Record AgentState). HaveSent t (sent_if_due t act p.state s r) out after old new) kept_is
+      (subst (λ (x : AgentState). HaveSent t (sent_if_due t act p.state x mid.kept) out after old new) same
+      (later_sent t (sent_if_due t act p.state reached mid.kept) out after old mid new more sent))
+
+  pub action_sent : (old new : KeptStates) (out after : List Sending) → applies act p.state ≡ true
+      → HaveSent t (with_successor t value p number act (successor act p.state) old.kept) out after old new
+      → HaveSent t (with_action t value p number act old.kept) out after old new
+  unfolding with_action
+  action_sent old new out after may sent =
+      subst (λ (b : Bool). HaveSent t (if b then with_successor t value p number act (successor act p.state) old.kept else ([], old.kept)) out after old new) (sym may) sent
+
+  pub no_action : (k : KeptStates) (out : List Sending) → applies act p.state ≡ false → AreStatesOf t k
+      → HaveSent t (with_action t value p number act k.kept) out out k k
+  unfolding with_action
+  no_action k out may_not of =
+      subst (λ (b : Bool). HaveSent t (if b then with_successor t value p number act (successor act p.state) k.kept else ([], k.kept)) out out k k) (sym may_not) (nothing_sent t out k of)
+
+-- an entry at a place inside
+pub entry_inside : {X : Type 0} (xs : List X) (n : ℕ) → n < length xs → (x : X) × (slice_get xs n ≡ Some x)
+entry_inside [] n h = absurd (omega arith)
+entry_inside (x ∷ xs) zero h = (x, refl)
+entry_inside (x ∷ xs) (suc n) h = entry_inside xs n (omega arith)
+
+pub on_ok : {A E : Type 0} (res : Result A E) (P Q : Type 0) → OnOk res P → (P → Q) → OnOk res Q
+on_ok (Ok x) P Q holds more = more holds
+on_ok (Err e) P Q holds more = tt
+
+-- an action fits a state as it fits its task
+pub fits_state : (publics privates : ℕ) (x : Reached) (act : Act) → HasSizes publics privates x → ActFits publics privates act → ActFits x.key.publics.size x.mine.size act
+fits_state publics privates x act sizes fits =
+    subst (λ (p : ℕ). ActFits p x.mine.size act) (sym sizes.publics_size) (subst (λ (q : ℕ). ActFits publics q act) (sym sizes.privates_size) fits)
+
+-- the agents up to one more that pass a test
+pub numbers_more : (p : ℕ → Bool) (n : ℕ) → filter p (range_with_len 1 (n + 1)) ≡ filter p (range_with_len 1 n) ++ one_if (p (n + 1)) (n + 1)
+numbers_more p n =
+    ap (filter p) (sym (map-id (range_with_len 1 (n + 1))))
+    ∙ filter_of_map_range_with_len_more p (λ k. k) 1 n (n + 1) (omega arith)
+    ∙ ap (λ xs. filter p xs ++ cond (p (n + 1)) ((n + 1) ∷ []) []) (map-id (range_with_len 1 n))

@@ -1,0 +1,20 @@
+-- A search as the plain record that contracts see.
+use Rattle.std.specs.Prelude.{◌≡◌, ◌≤◌, ℕ, Bool, false}
+use Rattle.mp_task.specs.AgentTask.{AgentTask}
+use Rattle.mp_search.specs.Search.{AgentSearch}
+use Rattle.mp_search.specs.StateKeys.{KeptStates}
+use Rattle.mp_search.specs.Steps.{AreStatesOf}
+
+abbrev pub agent_search : AgentTask → ℕ → KeptStates → ℕ → Bool → AgentSearch
+agent_search t limit k expansions failed = record {
+  task = t;
+  limit = limit;
+  done = record { kept = k.kept; expansions = expansions };
+  failed = failed;
+}
+
+pub record IsSearch (IsFor : AgentTask → Type 0) (t : AgentTask) (limit : ℕ) (k : KeptStates) (expansions : ℕ) (failed : Bool) : Type 0 where
+  pub at_most : limit ≤ 10000000
+  pub within : expansions ≤ limit
+  pub heuristic : IsFor t
+  pub states : failed ≡ false → AreStatesOf t k

@@ -1,0 +1,135 @@
+//! Which states are sent, and to whom.
+
+ghost use Rattle.std.specs.Prelude.{◌≡◌, ◌≤◌, ◌==◌, ◌||◌, ◌&&◌, ◌++◌, ◌+◌, ◌<◌, ◌^◌, not, length, IfOk, OnOk};
+ghost use Rattle.std.specs.List.{list_all, list_any, enumerate_from};
+ghost use Rattle.mp_task.specs.Met.{is_met};
+ghost use Rattle.mp_task.specs.Public as public;
+ghost use Rattle.mp_search.specs.AgentState.{is_goal_state};
+ghost use Rattle.mp_search.specs.Concern.{concerns, is_receiver, is_visible, may_act, one_if, receivers};
+ghost use Rattle.mp_search.specs.StateKeys.{reached_state, HasSizes};
+
+use crate::answer::AgentList;
+use crate::reached::Reached;
+use mp_list::OutOfMemory;
+use mp_sets::{Agent, Bits, Tag};
+use mp_task::{Act, Task};
+use std::alloc::Global;
+
+/// Whether the agent's private goals all hold.
+pub(crate) fn is_met(task: &Task, mine: &Bits) -> bool
+    requires { mine.now.size ≡ task.now.privates }
+    ensures { result ≡ is_met task.now mine.now.members }
+{
+    mine.holds(&task.goal_priv)
+}
+
+/// Whether tags, of which so many come before, say of all agents but one that their private goals hold.
+fn are_others_met(me: Agent, before: usize, tags: &[Tag]) -> bool
+    requires { before + length tags.now < 2 ^ 64 }
+    ensures { result ≡ list_all (λ x. (x.0 == me) || x.1.met) (enumerate_from (before + 1) tags.now) }
+{
+    match tags {
+        [] => true,
+        [tag, rest @ ..] => {
+            (before + 1 == me.number() as usize || tag.met) && are_others_met(me, before + 1, rest)
+        }
+    }
+}
+
+/// Whether all goals hold in a state.
+pub(crate) fn is_goal(task: &Task, state: &Reached) -> bool
+    requires { HasSizes task.now.publics task.now.privates state.now }
+    ensures { result ≡ is_goal_state task.now (reached_state state.now) }
+{
+    state.key.publics.holds(&task.goal_pub)
+        && is_met(task, &state.mine)
+        && are_others_met(task.me, 0, state.key.tags.as_slice())
+}
+
+/// Whether a public action of an agent may be applicable.
+fn may_act(task: &Task, agent: Agent, state: &Reached) -> bool
+    requires { HasSizes task.now.publics task.now.privates state.now }
+    ensures { result ≡ may_act task.now agent (reached_state state.now) }
+{
+    for part in task.far.as_slice() {
+        if part.by == agent && state.key.publics.holds(&part.pre) {
+            return true;
+        }
+    }
+    false
+}
+
+/// Whether tags, of which so many come before, say of an agent that its private goals don't all hold.
+fn is_unmet(agent: Agent, before: usize, tags: &[Tag]) -> bool
+    requires { before + length tags.now < 2 ^ 64 }
+    ensures { result ≡ list_any (λ x. (x.0 == agent) && not x.1.met) (enumerate_from (before + 1) tags.now) }
+{
+    match tags {
+        [] => false,
+        [tag, rest @ ..] => {
+            (before + 1 == agent.number() as usize && !tag.met) || is_unmet(agent, before + 1, rest)
+        }
+    }
+}
+
+/// Whether a state concerns an agent.
+fn concerns(task: &Task, agent: Agent, state: &Reached) -> bool
+    requires { HasSizes task.now.publics task.now.privates state.now }
+    ensures { result ≡ concerns task.now (reached_state state.now) agent }
+{
+    may_act(task, agent, state) || is_unmet(agent, 0, state.key.tags.as_slice())
+}
+
+/// Adds an agent if it is another one that a state concerns.
+fn add_receiver(
+    to: &mut AgentList,
+    task: &Task,
+    number: u16,
+    state: &Reached,
+) -> Result<(), OutOfMemory>
+    requires from_1 { 1 ≤ number }
+    requires at_most { number ≤ 16 }
+    requires sizes { HasSizes task.now.publics task.now.privates state.now }
+    ensures { OnOk result (to.new ≡ to.old ++ one_if (is_receiver task.now (reached_state state.now) number) number) }
+{
+    let Some(agent) = Agent::new(number) else {
+        return Ok(());
+    };
+    if agent != task.me && concerns(task, agent, state) {
+        to.push(agent)?;
+    }
+    Ok(())
+}
+
+/// The other agents that a state concerns, by rising number.
+pub(crate) fn receivers(
+    alloc: Global,
+    task: &Task,
+    state: &Reached,
+) -> Result<AgentList, OutOfMemory>
+    requires { HasSizes task.now.publics task.now.privates state.now }
+    ensures { IfOk result (λ to. to ≡ receivers task.now (reached_state state.now)) }
+{
+    let mut to = AgentList::new(alloc);
+    for before in 0..task.agents {
+        add_receiver(&mut to, task, before + 1, state)?;
+    }
+    Ok(to)
+}
+
+/// Whether others may see what an own action did.
+pub(crate) fn is_visible(
+    task: &Task,
+    is_public: bool,
+    act: &Act,
+    before: &Reached,
+    after: &Reached,
+) -> bool
+    requires public { is_public ≡ public.is_public act.now }
+    requires before { HasSizes task.now.publics task.now.privates before.now }
+    requires after { HasSizes task.now.publics task.now.privates after.now }
+    ensures { result ≡ is_visible task.now act.now (reached_state before.now) (reached_state after.now) }
+{
+    let _ = act;
+    is_public || (!is_met(task, &before.mine) && is_met(task, &after.mine))
+}

@@ -1,0 +1,15 @@
+//! The search of one agent of MAD-A*, a distributed A*: what it expands, sends and keeps.
+#![tactic(auto)]
+
+mod answer;
+mod concern;
+mod expansion;
+mod offering;
+mod reached;
+mod receipt;
+mod search;
+mod sending;
+mod states;
+
+pub use answer::{AgentList, ExpandRefusal, ReceiveRefusal, Received, Sending, SendingList};
+pub use search::Search;

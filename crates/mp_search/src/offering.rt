@@ -1,0 +1,87 @@
+//! States that are offered.
+
+ghost use Rattle.std.specs.Prelude.{◌≡◌, ◌≤◌, ◌+◌, ◌^◌, nat_lt, IfOk, OnOk, length};
+ghost use Rattle.mp_store.specs.Laws.{IsEarlier};
+ghost use Rattle.mp_search.specs.Offering.{offered_at, offered_with, reception_of};
+ghost use Rattle.mp_search.specs.StateKeys.{reached_state, HasSizes};
+ghost use Rattle.mp_search.specs.Steps.{AreStatesOf};
+
+use crate::answer::Received;
+use crate::concern::is_goal;
+use crate::reached::Reached;
+use crate::states::States;
+use mp_list::OutOfMemory;
+use mp_store::{Offer, Origin};
+use mp_task::Task;
+
+/// Every cost and estimate together are below it.
+const LIMIT: u64 = 1 << 60;
+
+/// Whether a cost and an estimate may be kept.
+fn is_in_range(g: u64, h: u64) -> bool
+    ensures { result ≡ nat_lt (g + h) (2 ^ 60) }
+{
+    h < LIMIT && g < LIMIT - h
+}
+
+/// What became of a state that the keep rule decided on.
+fn reception(offer: Offer) -> Received
+    ensures { result ≡ reception_of offer }
+{
+    match offer {
+        Offer::Kept(entry) => Received::Kept(entry),
+        Offer::Worse => Received::Worse,
+    }
+}
+
+/// Offers a state at a cost and with an estimate.
+#[tactic(auto, unfolding(crate::specs::Offering::offered_with), using(crate::proofs::SendingSteps::same_states))]
+fn offer_with(
+    task: &Task,
+    states: &mut States,
+    state: &mut Reached,
+    g: u64,
+    h: u64,
+    origin: Origin,
+) -> Result<Received, OutOfMemory>
+    requires states { AreStatesOf task.now states.old }
+    requires sizes { HasSizes task.now.publics task.now.privates state.old }
+    requires parent { IsEarlier (length states.old.kept.entries) origin }
+    ensures offered { IfOk result (λ answer. (answer, states.new.kept)
+        ≡ offered_with task.now (reached_state state.old) g h origin states.old.kept) }
+    ensures states { OnOk result (AreStatesOf task.now states.new) }
+    ensures longer { OnOk result (length states.old.kept.entries ≤ length states.new.kept.entries) }
+    ensures state { reached_state state.new ≡ reached_state state.old }
+    ensures sizes { HasSizes task.now.publics task.now.privates state.new }
+{
+    if !is_in_range(g, h) {
+        return Ok(Received::Worse);
+    }
+    let goal = is_goal(task, state);
+    Ok(reception(states.offer(state, g, h, origin, goal)?))
+}
+
+/// Offers a state at a cost, with an estimate or none.
+pub(crate) fn offer_at(
+    task: &Task,
+    states: &mut States,
+    state: &mut Reached,
+    g: u64,
+    value: Option<u64>,
+    origin: Origin,
+) -> Result<Received, OutOfMemory>
+    requires states { AreStatesOf task.now states.old }
+    requires sizes { HasSizes task.now.publics task.now.privates state.old }
+    requires parent { IsEarlier (length states.old.kept.entries) origin }
+    ensures offered { IfOk result (λ answer. (answer, states.new.kept)
+        ≡ offered_at task.now (reached_state state.old) g value origin states.old.kept) }
+    ensures states { OnOk result (AreStatesOf task.now states.new) }
+    ensures longer { OnOk result (length states.old.kept.entries ≤ length states.new.kept.entries) }
+    ensures state { reached_state state.new ≡ reached_state state.old }
+    ensures sizes { HasSizes task.now.publics task.now.privates state.new }
+{
+    match value {
+        Some(h) => offer_with(task, states, state, g, h, origin),
+        None => Ok(Received::Dead),
+    }
+}

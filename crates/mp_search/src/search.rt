@@ -1,0 +1,184 @@
+//! The search of one agent.
+
+ghost use Rattle.std.specs.Prelude.{◌≡◌, ◌≢◌, ◌≤◌, true, false, Err, IfOk, IsFalse};
+ghost use Rattle.mp_store.specs.Named.{named};
+ghost use Rattle.mp_search.specs.Answers.{IsExpansion, IsReceipt};
+ghost use Rattle.mp_search.specs.Offering.{start_record};
+ghost use Rattle.mp_search.specs.Receipt.{IsStateFor};
+ghost use Rattle.mp_search.specs.Search.{is_open_below, is_spent, may_expand, tokens_given, AgentSearch};
+ghost use Rattle.mp_search.specs.StoreSeen.{HasEntriesOf};
+ghost use Rattle.mp_search.specs.Steps.{AreStatesOf};
+
+use crate::answer::{ExpandRefusal, ReceiveRefusal, Received, SendingList};
+use crate::expansion::expand_least;
+use crate::offering::offer_at;
+use crate::reached::Reached;
+use crate::receipt::receive_state;
+use crate::sending::start_state;
+use crate::states::States;
+use mp_list::{Copied, OutOfMemory};
+use mp_messages::State;
+use mp_sets::{Agent, Bits};
+use mp_store::{Origin, Store};
+use mp_task::{Heuristic, Task};
+use mp_tokens::Tokens;
+use std::alloc::Global;
+use std::marker::Model;
+
+/// The search of one agent in its task, with a heuristic that was made of that task. Contracts see it as the plain
+/// record of what it did.
+#[derive(Drop)]
+pub struct Search<H: Heuristic> {
+    alloc: Global,
+    task: Task,
+    heuristic: H,
+    /// How many entries it may expand.
+    limit: u64,
+    states: States,
+    /// How many entries it expanded.
+    expansions: u64,
+    /// Memory ran out before.
+    failed: bool,
+}
+
+impl<H: Heuristic> Model for Search<H> {
+    ghost use Rattle.mp_search.specs.Search.{AgentSearch};
+    ghost use Rattle.mp_search.specs.SearchFields.{agent_search, IsSearch};
+
+    ghost Value = { AgentSearch };
+
+    ghost use Rattle.std.specs.Coded.{codes};
+    ghost use Rattle.mp_search.specs.StateKeys.{coded_numbers};
+
+    ghost coded = { Prim.hlevel (codes, coded_numbers) };
+
+    ghost view = { λ s. agent_search s.task s.limit s.states s.expansions s.failed };
+
+    ghost invariant = { λ s. IsSearch (H.is_for s.heuristic) s.task s.limit s.states s.expansions s.failed };
+}
+
+impl<H: Heuristic> Search<H> {
+    /// The search that knows the initial state alone. The limit is from 1 to 10,000,000, and the heuristic was made of
+    /// an equal task.
+    pub fn new(
+        alloc: Global,
+        task: Task,
+        heuristic: H,
+        limit: u64,
+    ) -> Result<Search<H>, OutOfMemory>
+        requires from_1 { 1 ≤ limit }
+        requires limit { limit ≤ 10000000 }
+        requires heuristic { H.is_for heuristic task }
+        ensures { IfOk result (λ made. made ≡ record {
+          task = task;
+          limit = limit;
+          done = start_record task (H.value task);
+          failed = false;
+        }) }
+    {
+        let mut heuristic = heuristic;
+        let mut state = start_state(alloc, &task)?;
+        let mut states = States::new(alloc, task.publics, state.mine.copy()?)?;
+        let value = heuristic.value(&state.key.publics, &state.mine)?;
+        offer_at(&task, &mut states, &mut state, 0, value, Origin::Root)?;
+        Ok(Search {
+            alloc,
+            task,
+            heuristic,
+            limit,
+            states,
+            expansions: 0,
+            failed: false,
+        })
+    }
+
+    /// Whether it has an open entry that is worth an expansion, and has expanded fewer entries than it may.
+    pub fn can_expand(&self) -> bool
+        ensures { result ≡ may_expand self.now.limit self.now.done }
+    {
+        !self.spent() && self.states.is_open_below()
+    }
+
+    /// Whether it has expanded as many entries as it may.
+    pub fn spent(&self) -> bool
+        ensures { result ≡ is_spent self.now.limit self.now.done }
+    {
+        self.expansions == self.limit
+    }
+
+    /// How many entries it expanded.
+    pub fn expanded(&self) -> u64
+        ensures { result ≡ self.now.done.expansions }
+    {
+        self.expansions
+    }
+
+    /// The store, whose keys have indices of own private sets. The record has the sets themselves.
+    pub fn store(&self) -> &Store
+        ensures { HasEntriesOf result.now self.now.done.kept }
+    {
+        &self.states.store
+    }
+
+    /// The own private sets, by their indices and by their tokens.
+    pub fn tokens(&self) -> &Tokens
+        ensures { IsFalse self.now.failed → result.now.used ≡ tokens_given self.now.task self.now.done.kept }
+    {
+        &self.states.tokens
+    }
+
+    /// Expands the least open entry, and answers what is to be sent, in this order. Without memory, now or before, it
+    /// answers so.
+    pub fn expand(&mut self) -> Result<SendingList, ExpandRefusal>
+        ensures { IsExpansion (H.value self.old.task) self.old result self.new }
+    {
+        if self.failed {
+            return Err(ExpandRefusal::OutOfMemory);
+        }
+        if self.spent() {
+            return Err(ExpandRefusal::AtLimit);
+        }
+        if !self.states.is_open_below() {
+            return Err(ExpandRefusal::Nothing);
+        }
+        match expand_least(
+            self.alloc,
+            &self.task,
+            &mut self.heuristic,
+            &mut self.states,
+        ) {
+            Ok(sendings) => {
+                self.expansions += 1;
+                Ok(sendings)
+            }
+            Err(_) => {
+                self.failed = true;
+                Err(ExpandRefusal::OutOfMemory)
+            }
+        }
+    }
+
+    /// Receives a state from another agent of the team. Without memory, now or before, it answers so.
+    pub fn receive(&mut self, from: Agent, state: State) -> Result<Received, ReceiveRefusal>
+        requires team { from ≤ self.old.task.agents }
+        requires other { from ≢ self.old.task.me }
+        requires state { IsStateFor self.old.task state }
+        ensures { IsReceipt (H.value self.old.task) self.old from state result self.new }
+    {
+        if self.failed {
+            return Err(ReceiveRefusal::OutOfMemory);
+        }
+        let answer = receive_state(
+            self.alloc,
+            &self.task,
+            &mut self.heuristic,
+            &mut self.states,
+            from,
+            &state,
+        );
+        if let Err(ReceiveRefusal::OutOfMemory) = answer {
+            self.failed = true;
+        }
+        answer
+    }
+}

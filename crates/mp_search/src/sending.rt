@@ -1,0 +1,194 @@
+//! What is sent of a state.
+
+ghost use Rattle.std.specs.Prelude.{◌≡◌, ◌<◌, IfOk, OnOk, Some, length, map};
+ghost use Rattle.mp_store.specs.Sent.{mark_sent};
+ghost use Rattle.mp_task.specs.Public as public;
+ghost use Rattle.mp_search.specs.AgentState.{start_state, start_tag, with_tag};
+ghost use Rattle.mp_search.specs.Search.{tokens_given};
+ghost use Rattle.mp_search.specs.Sending.{is_due, sent_best, sent_entry_of, sent_if_due};
+ghost use Rattle.mp_search.specs.StateKeys.{reached_state, HasSizes, IsMessageOf};
+ghost use Rattle.mp_search.specs.Steps.{AreStatesOf, HaveSent};
+
+use crate::answer::{Sending, SendingList};
+use crate::concern::{is_visible, receivers};
+use crate::reached::Reached;
+use crate::states::{Shown, States};
+use mp_list::{Copied, OutOfMemory};
+use mp_messages::State;
+use mp_sets::{Agent, Bits, Tag, Tags};
+use mp_store::Key;
+use mp_task::{Act, Task};
+use std::alloc::Global;
+
+/// Tags with another one in the place of an agent.
+pub(crate) fn with_tag(
+    alloc: Global,
+    tags: &Tags,
+    agent: Agent,
+    tag: Tag,
+) -> Result<Tags, OutOfMemory>
+    ensures { IfOk result (λ made. made ≡ with_tag tags.now agent tag) }
+{
+    let mut made = Tags::with_capacity(alloc, tags.len())?;
+    for (i, old) in tags.as_slice().iter().enumerate() {
+        let new = if i + 1 == agent.number() as usize {
+            tag
+        } else {
+            *old
+        };
+        made.push(new)?;
+    }
+    Ok(made)
+}
+
+/// The message of an entry under a sent number, with a token for the own set.
+fn message(
+    alloc: Global,
+    task: &Task,
+    number: u64,
+    token: u64,
+    entry: Shown<'_>,
+) -> Result<State, OutOfMemory>
+    requires publics { entry.publics.now.size ≡ task.now.publics }
+    requires privates { entry.mine.now.size ≡ task.now.privates }
+    ensures { IfOk result (λ state. IsMessageOf task.now number token entry.entry state) }
+{
+    let tag = Tag {
+        token,
+        met: entry.mine.holds(&task.goal_priv),
+    };
+    Ok(State {
+        sent: number,
+        g: entry.g,
+        h: entry.h,
+        facts: entry.publics.list()?,
+        tags: with_tag(alloc, entry.tags, task.me, tag)?,
+    })
+}
+
+/// Sends the state of an entry to agents, unless it was sent at that cost or less.
+fn send_entry(
+    alloc: Global,
+    task: &Task,
+    states: &mut States,
+    state: &Reached,
+    entry: u64,
+    out: &mut SendingList,
+) -> Result<(), OutOfMemory>
+    requires states { AreStatesOf task.now states.old }
+    requires sizes { HasSizes task.now.publics task.now.privates state.now }
+    requires inside { entry < length states.old.kept.entries }
+    ensures { OnOk result (HaveSent task.now
+        (sent_entry_of task.now (reached_state state.now) (Some entry) states.old.kept)
+        out.old out.new states.old states.new) }
+{
+    let to = receivers(alloc, task, state)?;
+    let Some((number, token)) = states.send(entry)? else {
+        return Ok(());
+    };
+    let state = message(alloc, task, number, token, states.entry(entry))?;
+    out.push(Sending { state, to })
+}
+
+/// Sends the best entry of a state, if it has one.
+fn send_best(
+    alloc: Global,
+    task: &Task,
+    states: &mut States,
+    state: &mut Reached,
+    out: &mut SendingList,
+) -> Result<(), OutOfMemory>
+    requires states { AreStatesOf task.now states.old }
+    requires sizes { HasSizes task.now.publics task.now.privates state.old }
+    ensures sent { OnOk result (HaveSent task.now (sent_best task.now (reached_state state.old) states.old.kept)
+        out.old out.new states.old states.new) }
+    ensures state { reached_state state.new ≡ reached_state state.old }
+    ensures sizes { HasSizes task.now.publics task.now.privates state.new }
+{
+    match states.best(state) {
+        Some(entry) => send_entry(alloc, task, states, state, entry, out),
+        None => Ok(()),
+    }
+}
+
+/// Whether a state that an own action led to is due to be sent.
+fn is_due(
+    alloc: Global,
+    task: &Task,
+    is_public: bool,
+    act: &Act,
+    before: &Reached,
+    state: &Reached,
+) -> Result<bool, OutOfMemory>
+    requires public { is_public ≡ public.is_public act.now }
+    requires before { HasSizes task.now.publics task.now.privates before.now }
+    requires sizes { HasSizes task.now.publics task.now.privates state.now }
+    ensures { IfOk result (λ due. due ≡ is_due task.now act.now (reached_state before.now) (reached_state state.now)) }
+{
+    if !is_visible(task, is_public, act, before, state) {
+        return Ok(false);
+    }
+    Ok(receivers(alloc, task, state)?.len() > 0)
+}
+
+/// Sends a state that an own action led to, where that is due.
+#[tactic(auto, unfolding(crate::specs::Sending::sent_if_due), using(crate::proofs::SendingSteps::nothing_sent))]
+pub(crate) fn send_if_due(
+    alloc: Global,
+    task: &Task,
+    is_public: bool,
+    act: &Act,
+    before: &Reached,
+    states: &mut States,
+    state: &mut Reached,
+    out: &mut SendingList,
+) -> Result<(), OutOfMemory>
+    requires public { is_public ≡ public.is_public act.now }
+    requires states { AreStatesOf task.now states.old }
+    requires before { HasSizes task.now.publics task.now.privates before.now }
+    requires sizes { HasSizes task.now.publics task.now.privates state.old }
+    ensures sent { OnOk result (HaveSent task.now
+        (sent_if_due task.now act.now (reached_state before.now) (reached_state state.old) states.old.kept)
+        out.old out.new states.old states.new) }
+    ensures state { reached_state state.new ≡ reached_state state.old }
+    ensures sizes { HasSizes task.now.publics task.now.privates state.new }
+{
+    if is_due(alloc, task, is_public, act, before, state)? {
+        return send_best(alloc, task, states, state, out);
+    }
+    Ok(())
+}
+
+/// Tags that say of each agent whether its private goals hold at the start.
+fn start_tags(alloc: Global, task: &Task) -> Result<Tags, OutOfMemory>
+    ensures { IfOk result (λ tags. tags ≡ map start_tag task.now.met) }
+{
+    let mut tags = Tags::new(alloc);
+    for met in task.met.as_slice() {
+        tags.push(Tag {
+            token: 0,
+            met: *met,
+        })?;
+    }
+    Ok(tags)
+}
+
+/// The state at the start.
+pub(crate) fn start_state(alloc: Global, task: &Task) -> Result<Reached, OutOfMemory>
+    ensures state { IfOk result (λ made. reached_state made ≡ start_state task.now) }
+    ensures sizes { IfOk result (λ made. HasSizes task.now.publics task.now.privates made) }
+{
+    let tags = start_tags(alloc, task)?;
+    let none = Tag {
+        token: 0,
+        met: false,
+    };
+    Ok(Reached {
+        key: Key {
+            publics: Bits::from_list(alloc, task.publics, &task.start_pub)?,
+            mine: 0,
+            tags: with_tag(alloc, &tags, task.me, none)?,
+        },
+        mine: Bits::from_list(alloc, task.privates, &task.start_priv)?,
+    })
+}
