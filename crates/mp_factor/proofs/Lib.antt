@@ -29,4 +29,7 @@ pub mod TakenContents
 pub mod TakenSections
 pub mod TakenDomains
 pub mod TakenProblems
+pub mod WordsOfForms
+pub mod NamesOfForms
 pub mod TakenFiles
+pub mod FileLemmas

@@ -8,6 +8,7 @@ use Rattle.mp_sexp.specs.declared.tree.Place.{Place}
 use Rattle.mp_sexp.specs.Node.{Node}
 use Rattle.mp_factor.specs.Fault.{Fault}
 use Rattle.mp_factor.specs.declared.word.Word.{Word}
+use Rattle.mp_factor.specs.declared.typed_values.Typed.{Typed}
 use Rattle.mp_factor.specs.declared.effect_values.Increase.{Increase}
 use Rattle.mp_factor.specs.declared.schema_values.Schema.{Schema}
 use Rattle.mp_factor.specs.Parts.{is_word, place_of, parts, rest_of, is_list, is_variable_word}
@@ -21,11 +22,12 @@ use Rattle.mp_factor.specs.Values.Typed.{type_words}
 use Rattle.mp_factor.specs.Values.Conditions.{condition_values}
 use Rattle.mp_factor.specs.Values.Effects.{adds, deletes, increases}
 use Rattle.mp_factor.specs.Values.Schemas.{agent_values, parameters_of, parameter_values, schema_of, schema_value}
-use Rattle.mp_factor.specs.Taken.{typed_words, literal_words, atom_words, increase_words, increase_costs, schema_words, schema_costs}
+use Rattle.mp_factor.specs.Named.{IsIncreaseOf, IsSchemaOf}
+use Rattle.mp_factor.specs.Taken.{increase_costs, schema_costs}
 use Rattle.mp_factor.proofs.NoFaults.{not_empty, none_in_first, none_in_second, not_then, not_else}
 use Rattle.mp_factor.proofs.OneWord.{no_other_word}
 use Rattle.mp_factor.proofs.ParameterLimits.{agent_value, list_value, effect_value, first_key_none, other_keys_none}
-use Rattle.mp_factor.proofs.TakenWords.{InTree, InEach, all_flat, in_parts, in_take, variable_taken, one_name_taken}
+use Rattle.mp_factor.proofs.TakenWords.{InTree, InEach, OfName, OfVariable, all_flat, in_parts, in_take, variable_taken, one_name_taken}
 use Rattle.mp_factor.proofs.TakenTyped.{OfTyped, type_taken}
 use Rattle.mp_factor.proofs.TakenItems.{typed_variables_taken}
 use Rattle.mp_factor.proofs.TakenAtoms.{OfAtom, OfLiteral, condition_taken}
@@ -78,38 +80,41 @@ module _ (Says : Word → Type 0) where
 
   -- ---- parameters
 
-  agent_type_taken : (whole : Place) (typing : List Node) → agent_type_faults whole typing ≡ [] → InEach Says typing
-      → All Says (from_first type_words (rest_of typing))
-  agent_type_taken whole [] e each = All-nil Says
-  agent_type_taken whole (dash ∷ type) e each =
-      wanted_taken Says type_faults type_words (type_taken Says) whole type (none_in_second (dash_faults dash) (wanted_faults type_faults whole type) e) each.1
+  abbrev OfParameter : Typed → Type 0
+  OfParameter = OfTyped Says (OfVariable Says)
 
-  agent_taken : (whole : Place) (value : List Node) → agent_faults whole value ≡ [] → InEach Says value → All (OfTyped Says) (agent_values value)
+  agent_type_taken : (whole : Place) (typing : List Node) → agent_type_faults whole typing ≡ [] → InEach Says typing
+      → All (OfName Says) (from_first type_words (rest_of typing))
+  agent_type_taken whole [] e each = All-nil (OfName Says)
+  agent_type_taken whole (dash ∷ type) e each =
+      wanted_taken (OfName Says) type_faults type_words (type_taken Says) whole type (none_in_second (dash_faults dash) (wanted_faults type_faults whole type) e) each.1
+
+  agent_taken : (whole : Place) (value : List Node) → agent_faults whole value ≡ [] → InEach Says value → All OfParameter (agent_values value)
   unfolding agent_faults agent_values variable_faults
-  agent_taken whole [] e each = All-nil (OfTyped Says)
+  agent_taken whole [] e each = All-nil OfParameter
   agent_taken whole (variable ∷ typing) e each =
       let is = (not_else (is_variable_word variable) _ [] (none_in_first (variable_faults variable) (agent_type_faults whole typing) e)).0 in
       let types = agent_type_taken whole typing (none_in_second (variable_faults variable) (agent_type_faults whole typing) e) each.1 in
-      All-cons (OfTyped Says) record { word = word_value variable; types = from_first type_words (rest_of typing); private = false } []
-      (All-cons Says (word_value variable) (from_first type_words (rest_of typing)) (variable_taken Says variable is each.0) types)
-      (All-nil (OfTyped Says))
+      All-cons OfParameter record { word = word_value variable; types = from_first type_words (rest_of typing); private = false } []
+      record { word = variable_taken Says variable is each.0; types = types }
+      (All-nil OfParameter)
 
-  list_taken : (n : Node) → parameters_faults n ≡ [] → InTree Says n → All (OfTyped Says) (parameters_of n)
+  list_taken : (n : Node) → parameters_faults n ≡ [] → InTree Says n → All OfParameter (parameters_of n)
   unfolding parameters_faults
   list_taken n e all =
       typed_variables_taken Says false (place_of n) (parts n) (in_parts Says n all)
       (not_else (is_list n) _ (typed_faults variables (place_of n) (parts n)) e).1
 
   module _ (whole : Place) (keys : List Key) (none : flat_map (key_faults whole) keys ≡ []) (each : InKeys keys) where
-    parameters_taken : All (OfTyped Says) (parameter_values keys)
+    parameters_taken : All OfParameter (parameter_values keys)
     unfolding parameter_values agent_values
     parameters_taken =
-        All-append (OfTyped Says) (agent_values (value_of_key (codes ":agent") keys)) (from_first parameters_of (value_of_key (codes ":parameters") keys))
-        (value_is (codes ":agent") (λ value. All (OfTyped Says) (agent_values value)) whole
-        (λ k is e in_value. agent_taken whole k.value (agent_value whole k is e) in_value) (All-nil (OfTyped Says)) keys none each)
-        (value_is (codes ":parameters") (λ value. All (OfTyped Says) (from_first parameters_of value)) whole
-        (λ k is e in_value. wanted_taken (OfTyped Says) parameters_faults parameters_of list_taken whole k.value (list_value whole k is e) in_value)
-        (All-nil (OfTyped Says)) keys none each)
+        All-append OfParameter (agent_values (value_of_key (codes ":agent") keys)) (from_first parameters_of (value_of_key (codes ":parameters") keys))
+        (value_is (codes ":agent") (λ value. All OfParameter (agent_values value)) whole
+        (λ k is e in_value. agent_taken whole k.value (agent_value whole k is e) in_value) (All-nil OfParameter) keys none each)
+        (value_is (codes ":parameters") (λ value. All OfParameter (from_first parameters_of value)) whole
+        (λ k is e in_value. wanted_taken OfParameter parameters_faults parameters_of list_taken whole k.value (list_value whole k is e) in_value)
+        (All-nil OfParameter) keys none each)
 
     literals_taken : All (OfLiteral Says) (from_first condition_values (value_of_key (codes ":precondition") keys))
     literals_taken =
@@ -128,34 +133,24 @@ module _ (Says : Word → Type 0) where
 
   -- of an action: its words, and its costs
   pub record OfSchema (schema : Schema) : Type 0 where
-    pub words : All Says (schema_words schema)
+    pub words : IsSchemaOf (OfName Says) (OfVariable Says) schema
     pub costs : All (IsSaid Says) (schema_costs schema)
 
-  of_keys : (called : Node) (members : List Node) (whole : Place) (keys : List Key) → Says (word_value called) → flat_map (key_faults whole) keys ≡ []
+  of_keys : (called : Node) (members : List Node) (whole : Place) (keys : List Key) → OfName Says (word_value called) → flat_map (key_faults whole) keys ≡ []
       → InKeys keys → OfSchema (schema_of (called ∷ members) keys)
   of_keys called members whole keys named none each =
-      let params = parameter_values keys in
-      let pre = from_first condition_values (value_of_key (codes ":precondition") keys) in
-      let add = from_first adds (value_of_key (codes ":effect") keys) in
-      let del = from_first deletes (value_of_key (codes ":effect") keys) in
       let amounts = from_first increases (value_of_key (codes ":effect") keys) in
       let amounts_taken : All (OfIncrease Says) amounts = of_effect whole keys none each (OfIncrease Says) increases (increases_taken Says) in
       record {
-        words =
-            All-cons Says (word_value called)
-            (flat_map typed_words params ++ (flat_map literal_words pre ++ (flat_map atom_words add ++ (flat_map atom_words del ++ flat_map increase_words amounts))))
-            named
-            (All-append Says (flat_map typed_words params)
-            (flat_map literal_words pre ++ (flat_map atom_words add ++ (flat_map atom_words del ++ flat_map increase_words amounts)))
-            (all_flat Says typed_words params (parameters_taken whole keys none each))
-            (All-append Says (flat_map literal_words pre) (flat_map atom_words add ++ (flat_map atom_words del ++ flat_map increase_words amounts))
-            (all_flat Says literal_words pre (literals_taken whole keys none each))
-            (All-append Says (flat_map atom_words add) (flat_map atom_words del ++ flat_map increase_words amounts)
-            (all_flat Says atom_words add (of_effect whole keys none each (OfAtom Says) adds (adds_taken Says)))
-            (All-append Says (flat_map atom_words del) (flat_map increase_words amounts)
-            (all_flat Says atom_words del (of_effect whole keys none each (OfAtom Says) deletes (deletes_taken Says)))
-            (all_flat Says increase_words amounts
-            (All-weaker (OfIncrease Says) (λ (a : Increase). All Says (increase_words a)) (λ (a : Increase) (o : OfIncrease Says a). o.words) amounts amounts_taken))))));
+        words = record {
+          word = named;
+          params = parameters_taken whole keys none each;
+          pre = literals_taken whole keys none each;
+          add = of_effect whole keys none each (OfAtom Says) adds (adds_taken Says);
+          del = of_effect whole keys none each (OfAtom Says) deletes (deletes_taken Says);
+          increases =
+              All-weaker (OfIncrease Says) (IsIncreaseOf (OfName Says) (OfVariable Says)) (λ (a : Increase) (o : OfIncrease Says a). o.words) amounts amounts_taken;
+        };
         costs =
             all_flat (IsSaid Says) increase_costs amounts
             (All-weaker (OfIncrease Says) (λ (a : Increase). All (IsSaid Says) (increase_costs a)) (λ (a : Increase) (o : OfIncrease Says a). o.costs) amounts amounts_taken);

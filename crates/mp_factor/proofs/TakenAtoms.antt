@@ -1,59 +1,60 @@
 -- Atoms, literals and conditions without faults are of words of their own.
-use Rattle.std.proofs.Common.{◌≡◌, true, false, List, [], ◌∷◌, map, All, flat_map, refl, sym, subst, true≢false}
-use Rattle.std.specs.Prelude.{if◌then◌else◌}
-use Rattle.std.proofs.lemmas.Bool.{cond_both}
+use Rattle.std.proofs.Common.{◌≡◌, Bool, true, false, ◌||◌, List, [], ◌∷◌, map, All, flat_map, refl}
+use Rattle.std.proofs.lemmas.Bool.{both_ways, cond_both}
 use Rattle.std.proofs.lemmas.List.Elements.{All-nil, All-cons}
 use Rattle.mp_sexp.specs.declared.tree.Place.{Place}
-use Rattle.mp_sexp.specs.Node.{Node, word, list}
+use Rattle.mp_sexp.specs.Node.{Node}
 use Rattle.mp_factor.specs.declared.word.Word.{Word}
+use Rattle.mp_factor.specs.declared.atom_values.Term.{Term}
 use Rattle.mp_factor.specs.declared.atom_values.Term.TheVariants.{Variable, Object}
 use Rattle.mp_factor.specs.declared.atom_values.Atom.{Atom}
 use Rattle.mp_factor.specs.declared.literal.Literal.{Literal}
-use Rattle.mp_factor.specs.Kinds.{is_name, is_variable}
-use Rattle.mp_factor.specs.Parts.{place_of, parts, rest_of, is_list, is_name_word, is_variable_word, is_term, is_fixed_word}
+use Rattle.mp_factor.specs.Parts.{place_of, parts, rest_of, is_name_word, is_variable_word, is_term, is_fixed_word}
 use Rattle.mp_factor.specs.Conjuncts.{conjuncts, is_negation, first_or, under_not}
 use Rattle.mp_factor.specs.Faults.Typed.{extra_faults}
 use Rattle.mp_factor.specs.Faults.Conditions.{term_faults, terms_faults, headed_faults, listed_faults, atom_faults, negated_faults, literal_faults, condition_faults}
 use Rattle.mp_factor.specs.Values.Words.{word_value, first_word}
 use Rattle.mp_factor.specs.Values.Atoms.{term_value, term_values, atom_value}
 use Rattle.mp_factor.specs.Values.Conditions.{literal_value, condition_values}
-use Rattle.mp_factor.specs.Taken.{term_word, atom_words, literal_words}
+use Rattle.mp_factor.specs.Named.{IsTermOf, IsAtomOf, IsLiteralOf}
 use Rattle.mp_factor.proofs.NoFaults.{not_empty, none_in_first, none_in_second, not_then, not_else}
-use Rattle.mp_factor.proofs.TakenWords.{InTree, InEach, in_parts, in_rest, in_conjuncts, word_taken, name_taken}
+use Rattle.mp_factor.proofs.TakenWords.{InTree, InEach, OfName, OfVariable, in_parts, in_rest, in_conjuncts, name_taken, variable_taken}
 
-term_is_a_word : (n : Node) → is_term n ≡ true → is_list n ≡ false
-unfolding is_name is_variable
-term_is_a_word (word name place) is = refl
-term_is_a_word (list nodes place) is = absurd (true≢false (sym is))
-
-word_of_value : (n : Node) → term_word (term_value n) ≡ word_value n
-unfolding term_value
-word_of_value n = elim (is_variable_word n) as (λ b. term_word (if b then Variable (word_value n) else Object (word_value n)) ≡ word_value n) [
-  | true ↦ refl
-  | false ↦ refl
-]
+-- what is a term and no variable is a name
+other_term_is_named : (n : Node) → is_term n ≡ true → is_variable_word n ≡ false → is_name_word n ≡ true
+other_term_is_named n is other = by (is_name_word n) (is_variable_word n) is other where
+  by : (a b : Bool) → (a || b) ≡ true → b ≡ false → a ≡ true
+  by true b is other = refl
+  by false b is other = absurd (both_ways b other is)
 
 module _ (Says : Word → Type 0) where
+  -- its words are words of which it holds, names where it has names and variables where it has variables
+  abbrev pub OfTerm : Term → Type 0
+  OfTerm = IsTermOf (OfName Says) (OfVariable Says)
+
   abbrev pub OfAtom : Atom → Type 0
-  OfAtom atom = All Says (atom_words atom)
+  OfAtom = IsAtomOf (OfName Says) (OfVariable Says)
 
   -- ---- atoms
 
-  pub term_taken : (n : Node) → is_term n ≡ true → InTree Says n → Says (term_word (term_value n))
-  term_taken n is all = subst Says (sym (word_of_value n)) (word_taken Says n (term_is_a_word n is) all)
+  pub term_taken : (n : Node) → is_term n ≡ true → InTree Says n → OfTerm (term_value n)
+  unfolding term_value
+  term_taken n is all =
+      cond_both (is_variable_word n) (Variable (word_value n)) (Object (word_value n)) OfTerm
+      (λ variable. variable_taken Says n variable all) (λ other. name_taken Says n (other_term_is_named n is other) all)
 
-  pub terms_taken : (ns : List Node) → terms_faults ns ≡ [] → InEach Says ns → All Says (map term_word (term_values ns))
+  pub terms_taken : (ns : List Node) → terms_faults ns ≡ [] → InEach Says ns → All OfTerm (term_values ns)
   unfolding terms_faults term_faults term_values
-  terms_taken [] e each = All-nil Says
+  terms_taken [] e each = All-nil OfTerm
   terms_taken (n ∷ ns) e each =
       let is = (not_else (is_term n) _ [] (none_in_first (term_faults n) (flat_map term_faults ns) e)).0 in
-      All-cons Says (term_word (term_value n)) (map term_word (term_values ns)) (term_taken n is each.0)
+      All-cons OfTerm (term_value n) (term_values ns) (term_taken n is each.0)
       (terms_taken ns (none_in_second (term_faults n) (flat_map term_faults ns) e) each.1)
 
   -- with a name and terms
-  pub named_taken : (head : Node) (terms : List Node) → is_name_word head ≡ true → All Says (map term_word (term_values terms)) → InTree Says head
+  pub named_taken : (head : Node) (terms : List Node) → is_name_word head ≡ true → All OfTerm (term_values terms) → InTree Says head
       → OfAtom record { word = word_value head; terms = term_values terms }
-  named_taken head terms is all head_says = All-cons Says (word_value head) (map term_word (term_values terms)) (name_taken Says head is head_says) all
+  named_taken head terms is all head_says = record { word = name_taken Says head is head_says; terms = all }
 
   listed_taken : (whole : Place) (members : List Node) → listed_faults whole members ≡ [] → InEach Says members
       → OfAtom record { word = first_word members; terms = term_values (rest_of members) }
@@ -70,7 +71,7 @@ module _ (Says : Word → Type 0) where
   -- ---- literals
 
   abbrev pub OfLiteral : Literal → Type 0
-  OfLiteral literal = All Says (literal_words literal)
+  OfLiteral = IsLiteralOf (OfName Says) (OfVariable Says)
 
   -- what stands behind `not`
   negated_taken : (whole : Place) (other : Node) (ns : List Node) → negated_faults whole ns ≡ [] → InEach Says ns → OfAtom (atom_value (first_or other ns))

@@ -16,10 +16,11 @@ use Rattle.mp_factor.specs.Faults.Effects.{most_increases, allowed_faults, cost_
 use Rattle.mp_factor.specs.Values.Words.{word_value, first_word}
 use Rattle.mp_factor.specs.Values.Atoms.{term_values, atom_value}
 use Rattle.mp_factor.specs.Values.Effects.{cost_or_none, cost_value, amount_value, third_amount, add_in, delete_in, increase_in, adds, deletes, increases}
-use Rattle.mp_factor.specs.Taken.{increase_words, increase_costs}
+use Rattle.mp_factor.specs.Named.{IsIncreaseOf}
+use Rattle.mp_factor.specs.Taken.{increase_costs}
 use Rattle.mp_factor.proofs.NoFaults.{not_empty, none_in_first, none_in_second, not_else}
 use Rattle.mp_factor.proofs.OneWord.{no_other_word}
-use Rattle.mp_factor.proofs.TakenWords.{InTree, InEach, in_parts, in_conjuncts, word_taken}
+use Rattle.mp_factor.proofs.TakenWords.{InTree, InEach, OfName, OfVariable, in_parts, in_conjuncts, word_taken}
 use Rattle.mp_factor.proofs.TakenAtoms.{OfAtom, named_taken, terms_taken, negation_taken, positive_taken}
 
 -- a negation is no increase
@@ -59,7 +60,7 @@ module _ (Says : Word → Type 0) where
 
   -- of an increase: its words, and its costs
   pub record OfIncrease (increase : Increase) : Type 0 where
-    pub words : All Says (increase_words increase)
+    pub words : IsIncreaseOf (OfName Says) (OfVariable Says) increase
     pub costs : All IsSaid (increase_costs increase)
 
   function_taken : (whole : Place) (members : List Node) → function_parts whole members ≡ [] → InEach Says members
@@ -72,7 +73,7 @@ module _ (Says : Word → Type 0) where
   amount_taken : (n : Node) → amount_faults n ≡ [] → InTree Says n → OfIncrease (amount_value n)
   unfolding amount_faults amount_value atom_value
   amount_taken (word name place) e all = record {
-    words = All-nil Says;
+    words = tt;
     costs = All-cons IsSaid (cost_value (word name place)) [] (cost_taken (word name place) e all) (All-nil IsSaid);
   }
   amount_taken (list nodes place) e all = record {

@@ -1,5 +1,5 @@
 -- Facts and values without faults are of words of their own, and of costs that stand there as numbers.
-use Rattle.std.proofs.Common.{◌≡◌, true, false, List, [], ◌∷◌, ◌++◌, map, All}
+use Rattle.std.proofs.Common.{◌≡◌, true, false, List, [], ◌∷◌, ◌++◌, All}
 use Rattle.std.proofs.lemmas.Bool.{cond_both, or_left}
 use Rattle.std.proofs.lemmas.List.Elements.{All-nil, All-cons, All-append}
 use Rattle.mp_sexp.specs.declared.tree.Place.{Place}
@@ -14,10 +14,9 @@ use Rattle.mp_factor.specs.Values.Words.{first_word}
 use Rattle.mp_factor.specs.Values.Atoms.{term_value, term_values, atom_value}
 use Rattle.mp_factor.specs.Values.Effects.{cost_value}
 use Rattle.mp_factor.specs.Values.Init.{fact_in, fact_values, value_among, value_in, cost_values}
-use Rattle.mp_factor.specs.Taken.{term_word, value_words}
 use Rattle.mp_factor.proofs.NoFaults.{not_empty, none_in_first, none_in_second, not_else}
 use Rattle.mp_factor.proofs.TakenWords.{InTree, InEach, in_parts}
-use Rattle.mp_factor.proofs.TakenAtoms.{OfAtom, term_taken, named_taken, atom_taken}
+use Rattle.mp_factor.proofs.TakenAtoms.{OfTerm, OfAtom, term_taken, named_taken, atom_taken}
 use Rattle.mp_factor.proofs.TakenEffects.{IsSaid, cost_taken}
 
 name_is_a_term : (n : Node) → is_name_word n ≡ true → is_term n ≡ true
@@ -26,12 +25,12 @@ name_is_a_term n is = or_left (is_name_word n) (is_variable_word n) is
 module _ (Says : Word → Type 0) where
   -- ---- values
 
-  names_taken : (ns : List Node) → names_faults ns ≡ [] → InEach Says ns → All Says (map term_word (term_values ns))
+  names_taken : (ns : List Node) → names_faults ns ≡ [] → InEach Says ns → All (OfTerm Says) (term_values ns)
   unfolding names_faults name_faults term_values
-  names_taken [] e each = All-nil Says
+  names_taken [] e each = All-nil (OfTerm Says)
   names_taken (n ∷ ns) e each =
       let is = (not_else (is_name_word n) _ [] (none_in_first (name_faults n) (names_faults ns) e)).0 in
-      All-cons Says (term_word (term_value n)) (map term_word (term_values ns)) (term_taken Says n (name_is_a_term n is) each.0)
+      All-cons (OfTerm Says) (term_value n) (term_values ns) (term_taken Says n (name_is_a_term n is) each.0)
       (names_taken ns (none_in_second (name_faults n) (names_faults ns) e) each.1)
 
   function_by : (whole : Place) (members : List Node) → function_parts whole members ≡ [] → InEach Says members
@@ -48,7 +47,7 @@ module _ (Says : Word → Type 0) where
 
   -- of a value: its words, and its cost
   pub record OfValue (value : Value) : Type 0 where
-    pub words : All Says (value_words value)
+    pub words : OfAtom Says value.of
     pub cost : IsSaid Says value.cost
 
   among_taken : (whole : Place) (members : List Node) → value_parts whole members ≡ [] → InEach Says members → All OfValue (value_among members)

@@ -15,7 +15,7 @@ use Rattle.mp_factor.specs.Values.Typed.{item_values, typed_values, object_item_
 use Rattle.mp_factor.proofs.NoFaults.{not_empty, not_else}
 use Rattle.mp_factor.proofs.OneWord.{word_is}
 use Rattle.mp_factor.proofs.TypedLimits.{variable_is_no_dash}
-use Rattle.mp_factor.proofs.TakenWords.{InTree, InEach, in_parts, variable_taken, one_name_taken}
+use Rattle.mp_factor.proofs.TakenWords.{InTree, InEach, OfName, OfVariable, in_parts, variable_taken, one_name_taken}
 use Rattle.mp_factor.proofs.TakenTyped.{OfTyped, AreTaken, type_taken, list_taken}
 
 name_is_no_dash : (n : Node) → is_name_word n ≡ true → is_dash n ≡ false
@@ -27,44 +27,47 @@ name_is_no_dash (word name place) is = elim (cases_Bool (is_dash (word name plac
 ]
 
 module _ (Says : Word → Type 0) where
-  one_item : (private : Bool) (n : Node) (types : List Word) → Says (word_value n) → All Says types → All (OfTyped Says) (item_values private n types)
-  one_item private n types said types_say =
-      All-cons (OfTyped Says) record { word = word_value n; types = types; private = private } []
-      (All-cons Says (word_value n) types said types_say) (All-nil (OfTyped Says))
+  one_item : (OfDeclared : Word → Type 0) (private : Bool) (n : Node) (types : List Word) → OfDeclared (word_value n) → All (OfName Says) types
+      → All (OfTyped Says OfDeclared) (item_values private n types)
+  one_item OfDeclared private n types said types_say =
+      All-cons (OfTyped Says OfDeclared) record { word = word_value n; types = types; private = private } []
+      record { word = said; types = types_say } (All-nil (OfTyped Says OfDeclared))
 
-  names_are_taken : (private : Bool) → AreTaken Says names (item_values private)
+  names_are_taken : (private : Bool) → AreTaken Says (OfName Says) names (item_values private)
   unfolding name_faults
   names_are_taken private = record {
     no_dash = λ n e. name_is_no_dash n (not_else (is_name_word n) _ [] e).0;
-    item = λ n types e all types_say. one_item private n types (one_name_taken Says n e all) types_say;
+    item = λ n types e all types_say. one_item (OfName Says) private n types (one_name_taken Says n e all) types_say;
     type = type_taken Says;
   }
 
-  variables_are_taken : (private : Bool) → AreTaken Says variables (item_values private)
+  variables_are_taken : (private : Bool) → AreTaken Says (OfVariable Says) variables (item_values private)
   unfolding variable_faults
   variables_are_taken private = record {
     no_dash = λ n e. variable_is_no_dash n (not_else (is_variable_word n) _ [] e).0;
-    item = λ n types e all types_say. one_item private n types (variable_taken Says n (not_else (is_variable_word n) _ [] e).0 all) types_say;
+    item = λ n types e all types_say. one_item (OfVariable Says) private n types (variable_taken Says n (not_else (is_variable_word n) _ [] e).0 all) types_say;
     type = type_taken Says;
   }
 
   pub typed_names_taken : (private : Bool) (whole : Place) (nodes : List Node) → InEach Says nodes → typed_faults names whole nodes ≡ []
-      → All (OfTyped Says) (typed_values private nodes)
-  typed_names_taken private whole nodes each e = list_taken Says names (item_values private) (names_are_taken private) whole nodes each e
+      → All (OfTyped Says (OfName Says)) (typed_values private nodes)
+  typed_names_taken private whole nodes each e = list_taken Says (OfName Says) names (item_values private) (names_are_taken private) whole nodes each e
 
   pub typed_variables_taken : (private : Bool) (whole : Place) (nodes : List Node) → InEach Says nodes → typed_faults variables whole nodes ≡ []
-      → All (OfTyped Says) (typed_values private nodes)
-  typed_variables_taken private whole nodes each e = list_taken Says variables (item_values private) (variables_are_taken private) whole nodes each e
+      → All (OfTyped Says (OfVariable Says)) (typed_values private nodes)
+  typed_variables_taken private whole nodes each e = list_taken Says (OfVariable Says) variables (item_values private) (variables_are_taken private) whole nodes each e
 
   block_by : (whole : Place) (members : List Node) → private_faults names whole members ≡ [] → InEach Says members
-      → All (OfTyped Says) (typed_values true (rest_of members))
+      → All (OfTyped Says (OfName Says)) (typed_values true (rest_of members))
   block_by whole [] e each = absurd (not_empty _ [] e)
   block_by whole (head ∷ members) e each =
       typed_names_taken true whole members each.1 (not_else (is_word (codes ":private") head) _ (typed_faults names whole members) e).1
 
-  object_item : (n : Node) (types : List Word) → objects.item n ≡ [] → InTree Says n → All Says types → All (OfTyped Says) (object_item_values n types)
+  object_item : (n : Node) (types : List Word) → objects.item n ≡ [] → InTree Says n → All (OfName Says) types
+      → All (OfTyped Says (OfName Says)) (object_item_values n types)
   unfolding block_faults
-  object_item (word name place) types e all types_say = one_item false (word name place) types (one_name_taken Says (word name place) e all) types_say
+  object_item (word name place) types e all types_say =
+      one_item (OfName Says) false (word name place) types (one_name_taken Says (word name place) e all) types_say
   object_item (list nodes place) types e all types_say =
       block_by place (parts (list nodes place)) e (in_parts Says (list nodes place) all)
 
@@ -74,8 +77,8 @@ module _ (Says : Word → Type 0) where
   object_is_no_dash (list nodes place) e = refl
 
   pub objects_taken : (whole : Place) (nodes : List Node) → InEach Says nodes → typed_faults objects whole nodes ≡ []
-      → All (OfTyped Says) (object_values nodes)
+      → All (OfTyped Says (OfName Says)) (object_values nodes)
   objects_taken whole nodes each e =
-      list_taken Says objects object_item_values
+      list_taken Says (OfName Says) objects object_item_values
       record { no_dash = object_is_no_dash; item = object_item; type = type_taken Says }
       whole nodes each e

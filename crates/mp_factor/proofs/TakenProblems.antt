@@ -1,8 +1,8 @@
 -- The sections of a problem without faults are of words and costs of the file.
-use Rattle.std.proofs.Common.{◌≡◌, Bool, true, List, [], ◌∷◌, ◌++◌, All, map}
+use Rattle.std.proofs.Common.{◌≡◌, Bool, true, List, [], All, map}
 use Rattle.std.specs.Prelude.{codes}
 use Rattle.std.specs.List.{flat_map}
-use Rattle.std.proofs.lemmas.List.Elements.{All-nil, All-cons, All-append, All-map, All-weaker}
+use Rattle.std.proofs.lemmas.List.Elements.{All-nil, All-map, All-weaker}
 use Rattle.mp_sexp.specs.Node.{Node}
 use Rattle.mp_factor.specs.declared.word.Word.{Word}
 use Rattle.mp_factor.specs.declared.init_values.Value.{Value}
@@ -12,10 +12,10 @@ use Rattle.mp_factor.specs.Values.Words.{first_word}
 use Rattle.mp_factor.specs.Values.Typed.{object_values, declared_values}
 use Rattle.mp_factor.specs.Values.Init.{fact_values, cost_values}
 use Rattle.mp_factor.specs.Values.Files.{section_in, first_condition}
-use Rattle.mp_factor.specs.Taken.{typed_words, atom_words, literal_words, value_words, words_of_problem}
+use Rattle.mp_factor.specs.Named.{IsProblemOf}
 use Rattle.mp_factor.proofs.NoFaults.{none_in_first}
 use Rattle.mp_factor.proofs.LimitLemmas.{init_content, init_is_own}
-use Rattle.mp_factor.proofs.TakenWords.{InEach, all_flat}
+use Rattle.mp_factor.proofs.TakenWords.{InEach, OfName, OfVariable}
 use Rattle.mp_factor.proofs.TakenTyped.{OfTyped}
 use Rattle.mp_factor.proofs.TakenItems.{objects_taken}
 use Rattle.mp_factor.proofs.TakenAtoms.{OfAtom, OfLiteral}
@@ -26,12 +26,12 @@ use Rattle.mp_factor.proofs.TakenSections.{section_is, wanted_section_is, owner_
 
 module _ (Says : Word → Type 0) where
   module _ (sections : List Node) (none : flat_map (section_faults problem_words domain_words) sections ≡ []) (each : InEach Says sections) where
-    objects_section_taken : All (OfTyped Says) (object_values (section_in (codes ":objects") sections))
+    objects_section_taken : All (OfTyped Says (OfName Says)) (object_values (section_in (codes ":objects") sections))
     unfolding declared_values
     objects_section_taken =
-        section_is Says problem_words domain_words (codes ":objects") objects_is_own (λ nodes. All (OfTyped Says) (object_values nodes))
+        section_is Says problem_words domain_words (codes ":objects") objects_is_own (λ nodes. All (OfTyped Says (OfName Says)) (object_values nodes))
         (λ whole head nodes is e in_nodes. objects_taken Says whole nodes in_nodes (objects_content whole head nodes is e))
-        (All-nil (OfTyped Says)) sections none each
+        (All-nil (OfTyped Says (OfName Says))) sections none each
 
     facts_by : (nodes : List Node) → init_faults nodes ≡ [] → facts_faults nodes ≡ []
     unfolding init_faults
@@ -57,14 +57,14 @@ module _ (Says : Word → Type 0) where
         (λ whole head nodes is e in_nodes. goal_taken Says whole nodes (goal_content whole head nodes is e) in_nodes)
         (All-nil (OfLiteral Says)) sections none each
 
-    owner_is_taken : has_section (codes ":domain") sections ≡ true → Says (first_word (section_in (codes ":domain") sections))
+    owner_is_taken : has_section (codes ":domain") sections ≡ true → OfName Says (first_word (section_in (codes ":domain") sections))
     owner_is_taken has =
-        wanted_section_is Says problem_words domain_words (codes ":domain") domain_is_own (λ nodes. Says (first_word nodes))
+        wanted_section_is Says problem_words domain_words (codes ":domain") domain_is_own (λ nodes. OfName Says (first_word nodes))
         (λ whole head nodes is e in_nodes. owner_taken Says whole nodes (domain_content whole head nodes is e) in_nodes)
         sections has none each
 
-    pub problem_words_taken : (named : Word) (metric : Bool) → Says named → has_section (codes ":domain") sections ≡ true
-        → All Says (words_of_problem record {
+    pub problem_words_taken : (named : Word) (metric : Bool) → OfName Says named → has_section (codes ":domain") sections ≡ true
+        → IsProblemOf (OfName Says) (OfVariable Says) record {
           word = named;
           domain = first_word (section_in (codes ":domain") sections);
           objects = object_values (section_in (codes ":objects") sections);
@@ -72,24 +72,17 @@ module _ (Says : Word → Type 0) where
           values = cost_values (section_in (codes ":init") sections);
           goals = first_condition (section_in (codes ":goal") sections);
           metric = metric;
-        })
-    problem_words_taken named metric said has =
-        let owner = first_word (section_in (codes ":domain") sections) in
-        let objects = object_values (section_in (codes ":objects") sections) in
-        let init = fact_values (section_in (codes ":init") sections) in
-        let values = cost_values (section_in (codes ":init") sections) in
-        let goals = first_condition (section_in (codes ":goal") sections) in
-        let from_values = flat_map value_words values ++ flat_map literal_words goals in
-        let from_init = flat_map atom_words init ++ from_values in
-        let from_objects = flat_map typed_words objects ++ from_init in
-        All-cons Says named (owner ∷ from_objects) said
-        (All-cons Says owner from_objects (owner_is_taken has)
-        (All-append Says (flat_map typed_words objects) from_init (all_flat Says typed_words objects objects_section_taken)
-        (All-append Says (flat_map atom_words init) from_values (all_flat Says atom_words init init_taken)
-        (All-append Says (flat_map value_words values) (flat_map literal_words goals)
-        (all_flat Says value_words values
-        (All-weaker (OfValue Says) (λ (v : Value). All Says (value_words v)) (λ (v : Value) (o : OfValue Says v). o.words) values all_values_taken))
-        (all_flat Says literal_words goals goals_taken)))))
+        }
+    problem_words_taken named metric said has = record {
+      word = said;
+      domain = owner_is_taken has;
+      objects = objects_section_taken;
+      init = init_taken;
+      values =
+          All-weaker (OfValue Says) (λ (v : Value). OfAtom Says v.of) (λ (v : Value) (o : OfValue Says v). o.words)
+          (cost_values (section_in (codes ":init") sections)) all_values_taken;
+      goals = goals_taken;
+    }
 
     pub problem_costs_taken : All (IsSaid Says) (map (λ (v : Value). v.cost) (cost_values (section_in (codes ":init") sections)))
     problem_costs_taken =

@@ -18,7 +18,7 @@ use Rattle.mp_factor.specs.Values.Schemas.{schema_value}
 use Rattle.mp_factor.specs.Values.Files.{section_in, schema_in, schema_values, first_condition}
 use Rattle.mp_factor.proofs.NoFaults.{not_empty, none_in_first, none_in_second}
 use Rattle.mp_factor.proofs.LimitLemmas.{content_in, first_section, other_sections, action_content, action_is_own}
-use Rattle.mp_factor.proofs.TakenWords.{InTree, InEach, in_parts, in_rest, one_name_taken}
+use Rattle.mp_factor.proofs.TakenWords.{InTree, InEach, OfName, in_parts, in_rest, one_name_taken}
 use Rattle.mp_factor.proofs.TakenAtoms.{OfLiteral, condition_taken}
 use Rattle.mp_factor.proofs.TakenActions.{OfSchema, action_taken}
 
@@ -76,7 +76,7 @@ module _ (Says : Word → Type 0) where
 
   -- ---- one name, one condition
 
-  pub owner_taken : (whole : Place) (nodes : List Node) → owner_faults whole nodes ≡ [] → InEach Says nodes → Says (first_word nodes)
+  pub owner_taken : (whole : Place) (nodes : List Node) → owner_faults whole nodes ≡ [] → InEach Says nodes → OfName Says (first_word nodes)
   unfolding owner_faults
   owner_taken whole [] e each = absurd (not_empty _ [] e)
   owner_taken whole (n ∷ extra) e each = one_name_taken Says n (none_in_first (name_faults n) (extra_faults extra) e) each.0
@@ -86,10 +86,10 @@ module _ (Says : Word → Type 0) where
   goal_taken whole [] e each = absurd (not_empty _ [] e)
   goal_taken whole (n ∷ extra) e each = condition_taken Says n (none_in_first (condition_faults n) (extra_faults extra) e) each.0
 
-  title_by : (kind : List ℕ) (whole : Place) (members : List Node) → title_parts kind whole members ≡ [] → InEach Says members → Says (first_word (rest_of members))
+  title_by : (kind : List ℕ) (whole : Place) (members : List Node) → title_parts kind whole members ≡ [] → InEach Says members → OfName Says (first_word (rest_of members))
   title_by kind whole [] e each = absurd (not_empty _ [] e)
   title_by kind whole (head ∷ rest) e each = owner_taken whole rest (none_in_second (keyword_faults kind head) (owner_faults whole rest) e) each.1
 
-  pub title_taken : (kind : List ℕ) (n : Node) → title_faults kind n ≡ [] → InTree Says n → Says (first_word (rest_of (parts n)))
+  pub title_taken : (kind : List ℕ) (n : Node) → title_faults kind n ≡ [] → InTree Says n → OfName Says (first_word (rest_of (parts n)))
   unfolding title_faults
   title_taken kind n e all = title_by kind (place_of n) (parts n) e (in_parts Says n all)

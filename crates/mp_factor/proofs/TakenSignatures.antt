@@ -11,12 +11,12 @@ use Rattle.mp_factor.specs.Parts.{is_word, place_of, parts, rest_of, is_list, is
 use Rattle.mp_factor.specs.Faults.Typed.{Listing, is_dash, variables, typed_faults, behind_item, behind_dash}
 use Rattle.mp_factor.specs.Faults.Objects.{private_faults, block_faults, with_blocks}
 use Rattle.mp_factor.specs.Faults.Signatures.{is_predicate_name, is_function_name, called_faults, declared_faults, is_block, is_signature, signature_faults, number_faults, predicates, functions}
-use Rattle.mp_factor.specs.Values.Words.{word_value, first_word}
+use Rattle.mp_factor.specs.Values.Words.{first_word}
 use Rattle.mp_factor.specs.Values.Typed.{typed_values}
 use Rattle.mp_factor.specs.Values.Signatures.{signature_value, plain_values, member_values, signature_values}
-use Rattle.mp_factor.specs.Taken.{typed_words, signature_words}
+use Rattle.mp_factor.specs.Named.{IsSignatureOf}
 use Rattle.mp_factor.proofs.NoFaults.{not_empty, none_in_first, none_in_second, not_else}
-use Rattle.mp_factor.proofs.TakenWords.{InTree, InEach, all_flat, in_parts, name_taken}
+use Rattle.mp_factor.proofs.TakenWords.{InTree, InEach, OfName, OfVariable, in_parts, name_taken}
 use Rattle.mp_factor.proofs.TakenItems.{typed_variables_taken}
 
 -- what is wanted in the place of a type, and what `-` is, is a word
@@ -38,8 +38,9 @@ unfolding is_function_name
 function_is_named n is = (and_parts (is_name_word n) _ is).0
 
 module _ (Says : Word → Type 0) where
+  -- its words are words of which it holds: its name is a name, and its parameters are variables
   abbrev pub OfSignature : Signature → Type 0
-  OfSignature signature = All Says (signature_words signature)
+  OfSignature = IsSignatureOf (OfName Says) (OfVariable Says)
 
   -- ---- lists of signatures
 
@@ -107,9 +108,10 @@ module _ (Says : Word → Type 0) where
     declared_taken private whole [] e each = absurd (not_empty _ [] e)
     declared_taken private whole (head ∷ params) e each =
         let is = (not_else (is_allowed head) _ [] (none_in_first (called_faults is_allowed head) (typed_faults variables whole params) e)).0 in
-        let typed = typed_variables_taken Says false whole params each.1 (none_in_second (called_faults is_allowed head) (typed_faults variables whole params) e) in
-        All-cons Says (word_value head) (flat_map typed_words (typed_values false params)) (name_taken Says head (named head is) each.0)
-        (all_flat Says typed_words (typed_values false params) typed)
+        record {
+          word = name_taken Says head (named head is) each.0;
+          params = typed_variables_taken Says false whole params each.1 (none_in_second (called_faults is_allowed head) (typed_faults variables whole params) e);
+        }
 
     signature_taken : (private : Bool) (n : Node) → signature_faults is_allowed n ≡ [] → InTree Says n → All OfSignature (plain_values private n)
     unfolding signature_faults plain_values signature_value

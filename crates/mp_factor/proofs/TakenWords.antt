@@ -11,6 +11,7 @@ use Rattle.mp_factor.specs.Conjuncts.{conjuncts, conjuncts_of_all, first_or, und
 use Rattle.mp_factor.specs.Faults.Typed.{name_faults}
 use Rattle.mp_factor.specs.Values.Words.{word_value}
 use Rattle.mp_factor.specs.Written.{words_of, words_of_all}
+use Rattle.mp_factor.specs.Named.{IsName, IsVariable}
 use Rattle.mp_factor.proofs.NoFaults.{not_else}
 
 -- what holds of the items of two lists holds of those of each
@@ -88,21 +89,28 @@ module _ (Says : Word → Type 0) where
 
   -- ---- words
 
+  -- a name of which it holds, and a variable
+  abbrev pub OfName : Word → Type 0
+  OfName w = Says w × IsName w
+
+  abbrev pub OfVariable : Word → Type 0
+  OfVariable w = Says w × IsVariable w
+
   pub word_taken : (n : Node) → is_list n ≡ false → InTree n → Says (word_value n)
   unfolding words_of word_value
   word_taken (word name place) is all = All-head Says record { name = name; at = place } [] all
   word_taken (list nodes place) is all = absurd (true≢false is)
 
-  pub name_taken : (n : Node) → is_name_word n ≡ true → InTree n → Says (word_value n)
-  unfolding is_name
-  name_taken (word name place) is all = word_taken (word name place) refl all
+  pub name_taken : (n : Node) → is_name_word n ≡ true → InTree n → OfName (word_value n)
+  unfolding is_name word_value
+  name_taken (word name place) is all = (word_taken (word name place) refl all, is)
   name_taken (list nodes place) is all = absurd (true≢false (sym is))
 
-  pub variable_taken : (n : Node) → is_variable_word n ≡ true → InTree n → Says (word_value n)
-  unfolding is_variable
-  variable_taken (word name place) is all = word_taken (word name place) refl all
+  pub variable_taken : (n : Node) → is_variable_word n ≡ true → InTree n → OfVariable (word_value n)
+  unfolding is_variable word_value
+  variable_taken (word name place) is all = (word_taken (word name place) refl all, is)
   variable_taken (list nodes place) is all = absurd (true≢false (sym is))
 
-  pub one_name_taken : (n : Node) → name_faults n ≡ [] → InTree n → Says (word_value n)
+  pub one_name_taken : (n : Node) → name_faults n ≡ [] → InTree n → OfName (word_value n)
   unfolding name_faults
   one_name_taken n e all = name_taken n (not_else (is_name_word n) _ [] e).0 all

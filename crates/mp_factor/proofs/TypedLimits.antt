@@ -1,7 +1,7 @@
 -- A typed list of variables without faults declares its variables, and nothing else.
 use Rattle.std.proofs.Common.{◌≡◌, ℕ, Bool, true, false, suc, List, [], ◌∷◌, length, filter, refl, ap, inl, inr}
-use Rattle.std.specs.Prelude.{if◌then◌else◌, ◌==◌, ◌&&◌, codes}
-use Rattle.std.proofs.lemmas.Bool.{both_ways, cases_Bool, eqb-true, and_left}
+use Rattle.std.specs.Prelude.{if◌then◌else◌, ◌==◌, codes}
+use Rattle.std.proofs.lemmas.Bool.{both_ways, cases_Bool, eqb-true, and_left, and_parts}
 use Rattle.std.proofs.lemmas.Slice.Eq.{bytes_eq-Decides}
 use Rattle.mp_sexp.specs.declared.tree.Place.{Place}
 use Rattle.mp_sexp.specs.Node.{Node, word, list}
@@ -27,10 +27,6 @@ variable_is_no_dash n is = elim (cases_Bool (is_dash n)) [
   | inr other ↦ other
 ]
 
-and_first : (a b : Bool) → (a && b) ≡ true → a ≡ true
-and_first true b e = refl
-and_first false b e = e
-
 -- a name begins with a letter, a variable with `?`
 letter_is_no_mark : (b : ℕ) → is_letter b ≡ true → (b == 63) ≡ false
 letter_is_no_mark b is = elim (cases_Bool (b == 63)) [
@@ -41,7 +37,7 @@ letter_is_no_mark b is = elim (cases_Bool (b == 63)) [
 name_is_no_variable : (name : List ℕ) → is_name name ≡ true → is_variable name ≡ false
 unfolding is_name is_variable
 name_is_no_variable [] is = refl
-name_is_no_variable (b ∷ bs) is = and_left (b == 63) (is_name bs) (letter_is_no_mark b (and_first (is_letter b) (list_all is_name_byte (b ∷ bs)) is))
+name_is_no_variable (b ∷ bs) is = and_left (b == 63) (is_name bs) (letter_is_no_mark b (and_parts (is_letter b) (list_all is_name_byte (b ∷ bs)) is).0)
 
 type_is_no_variable : (n : Node) → type_faults n ≡ [] → is_variable_word n ≡ false
 unfolding type_faults name_faults is_variable

@@ -13,10 +13,12 @@ pub mod Faults
 pub mod Values
 pub mod FactorParts
 pub mod FactorFields
+pub mod FromFile
 pub mod Limits
 -- what the calls answer
 pub mod OfFile
 pub mod Shapes
--- what a file says is written in it
+-- what a file says is written in it, and names are names
 pub mod Written
+pub mod Named
 pub mod Taken

@@ -14,6 +14,7 @@ use Rattle.mp_factor.specs.declared.effect_values.Increase.TheVariants.{Number, 
 use Rattle.mp_factor.specs.declared.init_values.Value.{Value}
 use Rattle.mp_factor.specs.declared.schema_values.Schema.{Schema}
 use Rattle.mp_factor.specs.FactorParts.{DomainParts, ProblemParts}
+use Rattle.mp_factor.specs.Named.{DomainIsNamed, ProblemIsNamed}
 use Rattle.mp_factor.specs.Written.{words_of, IsWrittenCost}
 
 -- ---- words
@@ -88,12 +89,15 @@ costs_of_problem problem = map (λ value. value.cost) problem.values
 
 -- ---- that they are written in the file
 
--- each word of a domain, with its place, is a word of the file, and each cost is what one of them says
+-- each word of a domain, with its place, is a word of the file, and each cost is what one of them says; where PDDL has a
+-- name it is one, and where PDDL has a variable it is a variable
 pub record DomainIsTaken (node : Node) (domain : DomainParts) : Type 0 where
   pub words : All (Contains (words_of node)) (words_of_domain domain)
+  pub names : DomainIsNamed domain
   pub costs : All (IsWrittenCost node) (costs_of_domain domain)
 
 -- the same of a problem
 pub record ProblemIsTaken (node : Node) (problem : ProblemParts) : Type 0 where
   pub words : All (Contains (words_of node)) (words_of_problem problem)
+  pub names : ProblemIsNamed problem
   pub costs : All (IsWrittenCost node) (costs_of_problem problem)

@@ -1,5 +1,9 @@
 //! A factor: what an agent's two files say, form by form.
 
+ghost use Rattle.mp_factor.specs.FromFile.{IsDomainOfFile, IsProblemOfFile};
+ghost use Rattle.mp_factor.specs.Limits.{DomainFits, ProblemFits};
+ghost use Rattle.mp_factor.specs.Named.{DomainIsNamed, ProblemIsNamed};
+
 use crate::atom_values::AtomList;
 use crate::init_values::ValueList;
 use crate::literal::LiteralList;
@@ -10,8 +14,8 @@ use crate::word::Word;
 use mp_list::{Copied, OutOfMemory};
 use std::marker::Model;
 
-/// A domain file of factored MA-PDDL. Each of its actions has at most 12 parameters and 16 increases, and none of
-/// its costs is above 1,000,000.
+/// A domain file of factored MA-PDDL: what some tree says that has no fault. So each of its actions has at most 12
+/// parameters and 16 increases, and none of its costs is above 1,000,000.
 #[derive(Drop)]
 pub struct Domain {
     /// Its name.
@@ -29,11 +33,22 @@ impl Model for Domain {
     ghost Value = { DomainParts };
 
     ghost use Rattle.mp_factor.specs.FactorFields.{domain_fields};
-    ghost use Rattle.mp_factor.specs.Limits.{DomainFits};
+    ghost use Rattle.mp_factor.specs.FromFile.{IsDomainOfFile};
 
     ghost view = { domain_fields };
 
-    ghost invariant = { λ d. DomainFits (domain_fields d) };
+    ghost invariant = { λ d. IsDomainOfFile (domain_fields d) };
+}
+
+impl Domain {
+    /// A law of every domain: it is what some file without faults says, keeps the limits, and its names are names.
+    pub fn comes_from_a_file(&self)
+        ensures file { IsDomainOfFile self.now }
+        ensures limits { DomainFits self.now }
+        ensures names { DomainIsNamed self.now }
+    {
+        let _ = &self.word;
+    }
 }
 
 impl Copied for Domain {
@@ -49,7 +64,8 @@ impl Copied for Domain {
     }
 }
 
-/// A problem file of factored MA-PDDL. None of its values is above 1,000,000, and no function has two of them.
+/// A problem file of factored MA-PDDL: what some tree says that has no fault. So none of its values is above
+/// 1,000,000, and no function has two of them.
 #[derive(Drop)]
 pub struct Problem {
     /// Its name.
@@ -73,11 +89,22 @@ impl Model for Problem {
     ghost Value = { ProblemParts };
 
     ghost use Rattle.mp_factor.specs.FactorFields.{problem_fields};
-    ghost use Rattle.mp_factor.specs.Limits.{ProblemFits};
+    ghost use Rattle.mp_factor.specs.FromFile.{IsProblemOfFile};
 
     ghost view = { problem_fields };
 
-    ghost invariant = { λ p. ProblemFits (problem_fields p) };
+    ghost invariant = { λ p. IsProblemOfFile (problem_fields p) };
+}
+
+impl Problem {
+    /// A law of every problem: it is what some file without faults says, keeps the limits, and its names are names.
+    pub fn comes_from_a_file(&self)
+        ensures file { IsProblemOfFile self.now }
+        ensures limits { ProblemFits self.now }
+        ensures names { ProblemIsNamed self.now }
+    {
+        let _ = &self.word;
+    }
 }
 
 impl Copied for Problem {

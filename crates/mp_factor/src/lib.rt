@@ -35,7 +35,7 @@ pub use factor::{Domain, Factor, Problem};
 pub use fault::{Fault, FaultKind};
 pub use files::{File, domain_fault, problem_fault};
 pub use init_values::{Value, ValueList};
-pub use laws::{first_fault_is_one, values_are_taken_from_the_file};
+pub use laws::{first_fault_is_one, values_are_taken_from_the_file, words_are_names_or_variables};
 pub use literal::{Literal, LiteralList};
 pub use refusal::ShapeRefusal;
 pub use schema_values::{Schema, SchemaList};

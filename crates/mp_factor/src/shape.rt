@@ -5,7 +5,7 @@ ghost use Rattle.mp_sexp.specs.Node.{node_of, nodes_in};
 ghost use Rattle.mp_factor.specs.Faults.Files.{domain_faults, problem_faults};
 ghost use Rattle.mp_factor.specs.Values.Files.{section_in as section_in_of, schema_in as schema_in_of, schema_values, first_condition, title_word, domain_parts, domain_value, problem_parts, problem_value};
 ghost use Rattle.mp_factor.specs.Values.Typed.{typed_values};
-ghost use Rattle.mp_factor.specs.Limits.{DomainFits, ProblemFits};
+ghost use Rattle.mp_factor.specs.FromFile.{IsDomainOfFile, IsProblemOfFile};
 ghost use Rattle.mp_factor.specs.Shapes.{Refuses};
 
 use crate::factor::{Domain, Problem};
@@ -91,7 +91,7 @@ fn types_in(alloc: Global, sections: &[Tree]) -> Result<TypedList, OutOfMemory>
 
 /// The domain of these members behind the first word.
 fn domain_of(alloc: Global, trees: &[Tree]) -> Result<Domain, OutOfMemory>
-    requires { DomainFits (domain_parts (nodes_in trees.now)) }
+    requires { IsDomainOfFile (domain_parts (nodes_in trees.now)) }
     ensures { IfOk result (λ domain. domain ≡ domain_parts (nodes_in trees.now)) }
 {
     let sections = behind_first(trees);
@@ -107,7 +107,7 @@ fn domain_of(alloc: Global, trees: &[Tree]) -> Result<Domain, OutOfMemory>
 
 /// The problem of these members behind the first word.
 fn problem_of(alloc: Global, trees: &[Tree]) -> Result<Problem, OutOfMemory>
-    requires { ProblemFits (problem_parts (nodes_in trees.now)) }
+    requires { IsProblemOfFile (problem_parts (nodes_in trees.now)) }
     ensures { IfOk result (λ problem. problem ≡ problem_parts (nodes_in trees.now)) }
 {
     let sections = behind_first(trees);
