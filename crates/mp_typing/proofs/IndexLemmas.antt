@@ -84,3 +84,13 @@ pub added : (name : List ℕ) (n : ℕ) (es fs : List Entry) → is_some (number
     → SameNumbers fs (es ++ record { name = name; number = n } ∷ [])
 added name n es fs none changed q =
     changed q ∙ new_by name q n es (bytes_eq name q) refl none ∙ sym (number_push q es record { name = name; number = n })
+
+restored_by : (name q : List ℕ) (n f : ℕ) (es : List Entry) (b : Bool) → b ≡ bytes_eq name q → number_of name es ≡ Some f
+    → cond b (Some f) (cond b (Some n) (number_of q es)) ≡ number_of q es
+restored_by name q n f es true e there = sym (subst (λ (k : List ℕ). number_of k es ≡ Some f) (same name q (sym e)) there)
+restored_by name q n f es false e there = refl
+
+-- a number that is put in place of another, and then the other again
+pub restored : (name q : List ℕ) (n f : ℕ) (es : List Entry) → number_of name es ≡ Some f
+    → cond (bytes_eq name q) (Some f) (cond (bytes_eq name q) (Some n) (number_of q es)) ≡ number_of q es
+restored name q n f es there = restored_by name q n f es (bytes_eq name q) refl there

@@ -1,20 +1,22 @@
 -- The first declaration of each name, one declaration after the other.
-use Rattle.std.proofs.Common.{◌≡◌, ℕ, ◌+◌, ◌<◌, true, false, ◌||◌, not, List, [], ◌∷◌, ◌++◌, length, get_or, take, refl, sym, ap, subst, ◌∙◌, inl, inr, append_assoc}
+use Rattle.std.proofs.Common.{◌≡◌, ℕ, ◌+◌, ◌<◌, Bool, true, false, ◌||◌, not, List, [], ◌∷◌, ◌++◌, length, get_or, take, refl, sym, ap, ◌∙◌, inl, inr, append_assoc, arith}
+use Rattle.std.specs.Option.{is_some}
 use Rattle.std.specs.Str.{bytes_eq}
-use Rattle.std.proofs.lemmas.Bool.{cases_Bool, or_cases}
-use Rattle.std.proofs.lemmas.List.{take_more, append-nil}
-use Rattle.std.proofs.lemmas.List.Folds.{list_any-append}
+use Rattle.std.specs.List.{list_any}
+use Rattle.std.proofs.lemmas.Bool.{cases_Bool, or_cases, not-true, not-false}
+use Rattle.std.proofs.lemmas.List.{take_more, append-nil, length-append, length-take-le}
 use Rattle.std.proofs.lemmas.List.Elements.{filter-append}
 use Rattle.mp_factor.specs.declared.typed_values.Typed.{Typed}
-use Rattle.mp_typing.specs.Names.{is_among, SameNames}
+use Rattle.mp_typing.specs.Indexed.{Entry, number_of, SameNumbers}
+use Rattle.mp_typing.specs.Listing.{AreFound}
+use Rattle.mp_typing.specs.Lookups.{is_object}
 use Rattle.mp_typing.specs.ObjectList.{others, first_declared}
-use Rattle.mp_typing.specs.Listing.{is_declared, IsListing}
-use Rattle.mp_typing.proofs.Lists.{swaps}
+use Rattle.mp_typing.proofs.LookupLemmas.{is_placed, place_added, places_none}
+use Rattle.mp_typing.proofs.NameSets.{same_either_way}
 
--- nothing is declared
-pub listing_begins : IsListing [] [] []
-unfolding first_declared
-listing_begins = record { first = refl; names = λ name. refl }
+-- whether a name is declared
+abbrev is_declared : List Typed → List ℕ → Bool
+is_declared declared name = list_any (λ t. bytes_eq name t.word.name) declared
 
 -- a declaration of a name that is not declared yet
 with_new : (ds : List Typed) (t : Typed) → is_declared ds t.word.name ≡ false → first_declared (ds ++ t ∷ []) ≡ first_declared ds ++ t ∷ []
@@ -50,41 +52,50 @@ with_old (d ∷ ds) t h =
           ∙ ap (λ (ts : List Typed). others d.word.name (first_declared ds) ++ ts) none ∙ append-nil (others d.word.name (first_declared ds)))
     ]
 
--- one more name is declared
-names_more : (ds : List Typed) (t : Typed) (seen new : List (List ℕ)) → ((name : List ℕ) → is_among seen name ≡ is_declared ds name)
-    → SameNames new (t.word.name ∷ seen) → (name : List ℕ) → is_among new name ≡ is_declared (ds ++ t ∷ []) name
-names_more ds t seen new so_far adds name =
-    adds name ∙ ap (λ b. bytes_eq name t.word.name || b) (so_far name)
-    ∙ swaps (bytes_eq name t.word.name) (is_declared ds name)
-    ∙ sym (list_any-append (λ (u : Typed). bytes_eq name u.word.name) ds (t ∷ []))
+declared_object : (ds : List Typed) (name : List ℕ) → is_object ds name ≡ is_declared ds name
+unfolding is_object
+declared_object [] name = refl
+declared_object (d ∷ ds) name =
+    ap (λ b. b || is_object ds name) (same_either_way d.word.name name)
+    ∙ ap (λ b. bytes_eq name d.word.name || b) (declared_object ds name)
 
--- the declarations up to a place, with the one there
-one_more : (before declared : List Typed) (i : ℕ) (t : Typed) → i < length declared → t ≡ get_or declared i t
-    → before ++ take (i + 1) declared ≡ (before ++ take i declared) ++ t ∷ []
-one_more before declared i t lt is =
-    ap (λ (ts : List Typed). before ++ ts) (take_more declared i t lt ∙ ap (λ (u : Typed). take i declared ++ u ∷ []) (sym is))
-    ∙ sym (append_assoc before (take i declared) (t ∷ []))
+-- nothing is declared
+pub found_none : (places : List Entry) (listed : List Typed) → places ≡ [] → listed ≡ [] → AreFound [] places listed
+unfolding first_declared
+found_none places listed no_place none = record { placed = places_none places no_place; first = none }
 
 -- a declaration of a new name is listed
-pub lists : (before declared objects : List Typed) (seen new : List (List ℕ)) (i : ℕ) (t : Typed) → i < length declared → t ≡ get_or declared i t
-    → is_among seen t.word.name ≡ false → SameNames new (t.word.name ∷ seen)
-    → IsListing (before ++ take i declared) objects seen → IsListing (before ++ take (i + 1) declared) (objects ++ t ∷ []) new
-lists before declared objects seen new i t lt is absent adds so_far =
-    let done = before ++ take i declared in
-    subst (λ (ds : List Typed). IsListing ds (objects ++ t ∷ []) new) (sym (one_more before declared i t lt is))
+pub found_new : (declared listed : List Typed) (t : Typed) (place : ℕ) (is_new : Bool) (places after : List Entry) → length declared ≡ place
+    → AreFound declared places listed → is_new ≡ not (is_some (number_of t.word.name places)) → is_new ≡ true
+    → SameNumbers after (places ++ record { name = t.word.name; number = place } ∷ []) → AreFound (declared ++ t ∷ []) after (listed ++ t ∷ [])
+found_new declared listed t place is_new places after at found is new added =
+    let absent = sym (declared_object declared t.word.name) ∙ sym (is_placed places declared t.word.name found.placed) ∙ not-true _ (sym is ∙ new) in
     record {
-      first = ap (λ (ts : List Typed). ts ++ t ∷ []) so_far.first ∙ sym (with_new done t (sym (so_far.names t.word.name) ∙ absent));
-      names = names_more done t seen new so_far.names adds;
+      placed = place_added places after declared t place (sym at) found.placed added;
+      first = ap (λ (ts : List Typed). ts ++ t ∷ []) found.first ∙ sym (with_new declared t absent);
     }
 
--- and one of a name that was seen is left out
-pub leaves_out : (before declared objects : List Typed) (seen new : List (List ℕ)) (i : ℕ) (t : Typed) → i < length declared → t ≡ get_or declared i t
-    → is_among seen t.word.name ≡ true → SameNames new (t.word.name ∷ seen)
-    → IsListing (before ++ take i declared) objects seen → IsListing (before ++ take (i + 1) declared) objects new
-leaves_out before declared objects seen new i t lt is there adds so_far =
-    let done = before ++ take i declared in
-    subst (λ (ds : List Typed). IsListing ds objects new) (sym (one_more before declared i t lt is))
+-- and one of a name that is declared already is left out
+pub found_old : (declared listed : List Typed) (t : Typed) (place : ℕ) (is_new : Bool) (places after : List Entry) → length declared ≡ place
+    → AreFound declared places listed → is_new ≡ not (is_some (number_of t.word.name places)) → is_new ≡ false
+    → SameNumbers after (places ++ record { name = t.word.name; number = place } ∷ []) → AreFound (declared ++ t ∷ []) after listed
+found_old declared listed t place is_new places after at found is old added =
+    let there = sym (declared_object declared t.word.name) ∙ sym (is_placed places declared t.word.name found.placed) ∙ not-false _ (sym is ∙ old) in
     record {
-      first = so_far.first ∙ sym (with_old done t (sym (so_far.names t.word.name) ∙ there));
-      names = names_more done t seen new so_far.names adds;
+      placed = place_added places after declared t place (sym at) found.placed added;
+      first = found.first ∙ sym (with_old declared t there);
     }
+
+-- the declarations up to a place, with the one there
+pub one_more : (before declared : List Typed) (i : ℕ) (t : Typed) → i < length declared → t ≡ get_or declared i t
+    → (before ++ take i declared) ++ t ∷ [] ≡ before ++ take (i + 1) declared
+one_more before declared i t lt is =
+    append_assoc before (take i declared) (t ∷ [])
+    ∙ ap (λ (ts : List Typed). before ++ ts) (sym (take_more declared i t lt ∙ ap (λ (u : Typed). take i declared ++ u ∷ []) (sym is)))
+
+-- how many there are up to a place
+pub count_before : (before declared : List Typed) (first i : ℕ) → length before ≡ first → i < length declared → length (before ++ take i declared) ≡ first + i
+count_before before declared first i long lt =
+    let short : length (take i declared) ≡ i = length-take-le i declared (omega (arith, lt)) in
+    let all : length (before ++ take i declared) ≡ length before + length (take i declared) = length-append before (take i declared) in
+    omega (arith, short, all, long)

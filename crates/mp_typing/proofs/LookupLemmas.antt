@@ -1,7 +1,7 @@
 -- What an index says of the signatures and objects that are put into it, one after the other.
-use Rattle.std.proofs.Common.{◌≡◌, ℕ, suc, ◌+◌, ◌<◌, Bool, true, false, ◌||◌, cond, List, [], ◌∷◌, ◌++◌, length, get_or, take, Option, Some, None, refl, sym, ap, subst, ◌∙◌, arith}
+use Rattle.std.proofs.Common.{◌≡◌, ℕ, suc, ◌+◌, ◌<◌, Bool, true, false, ◌||◌, cond, List, [], ◌∷◌, ◌++◌, length, get_or, take, Option, Some, None, refl, sym, ap, ◌∙◌, arith}
 use Rattle.std.proofs.lemmas.Bool.{ltb-false}
-use Rattle.std.proofs.lemmas.List.{take_more, append_assoc, append-nil, length-append, length-take-le}
+use Rattle.std.proofs.lemmas.List.{take_more}
 use Rattle.std.proofs.lemmas.List.Folds.{find-append, find_at}
 use Rattle.std.proofs.lemmas.Iterator.Adapters.{position_from-zero}
 use Rattle.std.proofs.lemmas.Option.{slice_get_past}
@@ -73,7 +73,8 @@ alone_placed : (b : Bool) (n m : ℕ) → n ≡ m → (if b then Some n else Non
 alone_placed true n m e = ap Some e
 alone_placed false n m e = refl
 
-place_added : (index after : List Entry) (xs : List Typed) (x : Typed) (n : ℕ) → n ≡ length xs
+-- one more object
+pub place_added : (index after : List Entry) (xs : List Typed) (x : Typed) (n : ℕ) → n ≡ length xs
     → HasPlaces index xs → SameNumbers after (index ++ record { name = x.word.name; number = n } ∷ []) → HasPlaces after (xs ++ x ∷ [])
 place_added index after xs x n at has added name =
     added name ∙ number_push name index record { name = x.word.name; number = n }
@@ -84,24 +85,6 @@ place_added index after xs x n at has added name =
 pub places_none : (index : List Entry) → index ≡ [] → HasPlaces index []
 unfolding number_of
 places_none index none name = ap (number_of name) none
-
--- no object is added yet
-pub places_begin : (index : List Entry) (before : List Typed) → HasPlaces index before → HasPlaces index (before ++ [])
-places_begin index before has = subst (HasPlaces index) (sym (append-nil before)) has
-
--- one more object
-pub places_on : (index after : List Entry) (before : List Typed) (first : ℕ) (xs : List Typed) (i : ℕ) (x : Typed)
-    → i < length xs → x ≡ get_or xs i x → length before ≡ first
-    → HasPlaces index (before ++ take i xs) → SameNumbers after (index ++ record { name = x.word.name; number = first + i } ∷ [])
-    → HasPlaces after (before ++ take (i + 1) xs)
-places_on index after before first xs i x lt is long has added =
-    let short : length (take i xs) ≡ i = length-take-le i xs (omega (arith, lt)) in
-    let all : length (before ++ take i xs) ≡ length before + length (take i xs) = length-append before (take i xs) in
-    let at : first + i ≡ length (before ++ take i xs) = omega (arith, short, all, long) in
-    subst (HasPlaces after)
-    (append_assoc before (take i xs) (x ∷ [])
-    ∙ ap (λ (ys : List Typed). before ++ ys) (sym (take_more xs i x lt ∙ ap (λ (y : Typed). take i xs ++ y ∷ []) (sym is))))
-    (place_added index after (before ++ take i xs) x (first + i) at has added)
 
 -- ---- the object at a place
 

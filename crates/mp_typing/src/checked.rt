@@ -9,7 +9,6 @@ ghost use Rattle.mp_typing.specs.Members.{Members};
 ghost use Rattle.mp_typing.specs.ObjectList.{object_list};
 
 use crate::hierarchy::{Hierarchy, ObjectList, TypeList};
-use crate::objects::object_list as objects_of;
 use mp_factor::{Domain, Factor, Problem};
 use mp_list::OutOfMemory;
 use mp_sexp::Name;
@@ -41,31 +40,24 @@ impl Model for CheckedFactor {
         c.hierarchy.graph.names c.hierarchy.graph.lower.items c.hierarchy.object c.hierarchy.kinds };
 }
 
-/// The order of a factor's types, and the types of its objects. Refuses only for want of memory.
-fn hierarchy_of(alloc: Global, domain: &Domain, problem: &Problem) -> Result<Hierarchy, OutOfMemory>
-    ensures { IfOk result (λ h. IsHierarchy domain.now.types (object_list domain.now problem.now)
-        h.graph.names h.graph.lower.items h.object h.kinds) }
-{
-    let objects = objects_of(alloc, domain, problem)?;
-    Hierarchy::new(alloc, &domain.types, &objects)
-}
-
 impl CheckedFactor {
-    /// The factor of two files with which nothing is wrong. Refuses only for want of memory.
+    /// The factor of two files with which nothing is wrong, where this is the order of its types and objects.
     pub(crate) fn of(
         alloc: Global,
         domain: Domain,
         problem: Problem,
-    ) -> Result<CheckedFactor, OutOfMemory>
-        requires { check_faults domain problem ≡ [] }
-        ensures { IfOk result (λ checked. checked ≡ record { domain = domain; problem = problem }) }
+        hierarchy: Hierarchy,
+    ) -> CheckedFactor
+        requires no_fault { check_faults domain problem ≡ [] }
+        requires hierarchy { IsHierarchy domain.types (object_list domain problem)
+            hierarchy.graph.names hierarchy.graph.lower.items hierarchy.object hierarchy.kinds }
+        ensures { result ≡ record { domain = domain; problem = problem } }
     {
-        let hierarchy = hierarchy_of(alloc, &domain, &problem)?;
-        Ok(CheckedFactor {
+        CheckedFactor {
             factor: Factor { domain, problem },
             hierarchy,
             alloc,
-        })
+        }
     }
 
     /// The factor, with which nothing is wrong.
@@ -78,8 +70,8 @@ impl CheckedFactor {
 
     /// Whether a type is another or lies under it: every type is an `object`. Refuses only for want of memory.
     ///
-    /// The declarations were worked out by `check`. A call looks at each type that is the asked one or lies under it,
-    /// and at each declaration of one of these types, once.
+    /// The declarations were worked out by `check`. A call clears one mark for each type, and looks once at each type
+    /// that is the asked one or lies under it, and at each declaration of one of these types.
     pub fn is_a(&self, sub: &Name, sup: &Name) -> Result<bool, OutOfMemory>
         ensures { IfOk result (λ answer. Decides answer (IsA self.now.domain.types sub.now sup.now)) }
     {
@@ -90,8 +82,9 @@ impl CheckedFactor {
     /// is asked. An object's number is its place in object order, counted from 0: constants first, then objects, each
     /// in file order, and one that is listed again counts once. Refuses only for want of memory.
     ///
-    /// The declarations and the object order were worked out by `check`. A call looks once at each type that is asked
-    /// for or lies under an asked one, at each declaration of one of these types, and at each type of each object.
+    /// The declarations and the object order were worked out by `check`. A call clears one mark for each type, and looks
+    /// once at each type that is asked for or lies under an asked one, at each declaration of one of these types, and at
+    /// each type of each object.
     pub fn members(&self, asked: &TypeList) -> Result<ObjectList, OutOfMemory>
         ensures { IfOk result (λ numbers. Members self.now.domain.types (object_list self.now.domain self.now.problem) asked.now numbers) }
     {

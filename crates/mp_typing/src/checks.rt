@@ -1,15 +1,18 @@
 //! Checks of a factor: its domain's name, names that are not declared, numbers of terms, and names declared twice.
 
-ghost use Rattle.std.specs.Prelude.{◌≡◌, ◌++◌, [], IfOk, IfErr};
+ghost use Rattle.std.specs.Prelude.{◌≡◌, ◌++◌, [], None, Some, IfOk, IfErr, MatchResult};
 ghost use Rattle.std.specs.List.{flat_map};
 ghost use Rattle.mp_typing.specs.Faults.{leftmost};
+ghost use Rattle.mp_typing.specs.Hierarchy.{IsHierarchy};
 ghost use Rattle.mp_typing.specs.Lookups.{factor_of, objects_of};
+ghost use Rattle.mp_typing.specs.ObjectList.{object_list};
 ghost use Rattle.mp_typing.specs.CheckFaults.{owner_faults, schema_faults as faults_of_schema, declared_faults as faults_of_declared, value_faults as faults_of_value, problem_faults as faults_of_problem, check_faults};
 ghost use Rattle.mp_typing.specs.Refused.{RestsOn, refusal_of};
 
 use crate::checked::CheckedFactor;
 use crate::declared::Declared;
 use crate::fault::{Fault, FaultKind, with};
+use crate::hierarchy::Hierarchy;
 use crate::parameters::parameters_fault;
 use crate::refusal::CheckRefusal;
 use crate::repeats::{objects_fault, repeated_fault};
@@ -132,16 +135,49 @@ fn problem_fault(
 #[tactic(auto, using(crate::proofs::FirstLemmas::leftmost_append), unfolding(crate::specs::CheckFaults::check_faults))]
 fn first_fault(
     alloc: Global,
+    declared: &Declared,
     domain: &Domain,
     problem: &Problem,
 ) -> Result<Option<Fault>, OutOfMemory>
+    requires { declared.now ≡ factor_of domain.now problem.now }
     ensures { IfOk result (λ first. first ≡ leftmost None (check_faults domain.now problem.now)) }
 {
-    let declared = Declared::new(alloc, domain, problem)?;
     let owner = owner_fault(None, &domain.word, &problem.domain)?;
-    let names = declared_fault(alloc, owner, &declared, domain)?;
-    let schemas = schemas_fault(names, &declared, domain.schemas.as_slice())?;
-    problem_fault(schemas, &declared, problem)
+    let names = declared_fault(alloc, owner, declared, domain)?;
+    let schemas = schemas_fault(names, declared, domain.schemas.as_slice())?;
+    problem_fault(schemas, declared, problem)
+}
+
+/// The order of a factor's types, and the types of its objects. Refuses only for want of memory.
+fn hierarchy_of(
+    alloc: Global,
+    declared: Declared,
+    domain: &Domain,
+) -> Result<Hierarchy, OutOfMemory>
+    requires { declared.domain ≡ domain.now }
+    ensures { IfOk result (λ h. IsHierarchy domain.now.types (object_list declared.entry.domain declared.entry.problem)
+        h.graph.names h.graph.lower.items h.object h.kinds) }
+{
+    let objects = declared.into_listed();
+    Hierarchy::new(alloc, &domain.types, &objects)
+}
+
+/// The order of a factor's types and the types of its objects, or its first fault. Refuses only for want of memory.
+fn hierarchy_or_fault(
+    alloc: Global,
+    domain: &Domain,
+    problem: &Problem,
+) -> Result<Result<Hierarchy, Fault>, OutOfMemory>
+    ensures { IfOk result (λ found. MatchResult found
+        (λ h. (None ≡ leftmost None (check_faults domain.now problem.now)) × IsHierarchy domain.now.types (object_list domain.now problem.now)
+        h.graph.names h.graph.lower.items h.object h.kinds)
+        (λ fault. Some fault ≡ leftmost None (check_faults domain.now problem.now))) }
+{
+    let declared = Declared::new(alloc, domain, problem)?;
+    match first_fault(alloc, &declared, domain, problem)? {
+        Some(fault) => Ok(Err(fault)),
+        None => Ok(Ok(hierarchy_of(alloc, declared, domain)?)),
+    }
 }
 
 /// The refusal that says a fault.
@@ -166,8 +202,8 @@ pub fn check(alloc: Global, domain: Domain, problem: Problem) -> Result<CheckedF
     ensures accepted { IfOk result (λ checked. check_faults domain problem ≡ []) }
     ensures refused { IfErr result (λ refusal. RestsOn (check_faults domain problem) refusal) }
 {
-    match first_fault(alloc, &domain, &problem)? {
-        None => Ok(CheckedFactor::of(alloc, domain, problem)?),
-        Some(fault) => Err(refusal(fault)),
+    match hierarchy_or_fault(alloc, &domain, &problem)? {
+        Ok(hierarchy) => Ok(CheckedFactor::of(alloc, domain, problem, hierarchy)),
+        Err(fault) => Err(refusal(fault)),
     }
 }

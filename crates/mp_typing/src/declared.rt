@@ -1,11 +1,13 @@
 //! What the two files of a factor declare.
 
-ghost use Rattle.std.specs.Prelude.{◌≡◌, ◌+◌, ◌<◌, ◌^◌, ◌++◌, List, length, slice_get, find as find_in, IfOk, OnOk};
+ghost use Rattle.std.specs.Prelude.{◌≡◌, ◌+◌, ◌<◌, ◌^◌, ◌++◌, ◌∷◌, [], List, map, length, slice_get, find as find_in, IfOk, OnOk};
 ghost use Rattle.std.specs.Option.{option_copied};
 ghost use Rattle.std.specs.Str.{bytes_eq};
 ghost use Rattle.mp_factor.specs.declared.typed_values.Typed.{Typed as TypedValue};
 ghost use Rattle.mp_typing.specs.Indexed.{HasArities, HasPlaces};
+ghost use Rattle.mp_typing.specs.Listing.{AreFound};
 ghost use Rattle.mp_typing.specs.Lookups.{arity_of, factor_of, is_object, objects_of};
+ghost use Rattle.mp_typing.specs.ObjectList.{first_declared, object_list};
 
 use crate::index::Index;
 use mp_factor::{Domain, Problem, Signature, Typed};
@@ -21,6 +23,8 @@ pub struct Declared<'a> {
     problem: &'a Problem,
     /// Constants and then objects, each with its place among them, counted from 0.
     objects: Index<'a>,
+    /// The first object of each name, in object order.
+    listed: Vec<&'a Typed>,
     /// Predicates, each with the number of its parameters.
     predicates: Index<'a>,
     /// Functions, each with the number of its parameters.
@@ -28,15 +32,18 @@ pub struct Declared<'a> {
 }
 
 impl<'a> Model for Declared<'a> {
+    ghost use Rattle.std.specs.Prelude.{◌≡◌, map};
     ghost use Rattle.mp_factor.specs.declared.factor.Factor.{Factor};
     ghost use Rattle.mp_typing.specs.Indexed.{HasArities, HasPlaces};
     ghost use Rattle.mp_typing.specs.Lookups.{factor_of, objects_of};
+    ghost use Rattle.mp_typing.specs.ObjectList.{object_list};
 
     ghost Value = { Factor };
 
     ghost view = { λ d. factor_of d.domain.now d.problem.now };
 
     ghost invariant = { λ d. HasPlaces d.objects (objects_of (factor_of d.domain.now d.problem.now))
+        × (map (λ o. o.now) d.listed.items ≡ object_list d.domain.now d.problem.now)
         × HasArities d.predicates d.domain.now.predicates
         × HasArities d.functions d.domain.now.functions };
 }
@@ -45,37 +52,63 @@ impl<'a> Model for Declared<'a> {
 fn arities<'a>(alloc: Global, signatures: &'a [Signature]) -> Result<Index<'a>, OutOfMemory>
     ensures { IfOk result (λ index. HasArities index signatures.now) }
 {
-    let mut index = Index::new(alloc);
+    let mut index = Index::with_capacity(alloc, signatures.len())?;
     for signature in signatures {
         index.add(&signature.word.name, signature.params.len())?;
     }
     Ok(index)
 }
 
-/// Adds objects, each with its place, of which the first is given. Refuses only for want of memory.
-fn count<'a>(index: &mut Index<'a>, first: usize, objects: &'a [Typed]) -> Result<(), OutOfMemory>
-    requires { first + length objects.now < 2 ^ 64 }
-    ensures { OnOk result ((before : List TypedValue) → length before ≡ first → HasPlaces index.old before
-        → HasPlaces index.new (before ++ objects.now)) }
-{
-    for (i, object) in objects.iter().enumerate() {
-        index.add(&object.word.name, first + i)?;
-    }
-    Ok(())
+/// The objects that are found by name, and the first one of each name in object order.
+#[derive(Drop)]
+struct Objects<'a> {
+    places: Index<'a>,
+    listed: Vec<&'a Typed>,
 }
 
-/// Constants and then objects, each with its place among them. Refuses only for want of memory.
-fn places<'a>(
+impl<'a> Objects<'a> {
+    /// Adds an object with its place, which is the number of those before it. Refuses only for want of memory.
+    fn add(&mut self, place: usize, object: &'a Typed) -> Result<(), OutOfMemory>
+        ensures { OnOk result ((before : List TypedValue) → length before ≡ place
+            → AreFound before self.old.places (map (λ o. o.now) self.old.listed.items)
+            → AreFound (before ++ object.now ∷ []) self.new.places (map (λ o. o.now) self.new.listed.items)) }
+    {
+        if self.places.add(&object.word.name, place)? {
+            self.listed.push(object)?;
+        }
+        Ok(())
+    }
+
+    /// Adds objects, each with its place, of which the first is given. Refuses only for want of memory.
+    fn add_all(&mut self, first: usize, objects: &'a [Typed]) -> Result<(), OutOfMemory>
+        requires { first + length objects.now < 2 ^ 64 }
+        ensures { OnOk result ((before : List TypedValue) → length before ≡ first
+            → AreFound before self.old.places (map (λ o. o.now) self.old.listed.items)
+            → AreFound (before ++ objects.now) self.new.places (map (λ o. o.now) self.new.listed.items)) }
+    {
+        for (i, object) in objects.iter().enumerate() {
+            self.add(first + i, object)?;
+        }
+        Ok(())
+    }
+}
+
+/// Constants and then objects. Refuses only for want of memory.
+fn found<'a>(
     alloc: Global,
     constants: &'a [Typed],
     objects: &'a [Typed],
-) -> Result<Index<'a>, OutOfMemory>
-    ensures { IfOk result (λ index. HasPlaces index (constants.now ++ objects.now)) }
+) -> Result<Objects<'a>, OutOfMemory>
+    ensures { IfOk result (λ found. AreFound (constants.now ++ objects.now) found.places (map (λ o. o.now) found.listed.items)) }
 {
-    let mut index = Index::new(alloc);
-    count(&mut index, 0, constants)?;
-    count(&mut index, constants.len(), objects)?;
-    Ok(index)
+    let count = constants.len() + objects.len();
+    let mut found = Objects {
+        places: Index::with_capacity(alloc, count)?,
+        listed: Vec::with_capacity(alloc, count)?,
+    };
+    found.add_all(0, constants)?;
+    found.add_all(constants.len(), objects)?;
+    Ok(found)
 }
 
 /// The object at this place, constants before objects.
@@ -99,13 +132,22 @@ impl<'a> Declared<'a> {
         ensures { IfOk result (λ known. known ≡ factor_of domain.now problem.now) }
     {
         let constants = domain.constants.as_slice();
+        let Objects { places, listed } = found(alloc, constants, problem.objects.as_slice())?;
         Ok(Declared {
             domain,
             problem,
-            objects: places(alloc, constants, problem.objects.as_slice())?,
+            objects: places,
+            listed,
             predicates: arities(alloc, domain.predicates.as_slice())?,
             functions: arities(alloc, domain.functions.as_slice())?,
         })
+    }
+
+    /// The first object of each name, in object order. All else is let go.
+    pub fn into_listed(self) -> Vec<&'a Typed>
+        ensures { map (λ o. o.now) result.items ≡ object_list self.entry.domain self.entry.problem }
+    {
+        self.listed
     }
 
     /// The first object that has this name, constants before objects.

@@ -1,6 +1,6 @@
 //! Names that are looked up, each with a number.
 
-ghost use Rattle.std.specs.Prelude.{◌≡◌, ◌++◌, ◌∷◌, [], OnOk};
+ghost use Rattle.std.specs.Prelude.{◌≡◌, ◌++◌, ◌∷◌, [], not, is_some, IfOk, OnOk};
 ghost use Rattle.mp_typing.specs.Indexed.{number_of, SameNumbers};
 
 use mp_list::OutOfMemory;
@@ -26,23 +26,29 @@ impl<'a> Model for Index<'a> {
 }
 
 impl<'a> Index<'a> {
-    /// The empty index, which takes no memory yet.
-    pub fn new(alloc: Global) -> Index<'a>
-        ensures { result ≡ [] }
+    /// The empty index, with memory for this many names. Refuses only for want of memory.
+    pub fn with_capacity(alloc: Global, capacity: usize) -> Result<Index<'a>, OutOfMemory>
+        ensures { IfOk result (λ index. index ≡ []) }
     {
-        Index {
-            first: HashMap::new(alloc),
-        }
+        Ok(Index {
+            first: HashMap::with_capacity(alloc, capacity)?,
+        })
     }
 
-    /// Adds a name with its number, behind those that were added before. Refuses only for want of memory.
-    pub fn add(&mut self, name: &'a Name, number: usize) -> Result<(), OutOfMemory>
-        ensures { OnOk result (SameNumbers self.new (self.old ++ record { name = name.now; number = number } ∷ [])) }
+    /// Adds a name with its number, behind those that were added before, and tells whether the name is new. Refuses
+    /// only for want of memory.
+    pub fn add(&mut self, name: &'a Name, number: usize) -> Result<bool, OutOfMemory>
+        ensures new { IfOk result (λ is_new. is_new ≡ not (is_some (number_of name.now self.old))) }
+        ensures added { OnOk result (SameNumbers self.new (self.old ++ record { name = name.now; number = number } ∷ [])) }
     {
-        if !self.first.contains_key(name.as_slice()) {
-            self.first.insert(name.as_slice(), number)?;
+        // Most names are new, and a name is then hashed once.
+        match self.first.insert(name.as_slice(), number)? {
+            None => Ok(true),
+            Some(first) => {
+                self.first.insert(name.as_slice(), first)?;
+                Ok(false)
+            }
         }
-        Ok(())
     }
 
     /// The number that was added first with this name: none exactly where the name was not added.

@@ -11,7 +11,6 @@ mod index;
 mod laws;
 mod names;
 mod numbering;
-mod objects;
 mod parameters;
 mod reach;
 mod refusal;

@@ -1,30 +1,57 @@
-use Rattle.std.proofs.Common.{◌≡◌, ◌∷◌, ◌++◌, [], ◌∙◌, sym, ap, subst, cond, true, Some, ℕ, List}
+use Rattle.std.proofs.Common.{◌≡◌, ◌∷◌, ◌++◌, [], ◌∙◌, sym, ap, subst, cond, not, Some, None, Option, ℕ, List}
 use Rattle.std.specs.Option.{is_some}
 use Rattle.std.specs.Str.{bytes_eq}
 use Rattle.mp_typing.specs.Indexed.{Entry, number_of, SameNumbers}
-use Rattle.mp_typing.proofs.IndexLemmas.{entries_of, looked_up, known, added}
+use Rattle.mp_typing.proofs.IndexLemmas.{entries_of, looked_up, known, added, restored}
+use Rattle.mp_typing.proofs.index.Index.add.Goals.{In-None, In_ok-insert-in-Some}
 use Rattle.mp_typing.proofs.index.Index.add.Goals as goal
 
-pub returns-in_ok-insert : goal.returns-in_ok-insert
-returns-in_ok-insert c =
+-- a new name has no number
+absent : (c : In-None) → number_of c.args.name.now (entries_of c.self.inside.first.entries) ≡ None
+absent c =
+    let old = c.self.inside.first.entries in
+    ap (λ (k : List ℕ). number_of k (entries_of old)) (sym c.as_slice.ensures.bytes)
+    ∙ sym (looked_up c.as_slice.result.now old) ∙ sym c.in_ok-insert.ensures.old ∙ c.in-None.is
+
+-- and one that was added has that of its first entry
+first : (c : In_ok-insert-in-Some) → number_of c.args.name.now (entries_of c.self.inside.first.entries) ≡ Some c.in-Some.first
+first c =
+    let old = c.self.inside.first.entries in
+    ap (λ (k : List ℕ). number_of k (entries_of old)) (sym c.as_slice.ensures.bytes)
+    ∙ sym (looked_up c.as_slice.result.now old) ∙ sym c.in_ok-insert.ensures.old ∙ c.in-Some.is
+
+pub returns-in-None-clause-new : goal.returns-in-None-clause-new
+returns-in-None-clause-new c =
+    sym (ap (λ (es : List Entry). not (is_some (number_of c.args.name.now es))) (sym c.self.view_is) ∙ ap (λ (o : Option ℕ). not (is_some o)) (absent c))
+
+pub returns-in-None-clause-added : goal.returns-in-None-clause-added
+returns-in-None-clause-added c =
     let name = c.args.name.now in
     let old = c.self.inside.first.entries in
     let new = c.insert.new.self.entries in
-    let bytes = c.as_slice-then-not-contains_key.ensures.bytes in
-    let absent = ap (λ (k : List ℕ). is_some (number_of k (entries_of old))) (sym c.as_slice.ensures.bytes)
-    ∙ ap is_some (sym (looked_up c.as_slice.result.now old)) ∙ sym c.contains_key.ensures ∙ c.if-not-contains_key.true in
     let changed = λ (q : List ℕ).
     sym (looked_up q new) ∙ c.in_ok-insert.ensures.updates.0 record { ref_ptr = (0, 0); now = q }
-    ∙ ap (λ o. cond (bytes_eq c.as_slice-then-not-contains_key.result.now q) (Some c.args.number) o) (looked_up q old)
-    ∙ ap (λ (k : List ℕ). cond (bytes_eq k q) (Some c.args.number) (number_of q (entries_of old))) bytes in
+    ∙ ap (λ o. cond (bytes_eq c.as_slice.result.now q) (Some c.args.number) o) (looked_up q old)
+    ∙ ap (λ (k : List ℕ). cond (bytes_eq k q) (Some c.args.number) (number_of q (entries_of old))) c.as_slice.ensures.bytes in
     subst (λ (es : List Entry). SameNumbers (entries_of new) (es ++ record { name = name; number = c.args.number } ∷ [])) c.self.view_is
-    (added name c.args.number (entries_of old) (entries_of new) absent changed)
+    (added name c.args.number (entries_of old) (entries_of new) (ap is_some (absent c)) changed)
 
-pub returns-else-not-contains_key : goal.returns-else-not-contains_key
-returns-else-not-contains_key c =
+pub returns-in_ok-insert-in-Some-clause-new : goal.returns-in_ok-insert-in-Some-clause-new
+returns-in_ok-insert-in-Some-clause-new c =
+    sym (ap (λ (es : List Entry). not (is_some (number_of c.args.name.now es))) (sym c.self.view_is) ∙ ap (λ (o : Option ℕ). not (is_some o)) (first c))
+
+pub returns-in_ok-insert-in-Some-clause-added : goal.returns-in_ok-insert-in-Some-clause-added
+returns-in_ok-insert-in-Some-clause-added c = λ (q : List ℕ).
+    let name = c.args.name.now in
     let old = c.self.inside.first.entries in
-    let there : is_some (number_of c.as_slice.result.now (entries_of old)) ≡ true =
-    ap is_some (sym (looked_up c.as_slice.result.now old)) ∙ sym c.contains_key.ensures ∙ c.if-not-contains_key.false in
-    known c.args.name.now c.args.number c.args.self.now
-    (subst (λ (es : List Entry). is_some (number_of c.args.name.now es) ≡ true) c.self.view_is
-    (subst (λ (k : List ℕ). is_some (number_of k (entries_of old)) ≡ true) c.as_slice.ensures.bytes there))
+    let changed = c.insert.new.self.entries in
+    let new = c.insert-in-Some.new.self.entries in
+    let in_changed = sym (looked_up q changed) ∙ c.in_ok-insert.ensures.updates.0 record { ref_ptr = (0, 0); now = q }
+    ∙ ap (λ o. cond (bytes_eq c.as_slice.result.now q) (Some c.args.number) o) (looked_up q old)
+    ∙ ap (λ (k : List ℕ). cond (bytes_eq k q) (Some c.args.number) (number_of q (entries_of old))) c.as_slice.ensures.bytes in
+    let in_new = sym (looked_up q new) ∙ c.in_ok-insert-in-Some.ensures.updates.0 record { ref_ptr = (0, 0); now = q }
+    ∙ ap (λ o. cond (bytes_eq c.as_slice-in-Some.result.now q) (Some c.in-Some.first) o) (looked_up q changed ∙ in_changed)
+    ∙ ap (λ (k : List ℕ). cond (bytes_eq k q) (Some c.in-Some.first) (cond (bytes_eq name q) (Some c.args.number) (number_of q (entries_of old)))) c.as_slice-in-Some.ensures.bytes in
+    in_new ∙ restored name q c.args.number c.in-Some.first (entries_of old) (first c)
+    ∙ ap (λ (es : List Entry). number_of q es) c.self.view_is
+    ∙ known name c.args.number c.args.self.now (ap (λ (es : List Entry). is_some (number_of name es)) (sym c.self.view_is) ∙ ap is_some (first c)) q
