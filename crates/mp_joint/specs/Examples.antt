@@ -1,13 +1,17 @@
 -- Worked factors, all without parameters.
-use Rattle.std.specs.Prelude.{ℕ, true, false, List, [], ◌∷◌, map, codes}
+use Rattle.std.specs.Prelude.{ℕ, true, false, List, [], ◌∷◌, None, map, codes}
+use Rattle.std.specs.Str.{bytes_eq}
 use Rattle.mp_factor.specs.declared.word.Word.{Word}
 use Rattle.mp_factor.specs.declared.signature_values.Signature.{Signature}
 use Rattle.mp_factor.specs.declared.atom_values.Atom.{Atom}
 use Rattle.mp_factor.specs.declared.literal.Literal.{Literal}
 use Rattle.mp_factor.specs.declared.schema_values.Schema.{Schema}
 use Rattle.mp_factor.specs.declared.factor.Factor.{Factor}
+use Rattle.mp_joint.specs.declared.fact.NamedFact.{NamedFact}
 use Rattle.mp_joint.specs.declared.plan.PlanStep.{PlanStep}
-use Rattle.mp_joint.specs.Fact.{Text}
+use Rattle.mp_joint.specs.Fact.{Text, is_among}
+use Rattle.mp_joint.specs.Grounded.{Setting}
+use Rattle.mp_joint.specs.Instance.{Instance}
 
 abbrev pub word : Text → Word
 word name = record { name = name; at = record { line = 1; column = 1 } }
@@ -100,3 +104,27 @@ keeping = factor (private_predicate (codes "done") ∷ []) [] [] (negated (codes
 -- And a public `done` that no action changes.
 abbrev pub telling : Factor
 telling = factor (public_predicate (codes "done") ∷ []) [] [] []
+
+-- ---- instances, before and after grounding
+
+-- a public fact without objects
+abbrev pub fact : Text → NamedFact
+fact name = record { owner = None; predicate = name; args = [] }
+
+-- `road` never changes and is there at the start, `busy` and `on` have complements
+abbrev pub with_a_road : Setting
+with_a_road = record {
+  is_static = bytes_eq (codes "road");
+  is_negated = λ name. is_among (fact name) (fact (codes "busy") ∷ fact (codes "on") ∷ []);
+  start = λ f. is_among f (fact (codes "road") ∷ []);
+}
+
+-- an instance by its facts, at cost 1
+abbrev pub instance : List Text → List Text → List Text → List Text → Instance
+instance positive negative add del = record {
+  positive = map fact positive;
+  negative = map fact negative;
+  add = map fact add;
+  del = map fact del;
+  cost = 1;
+}

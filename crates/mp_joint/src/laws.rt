@@ -1,7 +1,9 @@
 //! Worked teams. Each law is the contract of a function that does nothing.
 
 ghost use Rattle.std.specs.Prelude.{◌≡◌, [], ◌∷◌, true, false, codes};
-ghost use Rattle.mp_joint.specs.Examples.{clearing, crossing, waiting, holding, doing, keeping, telling, step};
+ghost use Rattle.mp_joint.specs.Examples.{clearing, crossing, waiting, holding, doing, keeping, telling, step, fact, instance, with_a_road};
+ghost use Rattle.mp_joint.specs.Fact.{plain, complement};
+ghost use Rattle.mp_joint.specs.Grounded.{suits_start, needed, added, deleted};
 ghost use Rattle.mp_joint.specs.FactorContribution.{team_of};
 ghost use Rattle.mp_joint.specs.Plan.{Solves, cost};
 ghost use Rattle.mp_joint.specs.Static.{is_static, is_negated};
@@ -33,4 +35,22 @@ pub fn worked_predicates()
     ensures negated_by_none { is_negated (clearing ∷ crossing ∷ []) crossing (codes "over") ≡ false }
     ensures private_negated { is_negated (doing ∷ keeping ∷ telling ∷ []) keeping (codes "done") ≡ true }
     ensures public_not_negated { is_negated (doing ∷ keeping ∷ telling ∷ []) telling (codes "done") ≡ false }
+{}
+
+/// Static preconditions are looked at once, at the start, whether they are to be true or false, and left out; each
+/// other negative one is a complement. What takes a fact away adds its complement, and what adds it takes the
+/// complement away; what does both leaves the fact true and the complement false.
+pub fn worked_groundings()
+    ensures suits { suits_start with_a_road (instance (codes "road" ∷ codes "on" ∷ []) [] [] []) ≡ true }
+    ensures unsuited { suits_start with_a_road (instance [] (codes "road" ∷ codes "on" ∷ []) [] []) ≡ false }
+    ensures needed { needed with_a_road (instance (codes "road" ∷ codes "on" ∷ []) (codes "busy" ∷ []) [] [])
+        ≡ plain (fact (codes "on")) ∷ complement (fact (codes "busy")) ∷ [] }
+    ensures taken_away { added with_a_road (instance [] [] [] (codes "busy" ∷ codes "off" ∷ []))
+        ≡ complement (fact (codes "busy")) ∷ [] }
+    ensures made_true { deleted with_a_road (instance [] [] (codes "busy" ∷ codes "off" ∷ []) [])
+        ≡ complement (fact (codes "busy")) ∷ [] }
+    ensures both_add { added with_a_road (instance [] [] (codes "on" ∷ []) (codes "on" ∷ []))
+        ≡ plain (fact (codes "on")) ∷ [] }
+    ensures both_delete { deleted with_a_road (instance [] [] (codes "on" ∷ []) (codes "on" ∷ []))
+        ≡ plain (fact (codes "on")) ∷ complement (fact (codes "on")) ∷ [] }
 {}

@@ -7,7 +7,7 @@ mod laws;
 mod plan;
 
 pub use fact::{NamedFact, SignedFact, SignedFactList};
-pub use laws::{worked_plans, worked_predicates};
+pub use laws::{worked_groundings, worked_plans, worked_predicates};
 pub use mp_sets::Agent;
 pub use plan::{JointPlan, Names, PlanStep};
 

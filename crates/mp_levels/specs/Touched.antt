@@ -1,13 +1,13 @@
--- What an instance asks for and does once static preconditions are left out and complements are
--- facts.
-use Rattle.std.specs.Prelude.{◌≡◌, ◌⊎◌, ℕ, zero, suc, ◌&&◌, ◌||◌, not, Bool, List, ◌++◌, map, filter, Option, None, Some, Contains, IsTrue, slice_get}
-use Rattle.std.specs.List.{list_all}
+-- What the instances of a team's factors ask for and do once static preconditions are left out and
+-- complements are facts.
+use Rattle.std.specs.Prelude.{◌≡◌, ◌⊎◌, ℕ, zero, suc, Bool, List, ◌++◌, map, Option, None, Some, Contains, IsTrue, slice_get}
 use Rattle.mp_factor.specs.declared.factor.Factor.{Factor}
 use Rattle.mp_joint.specs.declared.fact.NamedFact.{NamedFact}
 use Rattle.mp_joint.specs.declared.fact.SignedFact.{SignedFact}
 use Rattle.mp_joint.specs.declared.plan.PlanStep.{PlanStep}
-use Rattle.mp_joint.specs.Fact.{is_among, plain, complement}
+use Rattle.mp_joint.specs.Fact.{plain, complement}
 use Rattle.mp_joint.specs.FactorContribution.{team_of}
+use Rattle.mp_joint.specs.Grounded.{Setting, is_static_fact as is_static_in, has_complement as has_complement_in, suits_start as suits_start_in, needed as needed_in, added as added_in, deleted as deleted_in}
 use Rattle.mp_joint.specs.Instance.{Instance}
 use Rattle.mp_joint.specs.Plan.{instance_of, joint_start, joint_goal, joint_never}
 use Rattle.mp_joint.specs.Static.{is_static, is_negated}
@@ -17,36 +17,34 @@ abbrev pub factor_of : List Factor → ℕ → Option Factor
 factor_of team zero = None
 factor_of team (suc k) = slice_get team k
 
+-- what is known of the predicates of a factor of the team, and the joint start
+abbrev pub setting_of : List Factor → Factor → Setting
+setting_of team factor =
+    record {
+      is_static = is_static team factor;
+      is_negated = is_negated team factor;
+      start = joint_start (team_of team);
+    }
+
 -- a fact that an action of this factor has is static, or has a complement
 abbrev pub is_static_fact : List Factor → Factor → NamedFact → Bool
-is_static_fact team factor f = is_static team factor f.predicate
+is_static_fact team factor = is_static_in (setting_of team factor)
 
 abbrev pub has_complement : List Factor → Factor → NamedFact → Bool
-has_complement team factor f = is_negated team factor f.predicate
+has_complement team factor = has_complement_in (setting_of team factor)
 
--- the static preconditions of an instance are as the start has them: the positive ones true, the
--- negative ones false
+-- what an instance of this factor asks of the start, needs, adds and deletes
 abbrev pub suits_start : List Factor → Factor → Instance → Bool
-suits_start team factor i =
-    list_all (λ f. not (is_static_fact team factor f) || joint_start (team_of team) f) i.positive
-    && list_all (λ f. not (is_static_fact team factor f && joint_start (team_of team) f)) i.negative
+suits_start team factor = suits_start_in (setting_of team factor)
 
--- the other preconditions, a negative one as the complement
 abbrev pub needed : List Factor → Factor → Instance → List SignedFact
-needed team factor i =
-    map plain (filter (λ f. not (is_static_fact team factor f)) i.positive)
-    ++ map complement (filter (λ f. not (is_static_fact team factor f)) i.negative)
+needed team factor = needed_in (setting_of team factor)
 
--- the adds, and the complements of those deletes that are no adds
 abbrev pub added : List Factor → Factor → Instance → List SignedFact
-added team factor i =
-    map plain i.add
-    ++ map complement (filter (λ f. has_complement team factor f && not (is_among f i.add)) i.del)
+added team factor = added_in (setting_of team factor)
 
--- the deletes, and the complements of the adds
 abbrev pub deleted : List Factor → Factor → Instance → List SignedFact
-deleted team factor i =
-    map plain i.del ++ map complement (filter (λ f. has_complement team factor f) i.add)
+deleted team factor = deleted_in (setting_of team factor)
 
 -- a step of the team stands for this instance of this factor, whose static preconditions suit the
 -- start
