@@ -1,0 +1,8 @@
+-- in reading order: a way leaves a witness; an ordered plan is a way; a way is a plan; changes keep what is explored; what each plan
+-- leaves; the worked team
+pub mod Witnesses
+pub mod TeamWays
+pub mod WaysArePlans
+pub mod Changing
+pub mod PlanWitness
+pub mod WorkedTeam
