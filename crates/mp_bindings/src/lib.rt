@@ -1,0 +1,16 @@
+//! Bindings: lists of objects, one for each parameter, that pass a test (`specs/Bindings.antt`).
+#![tactic(auto)]
+
+mod choices;
+mod enumeration;
+mod laws;
+mod stop;
+mod takes;
+#[cfg(test)]
+mod tests;
+
+pub use choices::Choices;
+pub use enumeration::walk;
+pub use laws::bindings_rise;
+pub use stop::Stop;
+pub use takes::TakesBindings;

@@ -1,0 +1,99 @@
+-- Names that are declared, one declaration after another.
+use Rattle.std.proofs.Common.{◌≡◌, ℕ, Bool, true, false, ◌||◌, not, List, [], ◌∷◌, ◌++◌, map, refl, sym, ap, ◌∙◌, inl, inr}
+use Rattle.std.specs.Str.{bytes_eq}
+use Rattle.std.proofs.lemmas.Bool.{cases_Bool, or_cases}
+use Rattle.std.proofs.lemmas.List.{append-nil, map-append}
+use Rattle.std.proofs.lemmas.List.Elements.{filter-append}
+use Rattle.std.proofs.lemmas.Slice.Eq.{bytes_eq-Decides}
+use Rattle.mp_factor.specs.declared.typed_values.Typed.{Typed}
+use Rattle.mp_names.specs.Numbers.{is_named}
+use Rattle.mp_typing.specs.ObjectList.{others, first_declared}
+use Rattle.mp_joint.specs.Fact.{Text}
+use Rattle.mp_lifted.specs.Vocabulary.{declared_names}
+
+abbrev names_in : List Typed → List Text
+names_in declared = map (λ o. o.word.name) declared
+
+-- a name stands among those of other names where it stands among all
+kept : (n name : Text) (ts : List Typed) → bytes_eq name n ≡ false → is_named (names_in (others n ts)) name ≡ is_named (names_in ts) name
+kept n name [] apart = refl
+kept n name (t ∷ ts) apart =
+    elim (cases_Bool (bytes_eq t.word.name n)) [
+      | inl same ↦
+          let out : others n (t ∷ ts) ≡ others n ts = rw same refl in
+          let is : t.word.name ≡ n = (bytes_eq-Decides t.word.name n).0 same in
+          let no : bytes_eq name t.word.name ≡ false = ap (bytes_eq name) is ∙ apart in
+          ap (λ (us : List Typed). is_named (names_in us) name) out ∙ kept n name ts apart
+          ∙ sym (ap (λ (b : Bool). b || is_named (names_in ts) name) no)
+      | inr other ↦
+          let stays : others n (t ∷ ts) ≡ t ∷ others n ts = rw other refl in
+          ap (λ (us : List Typed). is_named (names_in us) name) stays
+          ∙ ap (λ (b : Bool). bytes_eq name t.word.name || b) (kept n name ts apart)
+    ]
+
+-- the first declarations have the names of all
+first_named : (ts : List Typed) (name : Text) → is_named (declared_names ts) name ≡ is_named (names_in ts) name
+unfolding first_declared
+first_named [] name = refl
+first_named (t ∷ ts) name =
+    elim (cases_Bool (bytes_eq name t.word.name)) [
+      | inl here ↦
+          ap (λ (b : Bool). b || is_named (names_in (others t.word.name (first_declared ts))) name) here
+          ∙ sym (ap (λ (b : Bool). b || is_named (names_in ts) name) here)
+      | inr apart ↦
+          ap (λ (b : Bool). bytes_eq name t.word.name || b) (kept t.word.name name (first_declared ts) apart ∙ first_named ts name)
+    ]
+
+-- a declaration of a name that is not declared yet
+with_new : (ds : List Typed) (t : Typed) → is_named (names_in ds) t.word.name ≡ false → first_declared (ds ++ t ∷ []) ≡ first_declared ds ++ t ∷ []
+unfolding first_declared
+with_new [] t h = refl
+with_new (d ∷ ds) t h =
+    elim (cases_Bool (bytes_eq t.word.name d.word.name)) [
+      | inl same ↦ absurd (let yes : (bytes_eq t.word.name d.word.name || is_named (names_in ds) t.word.name) ≡ true = rw same refl in let no = sym yes ∙ h in cc)
+      | inr other ↦
+          let absent : is_named (names_in ds) t.word.name ≡ false = sym (ap (λ b. b || is_named (names_in ds) t.word.name) other) ∙ h in
+          let one : others d.word.name (t ∷ []) ≡ t ∷ [] = rw other refl in
+          ap (λ (ts : List Typed). d ∷ ts)
+          (ap (others d.word.name) (with_new ds t absent) ∙ filter-append (λ (u : Typed). not (bytes_eq u.word.name d.word.name)) (first_declared ds) (t ∷ [])
+          ∙ ap (λ (ts : List Typed). others d.word.name (first_declared ds) ++ ts) one)
+    ]
+
+-- and of one that is
+with_old : (ds : List Typed) (t : Typed) → is_named (names_in ds) t.word.name ≡ true → first_declared (ds ++ t ∷ []) ≡ first_declared ds
+unfolding first_declared
+with_old [] t h = absurd (cc)
+with_old (d ∷ ds) t h =
+    elim (cases_Bool (is_named (names_in ds) t.word.name)) [
+      | inl before ↦ ap (λ (ts : List Typed). d ∷ others d.word.name ts) (with_old ds t before)
+      | inr absent ↦
+          let same : bytes_eq t.word.name d.word.name ≡ true =
+          elim (or_cases (bytes_eq t.word.name d.word.name) (is_named (names_in ds) t.word.name) h) [
+            | inl is ↦ is
+            | inr before ↦ absurd (let no = sym before ∙ absent in cc)
+          ] in
+          let none : others d.word.name (t ∷ []) ≡ [] = rw same refl in
+          ap (λ (ts : List Typed). d ∷ ts)
+          (ap (others d.word.name) (with_new ds t absent) ∙ filter-append (λ (u : Typed). not (bytes_eq u.word.name d.word.name)) (first_declared ds) (t ∷ [])
+          ∙ ap (λ (ts : List Typed). others d.word.name (first_declared ds) ++ ts) none ∙ append-nil (others d.word.name (first_declared ds)))
+    ]
+
+-- nothing is declared
+pub none_named : [] ≡ declared_names []
+unfolding first_declared
+none_named = refl
+
+-- a new name is put behind the others
+pub named_new : (ds : List Typed) (t : Typed) (names new : List Text) → names ≡ declared_names ds → is_named names t.word.name ≡ false
+    → new ≡ names ++ t.word.name ∷ [] → new ≡ declared_names (ds ++ t ∷ [])
+named_new ds t names new so_far absent is =
+    let first = sym (first_named ds t.word.name) ∙ sym (ap (λ (ns : List Text). is_named ns t.word.name) so_far) ∙ absent in
+    is ∙ ap (λ (ns : List Text). ns ++ t.word.name ∷ []) so_far
+    ∙ sym (ap names_in (with_new ds t first) ∙ map-append (λ (o : Typed). o.word.name) (first_declared ds) (t ∷ []))
+
+-- and one that is there changes nothing
+pub named_old : (ds : List Typed) (t : Typed) (names : List Text) → names ≡ declared_names ds → is_named names t.word.name ≡ true
+    → names ≡ declared_names (ds ++ t ∷ [])
+named_old ds t names so_far there =
+    let first = sym (first_named ds t.word.name) ∙ sym (ap (λ (ns : List Text). is_named ns t.word.name) so_far) ∙ there in
+    so_far ∙ sym (ap names_in (with_old ds t first))

@@ -1,0 +1,6 @@
+use Rattle.std.proofs.Common.{◌≡◌, map, take}
+use Rattle.mp_lifted.specs.Lifting.{lifted_atom}
+use Rattle.mp_lifted.proofs.actions.lifted_atoms.Given as goal
+
+abbrev pub invariant-loop-atom : goal.invariant-loop-atom
+invariant-loop-atom l = l.made ≡ map (lifted_atom l.vocabulary l.params) (take l.atom-index l.atoms)

@@ -1,0 +1,16 @@
+use Rattle.std.proofs.Common.{◌≡◌, ◌&&◌, not, map, take}
+use Rattle.std.specs.Prelude.{filter, if◌then◌else◌}
+use Rattle.mp_factor.specs.declared.literal.Literal.{Literal}
+use Rattle.mp_lifted.specs.Lifting.{lifted_atom}
+use Rattle.mp_lifted.specs.Views.{is_of}
+use Rattle.mp_lifted.proofs.Parts.{has_sign}
+use Rattle.mp_lifted.proofs.actions.parted.Given as goal
+
+abbrev pub invariant-loop-literal : goal.invariant-loop-literal
+invariant-loop-literal l =
+    l.made ≡ map (λ (t : Literal). lifted_atom l.vocabulary l.params t.atom)
+    (filter
+    (λ (t : Literal). has_sign l.positive t
+    && (if l.changed then is_of l.shown.privates l.shown.own l.shown.shown t.atom.word.name
+    else not (is_of l.shown.privates l.shown.own l.shown.shown t.atom.word.name)))
+    (take l.literal-index l.pre))

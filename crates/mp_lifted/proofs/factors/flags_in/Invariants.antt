@@ -1,0 +1,6 @@
+use Rattle.std.proofs.Common.{◌≡◌, Bor, map, take}
+use Rattle.mp_joint.specs.Fact.{Text, is_listed}
+use Rattle.mp_lifted.proofs.factors.flags_in.Given as goal
+
+abbrev pub invariant-loop-name : goal.invariant-loop-name
+invariant-loop-name l = l.flags ≡ map (λ (n : Bor Text). is_listed n.now l.table) (take l.name-index l.names)

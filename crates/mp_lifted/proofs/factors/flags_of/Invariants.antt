@@ -1,0 +1,8 @@
+use Rattle.std.proofs.Common.{◌≡◌, map, take}
+use Rattle.mp_factor.specs.declared.signature_values.Signature.{Signature}
+use Rattle.mp_lifted.specs.Views.{is_of}
+use Rattle.mp_lifted.proofs.factors.flags_of.Given as goal
+
+abbrev pub invariant-loop-signature : goal.invariant-loop-signature
+invariant-loop-signature l =
+    l.flags ≡ map (λ (s : Signature). is_of l.shown.privates l.shown.own l.shown.shown s.word.name) (take l.signature-index l.predicates)

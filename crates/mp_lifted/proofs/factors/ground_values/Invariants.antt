@@ -1,0 +1,11 @@
+use Rattle.std.proofs.Common.{◌≡◌, map, take}
+use Rattle.std.specs.Prelude.{not, filter}
+use Rattle.mp_factor.specs.declared.init_values.Value.{Value}
+use Rattle.mp_lifted.specs.Lifting.{is_total_cost}
+use Rattle.mp_lifted.specs.Factors.{ground_value}
+use Rattle.mp_lifted.proofs.factors.ground_values.Given as goal
+
+abbrev pub invariant-loop-value : goal.invariant-loop-value
+invariant-loop-value l =
+    l.made ≡ map (ground_value l.vocabulary)
+    (filter (λ (v : Value). not (is_total_cost v.of)) (take l.value-index l.values))

@@ -1,0 +1,6 @@
+use Rattle.std.proofs.Common.{◌≡◌, ◌++◌, take}
+use Rattle.mp_lifted.specs.Views.{predicates_of}
+use Rattle.mp_lifted.proofs.shown.add_atoms.Given as goal
+
+abbrev pub invariant-loop-atom : goal.invariant-loop-atom
+invariant-loop-atom l = l.table ≡ l.fn.table ++ predicates_of (take l.atom-index l.atoms)

@@ -1,0 +1,7 @@
+use Rattle.std.proofs.Common.{◌≡◌, ◌++◌, take}
+use Rattle.mp_joint.specs.Grounding.{negated_atoms}
+use Rattle.mp_lifted.specs.Views.{predicates_of}
+use Rattle.mp_lifted.proofs.shown.add_negated.Given as goal
+
+abbrev pub invariant-loop-literal : goal.invariant-loop-literal
+invariant-loop-literal l = l.table ≡ l.fn.table ++ predicates_of (negated_atoms (take l.literal-index l.literals))

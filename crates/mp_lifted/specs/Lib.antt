@@ -1,0 +1,5 @@
+pub mod Texts
+pub mod Views
+pub mod Vocabulary
+pub mod Lifting
+pub mod Factors

@@ -1,0 +1,140 @@
+//! Actions in numbers.
+
+ghost use Rattle.std.specs.Prelude.{◌≡◌, ◌&&◌, not, map, IfOk, if◌then◌else◌};
+ghost use Rattle.mp_joint.specs.Grounding.{asked_atoms, negated_atoms};
+ghost use Rattle.mp_lifted.specs.Lifting.{lifted_amount as amount_of, amounts_of, lifted_atom as atom_of, lifted_where as atoms_where, lifted_action as action_of};
+ghost use Rattle.mp_lifted.specs.Views.{is_of};
+
+use crate::atoms::{has_sign, lifted_amount, lifted_with};
+use crate::lifted::{Amount, LiftedAction, LiftedAtom};
+use crate::members::all_members;
+use crate::shown::Shown;
+use crate::vocabulary::Vocabulary;
+use mp_factor::{AtomList, IncreaseList, Literal, LiteralList, Schema, TypedList};
+use mp_list::{List, OutOfMemory};
+use mp_sexp::Name;
+use mp_typing::CheckedFactor;
+use std::alloc::Global;
+
+/// Whether a predicate is changed by actions, or whether it is static.
+fn is_wanted(shown: &Shown<'_>, changed: bool, predicate: &Name) -> bool
+    ensures { result ≡ (if changed then is_of shown.now.privates shown.now.own shown.now.shown predicate.now
+        else not (is_of shown.now.privates shown.now.own shown.now.shown predicate.now)) }
+{
+    if changed {
+        shown.holds(predicate)
+    } else {
+        !shown.holds(predicate)
+    }
+}
+
+/// Whether a literal is one that a condition asks for, or has under `not`, and actions change its predicate, or it is
+/// static.
+fn is_in_part(shown: &Shown<'_>, literal: &Literal, positive: bool, changed: bool) -> bool
+    ensures { result ≡ ((if positive then literal.now.positive else not literal.now.positive)
+        && (if changed then is_of shown.now.privates shown.now.own shown.now.shown literal.now.atom.word.name
+        else not (is_of shown.now.privates shown.now.own shown.now.shown literal.now.atom.word.name))) }
+{
+    has_sign(literal, positive) && is_wanted(shown, changed, &literal.atom.word.name)
+}
+
+/// The atoms of a condition in numbers that it asks for, or has under `not`, and whose predicates actions change, or
+/// are static.
+fn parted(
+    alloc: Global,
+    vocabulary: &Vocabulary<'_>,
+    shown: &Shown<'_>,
+    params: &TypedList,
+    pre: &LiteralList,
+    positive: bool,
+    changed: bool,
+) -> Result<List<LiftedAtom>, OutOfMemory>
+    ensures { IfOk result (λ made. made ≡ atoms_where vocabulary.now
+        (λ p. if changed then is_of shown.now.privates shown.now.own shown.now.shown p
+        else not (is_of shown.now.privates shown.now.own shown.now.shown p))
+        params.now
+        (if positive then asked_atoms pre.now else negated_atoms pre.now)) }
+{
+    let names = &vocabulary.predicates;
+    let mut made = List::new(alloc);
+    for literal in pre.as_slice() {
+        if is_in_part(shown, literal, positive, changed) {
+            made.push(lifted_with(alloc, names, vocabulary, params, &literal.atom)?)?;
+        }
+    }
+    Ok(made)
+}
+
+/// Atoms in numbers.
+fn lifted_atoms(
+    alloc: Global,
+    vocabulary: &Vocabulary<'_>,
+    params: &TypedList,
+    atoms: &AtomList,
+) -> Result<List<LiftedAtom>, OutOfMemory>
+    ensures { IfOk result (λ made. made ≡ map (atom_of vocabulary.now params.now) atoms.now) }
+{
+    let mut made = List::with_capacity(alloc, atoms.len())?;
+    for atom in atoms.as_slice() {
+        made.push(lifted_with(alloc, &vocabulary.predicates, vocabulary, params, atom)?)?;
+    }
+    Ok(made)
+}
+
+/// What increases add, in numbers.
+fn lifted_amounts(
+    alloc: Global,
+    vocabulary: &Vocabulary<'_>,
+    params: &TypedList,
+    increases: &IncreaseList,
+) -> Result<List<Amount>, OutOfMemory>
+    ensures { IfOk result (λ made. made ≡ map (amount_of vocabulary.now params.now) increases.now) }
+{
+    let mut made = List::with_capacity(alloc, increases.len())?;
+    for increase in increases.as_slice() {
+        made.push(lifted_amount(alloc, vocabulary, params, increase)?)?;
+    }
+    Ok(made)
+}
+
+/// What the cost of an action is the sum of.
+fn amounts(
+    alloc: Global,
+    vocabulary: &Vocabulary<'_>,
+    metric: bool,
+    schema: &Schema,
+) -> Result<List<Amount>, OutOfMemory>
+    ensures { IfOk result (λ made. made ≡ amounts_of vocabulary.now metric schema.now) }
+{
+    if metric {
+        return lifted_amounts(alloc, vocabulary, &schema.params, &schema.increases);
+    }
+    let mut made = List::with_capacity(alloc, 1)?;
+    made.push(Amount::Number(1))?;
+    Ok(made)
+}
+
+/// An action in numbers.
+pub fn lifted_action(
+    alloc: Global,
+    vocabulary: &Vocabulary<'_>,
+    shown: &Shown<'_>,
+    factor: &CheckedFactor,
+    schema: &Schema,
+) -> Result<LiftedAction, OutOfMemory>
+    ensures { IfOk result (λ made. made ≡ action_of vocabulary.now
+        (is_of shown.now.privates shown.now.own shown.now.shown) factor.now schema.now) }
+{
+    let params = &schema.params;
+    let metric = factor.factor().problem.metric;
+    Ok(LiftedAction {
+        members: all_members(alloc, factor, params)?,
+        static_positive: parted(alloc, vocabulary, shown, params, &schema.pre, true, false)?,
+        static_negative: parted(alloc, vocabulary, shown, params, &schema.pre, false, false)?,
+        positive: parted(alloc, vocabulary, shown, params, &schema.pre, true, true)?,
+        negative: parted(alloc, vocabulary, shown, params, &schema.pre, false, true)?,
+        add: lifted_atoms(alloc, vocabulary, params, &schema.add)?,
+        del: lifted_atoms(alloc, vocabulary, params, &schema.del)?,
+        amounts: amounts(alloc, vocabulary, metric, schema)?,
+    })
+}

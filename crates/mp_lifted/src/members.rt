@@ -1,0 +1,64 @@
+//! The objects that may stand for parameters.
+
+ghost use Rattle.std.specs.Prelude.{◌≡◌, map, IfOk};
+ghost use Rattle.mp_typing.specs.Members.{Members};
+ghost use Rattle.mp_typing.specs.Names.{names_of as names_in};
+ghost use Rattle.mp_typing.specs.ObjectList.{object_list};
+ghost use Rattle.mp_lifted.specs.Lifting.{members_of as numbers_of};
+
+use crate::atoms::short;
+use mp_factor::{Typed, TypedList, WordList};
+use mp_list::{Copied, List, OutOfMemory};
+use mp_typing::{CheckedFactor, ObjectList, TypeList};
+use std::alloc::Global;
+
+/// The names of words.
+fn names_of(alloc: Global, words: &WordList) -> Result<TypeList, OutOfMemory>
+    ensures { IfOk result (λ names. names ≡ names_in words.now) }
+{
+    let mut names = List::with_capacity(alloc, words.len())?;
+    for word in words.as_slice() {
+        names.push(word.name.copy()?)?;
+    }
+    Ok(names)
+}
+
+/// Numbers of 32 bits.
+fn short_numbers(alloc: Global, numbers: &ObjectList) -> Result<List<u32>, OutOfMemory>
+    ensures { IfOk result (λ made. made ≡ numbers.now) }
+{
+    let mut made = List::with_capacity(alloc, numbers.len())?;
+    for number in numbers.as_slice() {
+        made.push(short(*number as usize)?)?;
+    }
+    Ok(made)
+}
+
+/// The numbers of the objects that may stand for a parameter, in object order.
+fn members_of(
+    alloc: Global,
+    factor: &CheckedFactor,
+    param: &Typed,
+) -> Result<List<u32>, OutOfMemory>
+    ensures { IfOk result (λ made. made ≡ numbers_of factor.now param.now) }
+{
+    let asked = names_of(alloc, &param.types)?;
+    let numbers = factor.members(&asked)?;
+    let made = short_numbers(alloc, &numbers)?;
+    Ok(made)
+}
+
+/// For each of these parameters the objects that may stand for it.
+pub fn all_members(
+    alloc: Global,
+    factor: &CheckedFactor,
+    params: &TypedList,
+) -> Result<List<List<u32>>, OutOfMemory>
+    ensures { IfOk result (λ made. made ≡ map (numbers_of factor.now) params.now) }
+{
+    let mut made = List::with_capacity(alloc, params.len())?;
+    for param in params.as_slice() {
+        made.push(members_of(alloc, factor, param)?)?;
+    }
+    Ok(made)
+}

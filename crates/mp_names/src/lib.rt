@@ -1,0 +1,11 @@
+//! Names with numbers.
+#![tactic(auto)]
+
+mod laws;
+mod table;
+
+pub use laws::numbers_are_places;
+pub use table::NameTable;
+
+#[cfg(test)]
+mod tests;
