@@ -1,6 +1,6 @@
 -- Own actions one after another, and the expansion of an entry.
-use Rattle.std.proofs.Common.{Ok, Err, ◌≡◌, ℕ, ◌+◌, ◌<◌, ◌≤◌, Bool, true, false, cond, List, [], ◌∷◌, ◌++◌, length, drop, Option, Some, None, refl, sym, ap, subst, ◌∙◌, arith}
-use Rattle.std.specs.Prelude.{if◌then◌else◌, slice_get, slice_set, option_map, Contains}
+use Rattle.std.proofs.Common.{Result, Ok, Err, ◌≡◌, ℕ, ◌+◌, ◌<◌, ◌≤◌, Bool, true, false, cond, List, [], ◌∷◌, ◌++◌, length, drop, Option, Some, None, refl, sym, ap, subst, ◌∙◌, arith}
+use Rattle.std.specs.Prelude.{if◌then◌else◌, slice_get, slice_set, option_map, Contains, IfOk, IsSomeAnd}
 use Rattle.std.specs.Option.{option_map_or}
 use Rattle.std.proofs.lemmas.List.{append-nil, append_assoc, drop_all, drop_more, get_or-set_same, length-set}
 use Rattle.std.proofs.lemmas.Option.{get_or_from_slice_get, slice_get_within}
@@ -9,6 +9,7 @@ use Rattle.mp_task.specs.declared.act.Act.{Act}
 use Rattle.mp_task.specs.AgentTask.{AgentTask}
 use Rattle.mp_store.specs.declared.entry.Entry.{Entry}
 use Rattle.mp_store.specs.Record.{Record, is_open}
+use Rattle.mp_list.specs.declared.memory.OutOfMemory.{OutOfMemory}
 use Rattle.mp_list.specs.First.{earlier, leftmost}
 use Rattle.mp_list.proofs.Members.{contains_head, contains_tail}
 use Rattle.mp_store.specs.declared.entry.Mark.TheVariants.{Expanded}
@@ -21,6 +22,8 @@ use Rattle.mp_search.specs.Expansion.{Parent, and_then, answered, expanded, expa
 use Rattle.mp_search.specs.Search.{SearchRecord, is_open_below, is_spent}
 use Rattle.mp_search.specs.StateKeys.{KeptStates}
 use Rattle.mp_search.specs.Steps.{AreStatesOf, HaveSent}
+use Rattle.mp_search.proofs.KeyedStates.{entry_told}
+use Rattle.mp_search.proofs.SendingSteps.{entry_inside}
 
 -- the items from a place inside on
 drop_at : {X : Type 0} (xs : List X) (i : ℕ) (x : X) → slice_get xs i ≡ Some x → drop i xs ≡ x ∷ drop (i + 1) xs
@@ -148,6 +151,32 @@ module _ (r : Record AgentState) (n : ℕ) (o : Option ℕ) (new : Record AgentS
   pub popped_inside : n < length new.entries
   popped_inside =
       subst (λ (m : ℕ). n < m) (sym (ap (λ (k : Record AgentState). length k.entries) popped_kept ∙ closed_length n r)) (least_inside r n popped_least)
+
+-- ---- the expansion of the entry that was closed
+
+module _ (t : AgentTask) (value : Numbers → Numbers → Option ℕ) (n : ℕ) (r popped after : Record AgentState)
+    (least : least_open r ≡ Some n) (popped_is : popped ≡ closed n r) where
+  abbrev IsDone : List Sending → Entry AgentState → Type 0
+  IsDone out e = (out, after) ≡ with_actions t value (record { number = n; state = e.key; g = e.g }) 0 t.acts popped
+
+  entry_expanded : (out : List Sending) → IsSomeAnd (slice_get popped.entries n) (IsDone out) → (expansions : ℕ)
+      → (out, record { kept = after; expansions = expansions + 1 }) ≡ expanded t value (record { kept = r; expansions = expansions })
+  entry_expanded out done expansions =
+      let told = entry_told (IsDone out) (slice_get popped.entries n) done in
+      let p : Parent = record { number = n; state = told.0.key; g = told.0.g } in
+      let is : slice_get (closed n r).entries n ≡ Some told.0 = ap (λ (k : Record AgentState). slice_get k.entries n) (sym popped_is) ∙ told.1 in
+      let before = entry_inside r.entries n (least_inside r n least) in
+      let entry = closed_entry n r before.0 told.0 before.1 is in
+      least_expanded t value n expansions r out after least told.0 is
+      (ap (λ (x : List Sending × Record AgentState). x.0) told.2 ∙ (λ j. (with_actions t value p 0 t.acts (popped_is j)).0))
+      (ap (λ (x : List Sending × Record AgentState). x.1) told.2 ∙ (λ j. (with_actions t value p 0 t.acts (popped_is j)).1))
+      before.0 before.1 (sym (ap (λ (x : Entry AgentState). x.key) entry)) (sym (ap (λ (x : Entry AgentState). x.g) entry))
+
+  pub if_expanded : (res : Result (List Sending) OutOfMemory) → IfOk res (λ out. IsSomeAnd (slice_get popped.entries n) (IsDone out))
+      → IfOk res (λ out. (expansions : ℕ)
+      → (out, record { kept = after; expansions = expansions + 1 }) ≡ expanded t value (record { kept = r; expansions = expansions }))
+  if_expanded (Ok out) done = entry_expanded out done
+  if_expanded (Err e) done = tt
 
 -- ---- what a search does when it is to expand
 

@@ -3,7 +3,7 @@
 ghost use Rattle.std.specs.Prelude.{◌≡◌, ◌<◌, ◌+◌, ◌^◌, ℕ, true, Some, IfOk, OnOk, IsSomeAnd, length, slice_get};
 ghost use Rattle.mp_task.specs.Limits.{ActFits};
 ghost use Rattle.mp_search.specs.AgentState.{applies};
-ghost use Rattle.mp_search.specs.Expansion.{expanded, with_action, with_actions, with_successor};
+ghost use Rattle.mp_search.specs.Expansion.{expanded, with_action, with_actions};
 ghost use Rattle.mp_search.specs.Search.{is_open_below};
 ghost use Rattle.mp_search.specs.StateKeys.{reached_state, HasSizes};
 ghost use Rattle.mp_search.specs.Steps.{parent_of, AreStatesOf, HaveSent, IsExpanding};
@@ -48,50 +48,6 @@ fn action_number(task: &Task, place: usize) -> u32
     place as u32
 }
 
-/// Offers a state that an own action led to, and sends it where that is due.
-fn add_successor<H: Heuristic>(
-    alloc: Global,
-    task: &Task,
-    heuristic: &mut H,
-    number: u32,
-    act: &Act,
-    parent: &Expanding,
-    states: &mut States,
-    reached: &mut Reached,
-    out: &mut SendingList,
-) -> Result<(), OutOfMemory>
-    requires heuristic { H.is_for heuristic.old task.now }
-    requires act { slice_get task.now.acts number ≡ Some act.now }
-    requires states { AreStatesOf task.now states.old }
-    requires parent { IsExpanding task.now states.old parent.now }
-    requires sizes { HasSizes task.now.publics task.now.privates reached.old }
-    ensures sent { OnOk result (HaveSent task.now
-        (with_successor task.now (H.value task.now) (parent_of parent.now) number act.now
-        (reached_state reached.old) states.old.kept) out.old out.new states.old states.new) }
-    ensures heuristic { H.is_for heuristic.new task.now }
-    ensures state { reached_state reached.new ≡ reached_state reached.old }
-    ensures sizes { HasSizes task.now.publics task.now.privates reached.new }
-{
-    keeps_limits(task, number, act);
-    let value = heuristic.value(&reached.key.publics, &reached.mine)?;
-    let origin = Origin::Own {
-        action: number,
-        parent: parent.number,
-    };
-    offer_at(task, states, reached, parent.g + act.cost, value, origin)?;
-    let is_public = task.is_public(number);
-    send_if_due(
-        alloc,
-        task,
-        is_public,
-        act,
-        &parent.state,
-        states,
-        reached,
-        out,
-    )
-}
-
 /// Whether an action may be applied in a state.
 fn may_apply(act: &Act, state: &Reached) -> bool
     requires { ActFits state.now.key.publics.size state.now.mine.size act.now }
@@ -100,7 +56,7 @@ fn may_apply(act: &Act, state: &Reached) -> bool
     state.key.publics.holds(&act.pre_pub) && state.mine.holds(&act.pre_priv)
 }
 
-/// Applies an own action where it may be applied.
+/// Applies an own action where it may be applied: the state that it leads to is offered, and sent where that is due.
 fn add_action<H: Heuristic>(
     alloc: Global,
     task: &Task,
@@ -126,13 +82,27 @@ fn add_action<H: Heuristic>(
     ensures tags { reached.new.key.tags ≡ parent.now.state.key.tags }
 {
     keeps_limits(task, number, act);
-    if may_apply(act, &parent.state) {
-        reached.follow(&parent.state, act);
-        return add_successor(
-            alloc, task, heuristic, number, act, parent, states, reached, out,
-        );
+    if !may_apply(act, &parent.state) {
+        return Ok(());
     }
-    Ok(())
+    reached.follow(&parent.state, act);
+    let value = heuristic.value(&reached.key.publics, &reached.mine)?;
+    let origin = Origin::Own {
+        action: number,
+        parent: parent.number,
+    };
+    offer_at(task, states, reached, parent.g + act.cost, value, origin)?;
+    let is_public = task.is_public(number);
+    send_if_due(
+        alloc,
+        task,
+        is_public,
+        act,
+        &parent.state,
+        states,
+        reached,
+        out,
+    )
 }
 
 /// Applies each own action that may be applied, in number order.
@@ -192,6 +162,29 @@ fn parent(states: &States, number: u64) -> Result<Expanding, OutOfMemory>
     })
 }
 
+/// Applies each own action that may be applied in an entry.
+fn expand_entry<H: Heuristic>(
+    alloc: Global,
+    task: &Task,
+    heuristic: &mut H,
+    number: u64,
+    states: &mut States,
+) -> Result<SendingList, OutOfMemory>
+    requires heuristic { H.is_for heuristic.old task.now }
+    requires states { AreStatesOf task.now states.old }
+    requires inside { number < length states.old.kept.entries }
+    ensures sent { IfOk result (λ out. IsSomeAnd (slice_get states.old.kept.entries number) (λ e.
+        (out, states.new.kept) ≡ with_actions task.now (H.value task.now)
+        (record { number = number; state = e.key; g = e.g }) 0 task.now.acts states.old.kept)) }
+    ensures states { OnOk result (AreStatesOf task.now states.new) }
+    ensures heuristic { H.is_for heuristic.new task.now }
+{
+    let mut out = SendingList::new(alloc);
+    let parent = parent(states, number)?;
+    add_actions(alloc, task, heuristic, &parent, states, &mut out)?;
+    Ok(out)
+}
+
 /// Expands the least open entry.
 pub(crate) fn expand_least<H: Heuristic>(
     alloc: Global,
@@ -208,11 +201,8 @@ pub(crate) fn expand_least<H: Heuristic>(
     ensures states { OnOk result (AreStatesOf task.now states.new) }
     ensures heuristic { H.is_for heuristic.new task.now }
 {
-    let mut out = SendingList::new(alloc);
     let Some(number) = states.pop_least() else {
-        return Ok(out);
+        return Ok(SendingList::new(alloc));
     };
-    let parent = parent(states, number)?;
-    add_actions(alloc, task, heuristic, &parent, states, &mut out)?;
-    Ok(out)
+    expand_entry(alloc, task, heuristic, number, states)
 }

@@ -57,6 +57,24 @@ impl<H: Heuristic> Model for Search<H> {
     ghost invariant = { λ s. IsSearch (H.is_for s.heuristic) s.task s.limit s.states s.expansions s.failed };
 }
 
+/// The states that are kept at the start: the initial one, unless no plan leads on from it.
+fn start_states<H: Heuristic>(
+    alloc: Global,
+    task: &Task,
+    heuristic: &mut H,
+) -> Result<States, OutOfMemory>
+    requires heuristic { H.is_for heuristic.old task.now }
+    ensures kept { IfOk result (λ made. made.kept ≡ (start_record task.now (H.value task.now)).kept) }
+    ensures states { IfOk result (AreStatesOf task.now) }
+    ensures heuristic { H.is_for heuristic.new task.now }
+{
+    let mut state = start_state(alloc, task)?;
+    let mut states = States::new(alloc, task.publics, state.mine.copy()?)?;
+    let value = heuristic.value(&state.key.publics, &state.mine)?;
+    offer_at(task, &mut states, &mut state, 0, value, Origin::Root)?;
+    Ok(states)
+}
+
 impl<H: Heuristic> Search<H> {
     /// The search that knows the initial state alone. The limit is from 1 to 10,000,000, and the heuristic was made of
     /// an equal task.
@@ -77,10 +95,7 @@ impl<H: Heuristic> Search<H> {
         }) }
     {
         let mut heuristic = heuristic;
-        let mut state = start_state(alloc, &task)?;
-        let mut states = States::new(alloc, task.publics, state.mine.copy()?)?;
-        let value = heuristic.value(&state.key.publics, &state.mine)?;
-        offer_at(&task, &mut states, &mut state, 0, value, Origin::Root)?;
+        let states = start_states(alloc, &task, &mut heuristic)?;
         Ok(Search {
             alloc,
             task,

@@ -1,23 +1,30 @@
-use Rattle.std.proofs.Common.{sym, subst, ◌∙◌}
+use Rattle.std.proofs.Common.{◌≡◌, true, false, sym, subst, ◌∙◌}
 use Rattle.mp_search.specs.AgentState.{AgentState}
 use Rattle.mp_search.specs.Expansion.{with_successor}
+use Rattle.mp_search.specs.StateKeys.{reached_state}
 use Rattle.mp_search.specs.Steps.{HaveSent, parent_of}
-use Rattle.mp_search.proofs.SendingSteps.{action_sent, no_action, on_ok}
+use Rattle.mp_search.proofs.SendingSteps.{action_sent, no_action, on_ok, successor_sent}
 use Rattle.mp_search.proofs.expansion.add_action.Goals as goal
 
-pub returns-then-may_apply-clause-sent : goal.returns-then-may_apply-clause-sent
-returns-then-may_apply-clause-sent g c =
-    let t = c.args.task.now in
-    let value = g.H.Heuristic.value t in
-    let p = parent_of c.args.parent.now in
-    on_ok c.add_successor.result _ _ c.add_successor.ensures.sent
-    (λ sent.
-    action_sent t value p c.args.number c.args.act.now c.args.states.now c.add_successor.new.states c.args.out.now c.add_successor.new.out
-    (sym c.may_apply.ensures ∙ c.if-may_apply.true)
-    (subst (λ (s : AgentState). HaveSent t (with_successor t value p c.args.number c.args.act.now s c.args.states.now.kept) c.args.out.now c.add_successor.new.out c.args.states.now c.add_successor.new.states)
-    c.follow.ensures.state sent))
+pub returns-then-not-may_apply-clause-sent : goal.returns-then-not-may_apply-clause-sent
+returns-then-not-may_apply-clause-sent g c =
+    let not : c.may_apply.result ≡ false = cc in
+    no_action c.args.task.now (g.H.Heuristic.value c.args.task.now) (parent_of c.args.parent.now) c.args.number c.args.act.now c.args.states.now c.args.out.now
+    (sym c.may_apply.ensures ∙ not) c.requires.states
 
 pub returns-clause-sent : goal.returns-clause-sent
 returns-clause-sent g c =
-    no_action c.args.task.now (g.H.Heuristic.value c.args.task.now) (parent_of c.args.parent.now) c.args.number c.args.act.now c.args.states.now c.args.out.now
-    (sym c.may_apply.ensures ∙ c.if-may_apply.false) c.requires.states
+    let t = c.args.task.now in
+    let value = g.H.Heuristic.value t in
+    let p = parent_of c.args.parent.now in
+    let may : c.may_apply.result ≡ true = cc in
+    on_ok c.send_if_due.result _ _ c.send_if_due.ensures.sent
+    (λ sent.
+    action_sent t value p c.args.number c.args.act.now c.args.states.now c.send_if_due.new.states c.args.out.now c.send_if_due.new.out
+    (sym c.may_apply.ensures ∙ may)
+    (subst (λ (s : AgentState). HaveSent t (with_successor t value p c.args.number c.args.act.now s c.args.states.now.kept) c.args.out.now c.send_if_due.new.out c.args.states.now c.send_if_due.new.states)
+    c.follow.ensures.state
+    (successor_sent t value p c.args.number c.args.act.now
+    (reached_state c.follow.new.self) (reached_state c.offer_at.new.state) c.in_ok-value.value c.in_ok-offer_at.field-0
+    c.args.states.now c.offer_at.new.states c.send_if_due.new.states c.args.out.now c.send_if_due.new.out
+    c.in_ok-offer_at.ensures.state (c.in_ok-value.ensures.value c.args.task.now c.requires.heuristic) c.in_ok-offer_at.ensures.offered c.in_ok-offer_at.ensures.longer sent)))
