@@ -1,0 +1,63 @@
+-- Who may send a message, and which message bytes are.
+use Rattle.std.proofs.Common.{◌≡◌, ℕ, ◌<◌, ◌≤◌, ◌^◌, Bool, true, false, ◌&&◌, List, Option, Some, None, refl, sym, ap, subst, ◌∙◌}
+use Rattle.std.specs.Prelude.{Err, nat_le, not, ◌==◌}
+use Rattle.std.specs.Option.{option_map_or}
+use Rattle.std.proofs.lemmas.Bool.{and_parts, eqb-false, leb-true}
+use Rattle.mp_sets.specs.Numbers.{Numbers}
+use Rattle.mp_task.specs.AgentTask.{AgentTask}
+use Rattle.mp_messages.specs.declared.message.Message.{Message}
+use Rattle.mp_messages.specs.Reading.{message_of}
+use Rattle.mp_messages.specs.Spelling.{IsSpelling}
+use Rattle.mp_messages.proofs.Messages.{all_again, all_take}
+use Rattle.mp_messages.proofs.Taking.{IsBytes}
+use Rattle.mp_snapshot.specs.Rules.{IsAnother}
+use Rattle.mp_machine.specs.declared.member.Member.{Member}
+use Rattle.mp_machine.specs.declared.refusal.BadKind.TheVariants.{NotASpelling}
+use Rattle.mp_machine.specs.AgentRecord.{AgentRecord}
+use Rattle.mp_machine.specs.LocalStep.{is_another}
+use Rattle.mp_machine.specs.MemberFields.{IsMember}
+use Rattle.mp_machine.specs.Taking.{took, took_message}
+
+pub another_of : (t : AgentTask) (m : Member) (from : ℕ) → IsMember t m → is_another t from ≡ true → IsAnother m.snapshot from
+another_of t m from of test =
+    let other = and_parts (nat_le 1 from && nat_le from t.agents) (not (from == t.me)) test in
+    let range = and_parts (nat_le 1 from) (nat_le from t.agents) other.0 in
+    record {
+      from_1 = leb-true 1 from range.0;
+      in_team = subst (λ (n : ℕ). from ≤ n) (sym of.notes_agents) (leb-true from t.agents range.1);
+      another = λ same. eqb-false from t.me (flipped (from == t.me) other.1) (same ∙ of.notes_me);
+    }
+  where
+    flipped : (b : Bool) → not b ≡ true → b ≡ false
+    flipped true h = sym h
+    flipped false h = refl
+
+module _ (value : Numbers → Numbers → Option ℕ) (r : AgentRecord) (from : ℕ) (bytes : List ℕ) where
+  pub took_spelled : (m : Message) → r.task.publics < 2 ^ 32 → IsSpelling r.task.agents r.task.publics m bytes
+      → took_message value r from m ≡ took value r from bytes
+  unfolding took
+  took_spelled m small spelled =
+      ap (λ (o : Option Message). option_map_or (took_message value r from) o (Err NotASpelling))
+      (sym (all_again r.task.agents r.task.publics m bytes small spelled))
+
+  pub took_unspelled : IsBytes bytes → ((m : Message) → IsSpelling r.task.agents r.task.publics m bytes → ⊥)
+      → took value r from bytes ≡ Err NotASpelling
+  unfolding took
+  took_unspelled fits nothing = by (message_of r.task.agents r.task.publics bytes) refl
+    where
+      by : (o : Option Message) → message_of r.task.agents r.task.publics bytes ≡ o
+          → option_map_or (took_message value r from) o (Err NotASpelling) ≡ Err NotASpelling
+      by None is = refl
+      by (Some m) is = absurd (nothing m (all_take r.task.agents r.task.publics bytes m fits is))
+
+-- the member's team is the task's
+module _ (t : AgentTask) (m : Member) (of : IsMember t m) (message : Message) (bytes : List ℕ) where
+  pub spelled_for : IsSpelling m.agents m.publics message bytes → IsSpelling t.agents t.publics message bytes
+  spelled_for spelled =
+      subst (λ (n : ℕ). IsSpelling n t.publics message bytes) of.agents
+      (subst (λ (n : ℕ). IsSpelling m.agents n message bytes) of.publics spelled)
+
+  pub spelled_by : IsSpelling t.agents t.publics message bytes → IsSpelling m.agents m.publics message bytes
+  spelled_by spelled =
+      subst (λ (n : ℕ). IsSpelling n m.publics message bytes) (sym of.agents)
+      (subst (λ (n : ℕ). IsSpelling t.agents n message bytes) (sym of.publics) spelled)
