@@ -43,8 +43,3 @@ pub use shape::{domain, problem};
 pub use signature_values::{Signature, SignatureList};
 pub use typed_values::{Typed, TypedList};
 pub use word::{Word, WordList};
-
-#[cfg(test)]
-mod tests;
-#[cfg(test)]
-mod tests_of_values;

@@ -25,6 +25,3 @@ pub use hierarchy::{ObjectList, TypeList};
 pub use laws::{first_fault_is_one, type_order_is_least, types_are_ordered};
 pub use refusal::{CheckRefusal, Found};
 pub use test_laws::type_test_decides;
-
-#[cfg(test)]
-mod tests;

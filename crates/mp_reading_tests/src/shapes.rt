@@ -3,7 +3,7 @@
 
 ghost use Rattle.std.specs.Prelude.{◌<◌, ◌^◌, length};
 
-use super::*;
+use mp_factor::{Fault, FaultKind, File, domain_fault, problem_fault};
 use mp_sexp::read;
 use std::alloc::Global;
 use std::test::Fail;

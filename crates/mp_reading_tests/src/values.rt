@@ -2,7 +2,10 @@
 
 ghost use Rattle.std.specs.Prelude.{◌<◌, ◌^◌, length};
 
-use super::*;
+use mp_factor::{
+    Atom, AtomList, Domain, File, Increase, Literal, LiteralList, Problem, Schema, ShapeRefusal,
+    Signature, SignatureList, Term, Typed, TypedList, Value, domain, problem,
+};
 use mp_list::{Copied, OutOfMemory};
 use mp_sexp::{Place, Tree, read};
 use std::alloc::Global;

@@ -1,10 +1,10 @@
 //! What a caller of a checked factor meets: its faults, its types and its members, by hand from the format and from the
 //! typing of PDDL.
 
-use super::*;
 use mp_factor::{Domain, File, Problem, domain as domain_of, problem as problem_of};
 use mp_list::List;
 use mp_sexp::{Name, Place, read};
+use mp_typing::{CheckRefusal, CheckedFactor, FaultKind, Found, check};
 use std::alloc::Global;
 use std::test::Fail;
 

@@ -1,0 +1,10 @@
+//! Tests of what reading and checking the files of a factor gives. They are a crate of their own, so that a change of a
+//! test proves the tests alone again, and so that the readers are proved once and not twice.
+#![tactic(auto)]
+
+#[cfg(test)]
+mod checks;
+#[cfg(test)]
+mod shapes;
+#[cfg(test)]
+mod values;
