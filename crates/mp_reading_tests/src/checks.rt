@@ -1,34 +1,13 @@
 //! What a caller of a checked factor meets: its faults, its types and its members, by hand from the format and from the
 //! typing of PDDL.
 
-use mp_factor::{Domain, File, Problem, domain as domain_of, problem as problem_of};
+use crate::files::{domain_in, problem_in};
+use mp_factor::File;
 use mp_list::List;
-use mp_sexp::{Name, Place, read};
+use mp_sexp::{Name, Place};
 use mp_typing::{CheckRefusal, CheckedFactor, FaultKind, Found, check};
 use std::alloc::Global;
 use std::test::Fail;
-
-/// The domain that a text says, where it says one.
-fn domain_in(alloc: Global, text: &[u8]) -> Option<Domain> {
-    if text.len() > 10_000 {
-        return None;
-    }
-    match read(alloc, text) {
-        Ok(tree) => domain_of(alloc, &tree).ok(),
-        Err(_) => None,
-    }
-}
-
-/// The problem that a text says, where it says one.
-fn problem_in(alloc: Global, text: &[u8]) -> Option<Problem> {
-    if text.len() > 10_000 {
-        return None;
-    }
-    match read(alloc, text) {
-        Ok(tree) => problem_of(alloc, &tree).ok(),
-        Err(_) => None,
-    }
-}
 
 /// The refusal of two texts, where they are a domain and a problem and are refused.
 fn refusal(alloc: Global, domain: &[u8], problem: &[u8]) -> Option<CheckRefusal> {

@@ -2,6 +2,10 @@
 //! test proves the tests alone again, and so that the readers are proved once and not twice.
 #![tactic(auto)]
 
+mod files;
+
+pub use files::{domain_in, problem_in};
+
 #[cfg(test)]
 mod checks;
 #[cfg(test)]
