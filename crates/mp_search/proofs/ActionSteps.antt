@@ -1,10 +1,11 @@
 -- Own actions one after another, and the expansion of an entry.
-use Rattle.std.proofs.Common.{Result, Ok, Err, ◌≡◌, ℕ, ◌+◌, ◌<◌, ◌≤◌, Bool, true, false, cond, List, [], ◌∷◌, ◌++◌, length, drop, Option, Some, None, refl, sym, ap, subst, ◌∙◌, arith}
-use Rattle.std.specs.Prelude.{if◌then◌else◌, slice_get, slice_set, option_map, Contains, IfOk, IsSomeAnd}
+use Rattle.std.proofs.Common.{Result, Ok, Err, ◌≡◌, ℕ, zero, suc, ◌+◌, ◌-◌, ◌<◌, ◌≤◌, Bool, true, false, cond, List, [], ◌∷◌, ◌++◌, length, drop, get_or, Option, Some, None, refl, sym, ap, subst, ◌∙◌, inl, inr, arith}
+use Rattle.std.specs.Prelude.{◌⊎◌, if◌then◌else◌, slice_get, slice_set, option_map, Contains, IfOk, IsSomeAnd}
 use Rattle.std.specs.Option.{option_map_or}
 use Rattle.std.proofs.lemmas.List.{append-nil, append_assoc, drop_all, drop_more, get_or-set_same, length-set}
-use Rattle.std.proofs.lemmas.Option.{get_or_from_slice_get, slice_get_within}
-use Rattle.mp_sets.specs.Numbers.{Numbers}
+use Rattle.std.proofs.lemmas.Option.{get_or_from_slice_get, slice_get_cases, slice_get_within}
+use Rattle.std.specs.FinSet as set
+use Rattle.mp_sets.specs.Numbers.{HasNoneFrom, IsLeastFrom, Numbers, SizedSet}
 use Rattle.mp_task.specs.declared.act.Act.{Act}
 use Rattle.mp_task.specs.AgentTask.{AgentTask}
 use Rattle.mp_store.specs.declared.entry.Entry.{Entry}
@@ -17,8 +18,9 @@ use Rattle.mp_store.specs.Minima.{Numbered, popped, closed, first_open, is_neare
 use Rattle.mp_store.proofs.RankLemmas.{those_have}
 use Rattle.mp_search.specs.declared.answer.Sending.{Sending}
 use Rattle.mp_search.specs.declared.answer.ExpandRefusal.TheVariants.{AtLimit, Nothing}
-use Rattle.mp_search.specs.AgentState.{AgentState}
-use Rattle.mp_search.specs.Expansion.{Parent, and_then, answered, expanded, expansion, expanded_entry, one_more, with_action, with_actions}
+use Rattle.mp_search.specs.AgentState.{AgentState, applies, successor}
+use Rattle.mp_search.specs.Applying.{is_applicable_in, AreFound, HasApplied}
+use Rattle.mp_search.specs.Expansion.{Parent, and_then, answered, expanded, expansion, expanded_entry, one_more, with_action, with_actions, with_successor}
 use Rattle.mp_search.specs.Search.{SearchRecord, is_open_below, is_spent}
 use Rattle.mp_search.specs.StateKeys.{KeptStates}
 use Rattle.mp_search.specs.Steps.{AreStatesOf, HaveSent}
@@ -65,7 +67,64 @@ module _ (t : AgentTask) (value : Numbers → Numbers → Option ℕ) (p : Paren
   unfolding with_actions
   nothing_left i r all = ap (λ (acts : List Act). with_actions t value p i acts r) (drop_all i t.acts all)
 
-  pub all_applied : (i : ℕ) (before out : List Sending) (old new : KeptStates) → length t.acts ≤ i → AreApplied i before out old new
+  -- an action that may not be applied changes nothing
+  passed : (i : ℕ) (r : Record AgentState) → is_applicable_in t p.state i ≡ false
+      → with_actions t value p i (drop i t.acts) r ≡ with_actions t value p (i + 1) (drop (i + 1) t.acts) r
+  unfolding with_action
+  passed i r not = by (slice_get_cases t.acts i).1
+    where
+      by : ((x : Act) × (i < length t.acts) × (slice_get t.acts i ≡ Some x) × (get_or t.acts i x ≡ x)) ⊎ ((length t.acts ≤ i) × (slice_get t.acts i ≡ None))
+          → with_actions t value p i (drop i t.acts) r ≡ with_actions t value p (i + 1) (drop (i + 1) t.acts) r
+      by (inr past) =
+          let all = past.0 in nothing_left i r all ∙ sym (nothing_left (i + 1) r (omega (arith, all)))
+      by (inl there) =
+          let act = there.0 in
+          let is = there.2 in
+          let cannot : applies act p.state ≡ false = ap (λ (o : Option Act). option_map_or (λ act. applies act p.state) o false) (sym is) ∙ not in
+          let nothing : with_action t value p i act r ≡ ([], r) = ap (λ (b : Bool). if b then with_successor t value p i act (successor act p.state) r else ([], r)) cannot in
+          step i act r is ∙ ap (λ (d : List Sending × Record AgentState). and_then d (with_actions t value p (i + 1) (drop (i + 1) t.acts))) nothing
+
+  -- and so do several in a row
+  all_passed : (i n : ℕ) (r : Record AgentState) → ((k : ℕ) → i ≤ k → k < i + n → is_applicable_in t p.state k ≡ false)
+      → with_actions t value p i (drop i t.acts) r ≡ with_actions t value p (i + n) (drop (i + n) t.acts) r
+  all_passed i zero r none = (λ j. with_actions t value p (same j) (drop (same j) t.acts) r)
+    where
+      same : i ≡ i + 0
+      same = omega arith
+  all_passed i (suc n) r none =
+      passed i r (none i (omega arith) (omega arith))
+      ∙ all_passed (i + 1) n r (λ k from below. none k (omega (arith, from)) (omega (arith, below)))
+      ∙ (λ j. with_actions t value p (same j) (drop (same j) t.acts) r)
+    where
+      same : i + 1 + n ≡ i + suc n
+      same = omega arith
+
+  -- the actions up to the next one that may be applied are as good as applied
+  pub next_applied : (i k : ℕ) (before out : List Sending) (old new : KeptStates) (found : SizedSet) → AreFound t p.state found → i ≤ k
+      → ((m : ℕ) → i ≤ m → m < k → set.contains found.members m ≡ false)
+      → AreApplied i before out old new → AreApplied k before out old new
+  next_applied i k before out old new found are from none applied =
+      let to : i + (k - i) ≡ k = omega (arith, from) in
+      let same : with_actions t value p i (drop i t.acts) new.kept ≡ with_actions t value p k (drop k t.acts) new.kept =
+      all_passed i (k - i) new.kept (λ m above below. sym (are.numbers m) ∙ none m above (omega (arith, below, to)))
+      ∙ (λ j. with_actions t value p (to j) (drop (to j) t.acts) new.kept)
+      in
+      record {
+        sent = ap (λ (d : List Sending × Record AgentState). out ++ d.0) (sym same) ∙ applied.sent;
+        kept = ap (λ (d : List Sending × Record AgentState). d.1) (sym same) ∙ applied.kept;
+        states = applied.states;
+        longer = applied.longer;
+      }
+
+  -- one of them is applied
+  pub found_applied : (i k : ℕ) (before mid out : List Sending) (old mid_states new : KeptStates) (found : SizedSet) → AreFound t p.state found
+      → IsLeastFrom found.members i k → AreApplied i before mid old mid_states → HasApplied t value p k mid out mid_states new
+      → AreApplied (k + 1) before out old new
+  found_applied i k before mid out old mid_states new found are least applied has =
+      one_applied k has.act before mid out old mid_states new
+      (next_applied i k before mid old mid_states found are least.above least.least applied) has.is has.sent
+
+  all_applied : (i : ℕ) (before out : List Sending) (old new : KeptStates) → length t.acts ≤ i → AreApplied i before out old new
       → HaveSent t (with_actions t value p 0 t.acts old.kept) before out old new
   all_applied i before out old new all applied =
       let none = nothing_left i new.kept all in
@@ -75,6 +134,14 @@ module _ (t : AgentTask) (value : Numbers → Numbers → Option ℕ) (p : Paren
         states = applied.states;
         longer = applied.longer;
       }
+
+  -- where no further one may be applied, all are
+  pub last_applied : (i : ℕ) (before out : List Sending) (old new : KeptStates) (found : SizedSet) → AreFound t p.state found → i ≤ length t.acts
+      → HasNoneFrom found.members i → AreApplied i before out old new
+      → HaveSent t (with_actions t value p 0 t.acts old.kept) before out old new
+  last_applied i before out old new found are inside none applied =
+      all_applied (length t.acts) before out old new (omega arith)
+      (next_applied i (length t.acts) before out old new found are inside (λ m above below. none m above) applied)
 
 -- ---- the least open entry
 

@@ -10,3 +10,5 @@ pub mod SendingSteps
 pub mod ActionSteps
 -- what is answered to a state that comes from another agent
 pub mod Receiving
+-- whether some of a row of numbers pass a test
+pub mod ConcernLemmas

@@ -18,6 +18,8 @@ pub mod Memory
 pub mod StateKeys
 -- what a step of an expansion leads to
 pub mod Steps
+-- own actions that may be applied
+pub mod Applying
 -- the fields of a search
 pub mod SearchFields
 -- what the calls of a search answer

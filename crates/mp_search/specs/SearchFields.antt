@@ -1,6 +1,11 @@
 -- A search as the plain record that contracts see.
 use Rattle.std.specs.Prelude.{◌≡◌, ◌≤◌, ℕ, Bool, false}
 use Rattle.mp_task.specs.AgentTask.{AgentTask}
+use Rattle.mp_applicable.specs.Far.{IsFarIndexOf}
+use Rattle.mp_applicable.specs.Index.{IsIndexOf}
+use Rattle.mp_search.specs.Applying.{HasRoom}
+use Rattle.mp_search.specs.declared.expansion.Index.{Index}
+use Rattle.mp_search.specs.declared.expansion.Scratch.{Scratch}
 use Rattle.mp_search.specs.Search.{AgentSearch}
 use Rattle.mp_search.specs.StateKeys.{KeptStates}
 use Rattle.mp_search.specs.Steps.{AreStatesOf}
@@ -13,8 +18,20 @@ agent_search t limit k expansions failed = record {
   failed = failed;
 }
 
-pub record IsSearch (IsFor : AgentTask → Type 0) (t : AgentTask) (limit : ℕ) (k : KeptStates) (expansions : ℕ) (failed : Bool) : Type 0 where
+pub record IsSearch
+    (IsFor : AgentTask → Type 0)
+    (t : AgentTask)
+    (limit : ℕ)
+    (k : KeptStates)
+    (index : Index)
+    (scratch : Scratch)
+    (expansions : ℕ)
+    (failed : Bool)
+    : Type 0 where
   pub at_most : limit ≤ 10000000
   pub within : expansions ≤ limit
   pub heuristic : IsFor t
+  pub actions : IsIndexOf t index.actions
+  pub far : IsFarIndexOf t index.far
+  pub room : failed ≡ false → HasRoom t scratch
   pub states : failed ≡ false → AreStatesOf t k

@@ -1,15 +1,17 @@
 //! Which states are sent, and to whom.
 
-ghost use Rattle.std.specs.Prelude.{◌≡◌, ◌≤◌, ◌==◌, ◌||◌, ◌&&◌, ◌++◌, ◌+◌, ◌<◌, ◌^◌, not, length, IfOk, OnOk};
+ghost use Rattle.std.specs.Prelude.{◌≡◌, ◌≤◌, ◌==◌, ◌||◌, ◌&&◌, ◌++◌, ◌+◌, ◌<◌, ◌^◌, not, is_some, length, IfOk, IfSome, OnOk};
 ghost use Rattle.std.specs.List.{list_all, list_any, enumerate_from};
 ghost use Rattle.mp_task.specs.Met.{is_met};
+ghost use Rattle.mp_applicable.specs.Far.{IsFarIndexOf};
 ghost use Rattle.mp_task.specs.Public as public;
 ghost use Rattle.mp_search.specs.AgentState.{is_goal_state};
-ghost use Rattle.mp_search.specs.Concern.{concerns, is_receiver, is_visible, may_act, one_if, receivers};
+ghost use Rattle.mp_search.specs.Concern.{concerns, is_receiver, is_visible, one_if, receivers};
 ghost use Rattle.mp_search.specs.StateKeys.{reached_state, HasSizes};
 
 use crate::answer::AgentList;
 use crate::reached::Reached;
+use mp_applicable::FarIndex;
 use mp_list::OutOfMemory;
 use mp_sets::{Agent, Bits, Tag};
 use mp_task::{Act, Task};
@@ -46,19 +48,6 @@ pub(crate) fn is_goal(task: &Task, state: &Reached) -> bool
         && are_others_met(task.me, 0, state.key.tags.as_slice())
 }
 
-/// Whether a public action of an agent may be applicable.
-fn may_act(task: &Task, agent: Agent, state: &Reached) -> bool
-    requires { HasSizes task.now.publics task.now.privates state.now }
-    ensures { result ≡ may_act task.now agent (reached_state state.now) }
-{
-    for part in task.far.as_slice() {
-        if part.by == agent && state.key.publics.holds(&part.pre) {
-            return true;
-        }
-    }
-    false
-}
-
 /// Whether tags, of which so many come before, say of an agent that its private goals don't all hold.
 fn is_unmet(agent: Agent, before: usize, tags: &[Tag]) -> bool
     requires { before + length tags.now < 2 ^ 64 }
@@ -73,29 +62,48 @@ fn is_unmet(agent: Agent, before: usize, tags: &[Tag]) -> bool
 }
 
 /// Whether a state concerns an agent.
-fn concerns(task: &Task, agent: Agent, state: &Reached) -> bool
-    requires { HasSizes task.now.publics task.now.privates state.now }
+fn concerns(task: &Task, far: &FarIndex, agent: Agent, state: &Reached) -> bool
+    requires index { IsFarIndexOf task.now far.now }
+    requires team { agent ≤ task.now.agents }
+    requires sizes { HasSizes task.now.publics task.now.privates state.now }
     ensures { result ≡ concerns task.now (reached_state state.now) agent }
 {
-    may_act(task, agent, state) || is_unmet(agent, 0, state.key.tags.as_slice())
+    far.may_act(task, agent, &state.key.publics) || is_unmet(agent, 0, state.key.tags.as_slice())
+}
+
+/// The agent of a number, if it is another one that a state concerns.
+fn receiver(task: &Task, far: &FarIndex, number: u16, state: &Reached) -> Option<Agent>
+    requires index { IsFarIndexOf task.now far.now }
+    requires from_1 { 1 ≤ number }
+    requires at_most { number ≤ 16 }
+    requires team { number ≤ task.now.agents }
+    requires sizes { HasSizes task.now.publics task.now.privates state.now }
+    ensures some { is_some result ≡ is_receiver task.now (reached_state state.now) number }
+    ensures agent { IfSome result (λ agent. agent ≡ number) }
+{
+    let agent = Agent::new(number)?;
+    if agent != task.me && concerns(task, far, agent, state) {
+        return Some(agent);
+    }
+    None
 }
 
 /// Adds an agent if it is another one that a state concerns.
 fn add_receiver(
     to: &mut AgentList,
     task: &Task,
+    far: &FarIndex,
     number: u16,
     state: &Reached,
 ) -> Result<(), OutOfMemory>
+    requires index { IsFarIndexOf task.now far.now }
     requires from_1 { 1 ≤ number }
     requires at_most { number ≤ 16 }
+    requires team { number ≤ task.now.agents }
     requires sizes { HasSizes task.now.publics task.now.privates state.now }
     ensures { OnOk result (to.new ≡ to.old ++ one_if (is_receiver task.now (reached_state state.now) number) number) }
 {
-    let Some(agent) = Agent::new(number) else {
-        return Ok(());
-    };
-    if agent != task.me && concerns(task, agent, state) {
+    if let Some(agent) = receiver(task, far, number, state) {
         to.push(agent)?;
     }
     Ok(())
@@ -105,16 +113,32 @@ fn add_receiver(
 pub(crate) fn receivers(
     alloc: Global,
     task: &Task,
+    far: &FarIndex,
     state: &Reached,
 ) -> Result<AgentList, OutOfMemory>
-    requires { HasSizes task.now.publics task.now.privates state.now }
+    requires index { IsFarIndexOf task.now far.now }
+    requires sizes { HasSizes task.now.publics task.now.privates state.now }
     ensures { IfOk result (λ to. to ≡ receivers task.now (reached_state state.now)) }
 {
     let mut to = AgentList::new(alloc);
     for before in 0..task.agents {
-        add_receiver(&mut to, task, before + 1, state)?;
+        add_receiver(&mut to, task, far, before + 1, state)?;
     }
     Ok(to)
+}
+
+/// Whether a state concerns another agent. Takes no memory.
+pub(crate) fn has_receivers(task: &Task, far: &FarIndex, state: &Reached) -> bool
+    requires index { IsFarIndexOf task.now far.now }
+    requires sizes { HasSizes task.now.publics task.now.privates state.now }
+    ensures { result ≡ not (length (receivers task.now (reached_state state.now)) == 0) }
+{
+    for before in 0..task.agents {
+        if receiver(task, far, before + 1, state).is_some() {
+            return true;
+        }
+    }
+    false
 }
 
 /// Whether others may see what an own action did.

@@ -1,12 +1,11 @@
 //! States on their way into a search.
 
-ghost use Rattle.std.specs.Prelude.{◌≡◌, ◌<◌, All, IfOk};
+ghost use Rattle.std.specs.Prelude.{◌≡◌};
 ghost use Rattle.mp_task.specs.declared.act.Act.{Act};
 ghost use Rattle.mp_search.specs.AgentState.{successor};
 ghost use Rattle.mp_search.specs.StateKeys.{reached_state, HasSizes};
 ghost use Rattle.mp_task.specs.Limits.{ActFits};
 
-use mp_list::{Copied, OutOfMemory};
 use mp_sets::Bits;
 use mp_store::Key;
 use mp_task::Act;
@@ -18,15 +17,6 @@ pub(crate) struct Reached {
     pub(crate) key: Key,
     /// The own private facts that are true.
     pub(crate) mine: Bits,
-}
-
-impl Copied for Reached {
-    fn copy(&self) -> Result<Reached, OutOfMemory> {
-        Ok(Reached {
-            key: self.key.copy()?,
-            mine: self.mine.copy()?,
-        })
-    }
 }
 
 impl Reached {

@@ -1,7 +1,8 @@
 //! The search of one agent.
 
 ghost use Rattle.std.specs.Prelude.{◌≡◌, ◌≢◌, ◌≤◌, true, false, Err, IfOk, IsFalse};
-ghost use Rattle.mp_store.specs.Named.{named};
+ghost use Rattle.mp_applicable.specs.Far.{IsFarIndexOf};
+ghost use Rattle.mp_applicable.specs.Index.{IsIndexOf};
 ghost use Rattle.mp_search.specs.Answers.{IsExpansion, IsReceipt};
 ghost use Rattle.mp_search.specs.Offering.{start_record};
 ghost use Rattle.mp_search.specs.Receipt.{IsStateFor};
@@ -10,15 +11,16 @@ ghost use Rattle.mp_search.specs.StoreSeen.{HasEntriesOf};
 ghost use Rattle.mp_search.specs.Steps.{AreStatesOf};
 
 use crate::answer::{ExpandRefusal, ReceiveRefusal, Received, SendingList};
-use crate::expansion::expand_least;
+use crate::expansion::{Index, Scratch, expand_least, scratch_for};
 use crate::offering::offer_at;
 use crate::reached::Reached;
 use crate::receipt::receive_state;
 use crate::sending::start_state;
 use crate::states::States;
+use mp_applicable::{ActionIndex, FarIndex};
 use mp_list::{Copied, OutOfMemory};
 use mp_messages::State;
-use mp_sets::{Agent, Bits};
+use mp_sets::Agent;
 use mp_store::{Origin, Store};
 use mp_task::{Heuristic, Task};
 use mp_tokens::Tokens;
@@ -35,6 +37,8 @@ pub struct Search<H: Heuristic> {
     /// How many entries it may expand.
     limit: u64,
     states: States,
+    index: Index,
+    scratch: Scratch,
     /// How many entries it expanded.
     expansions: u64,
     /// Memory ran out before.
@@ -54,7 +58,7 @@ impl<H: Heuristic> Model for Search<H> {
 
     ghost view = { λ s. agent_search s.task s.limit s.states s.expansions s.failed };
 
-    ghost invariant = { λ s. IsSearch (H.is_for s.heuristic) s.task s.limit s.states s.expansions s.failed };
+    ghost invariant = { λ s. IsSearch (H.is_for s.heuristic) s.task s.limit s.states s.index s.scratch s.expansions s.failed };
 }
 
 /// The states that are kept at the start: the initial one, unless no plan leads on from it.
@@ -73,6 +77,17 @@ fn start_states<H: Heuristic>(
     let value = heuristic.value(&state.key.publics, &state.mine)?;
     offer_at(task, &mut states, &mut state, 0, value, Origin::Root)?;
     Ok(states)
+}
+
+/// What is worked out once of a task.
+fn index_of(alloc: Global, task: &Task) -> Result<Index, OutOfMemory>
+    ensures actions { IfOk result (λ index. IsIndexOf task.now index.actions) }
+    ensures far { IfOk result (λ index. IsFarIndexOf task.now index.far) }
+{
+    Ok(Index {
+        actions: ActionIndex::new(alloc, task)?,
+        far: FarIndex::new(alloc, task)?,
+    })
 }
 
 impl<H: Heuristic> Search<H> {
@@ -96,12 +111,16 @@ impl<H: Heuristic> Search<H> {
     {
         let mut heuristic = heuristic;
         let states = start_states(alloc, &task, &mut heuristic)?;
+        let index = index_of(alloc, &task)?;
+        let scratch = scratch_for(alloc, &task)?;
         Ok(Search {
             alloc,
             task,
             heuristic,
             limit,
             states,
+            index,
+            scratch,
             expansions: 0,
             failed: false,
         })
@@ -159,8 +178,10 @@ impl<H: Heuristic> Search<H> {
         match expand_least(
             self.alloc,
             &self.task,
+            &self.index,
             &mut self.heuristic,
             &mut self.states,
+            &mut self.scratch,
         ) {
             Ok(sendings) => {
                 self.expansions += 1;

@@ -3,6 +3,7 @@
 ghost use Rattle.std.specs.Prelude.{◌≡◌, ◌<◌, IfOk, OnOk, Some, length, map};
 ghost use Rattle.mp_store.specs.Sent.{mark_sent};
 ghost use Rattle.mp_task.specs.Public as public;
+ghost use Rattle.mp_applicable.specs.Far.{IsFarIndexOf};
 ghost use Rattle.mp_search.specs.AgentState.{start_state, start_tag, with_tag};
 ghost use Rattle.mp_search.specs.Search.{tokens_given};
 ghost use Rattle.mp_search.specs.Sending.{is_due, sent_best, sent_entry_of, sent_if_due};
@@ -10,9 +11,10 @@ ghost use Rattle.mp_search.specs.StateKeys.{reached_state, HasSizes, IsMessageOf
 ghost use Rattle.mp_search.specs.Steps.{AreStatesOf, HaveSent};
 
 use crate::answer::{Sending, SendingList};
-use crate::concern::{is_visible, receivers};
+use crate::concern::{has_receivers, is_visible, receivers};
 use crate::reached::Reached;
 use crate::states::{Shown, States};
+use mp_applicable::FarIndex;
 use mp_list::{Copied, OutOfMemory};
 use mp_messages::State;
 use mp_sets::{Agent, Bits, Tag, Tags};
@@ -70,11 +72,13 @@ fn message(
 fn send_entry(
     alloc: Global,
     task: &Task,
+    far: &FarIndex,
     states: &mut States,
     state: &Reached,
     entry: u64,
     out: &mut SendingList,
 ) -> Result<(), OutOfMemory>
+    requires index { IsFarIndexOf task.now far.now }
     requires states { AreStatesOf task.now states.old }
     requires sizes { HasSizes task.now.publics task.now.privates state.now }
     requires inside { entry < length states.old.kept.entries }
@@ -82,10 +86,10 @@ fn send_entry(
         (sent_entry_of task.now (reached_state state.now) (Some entry) states.old.kept)
         out.old out.new states.old states.new) }
 {
-    let to = receivers(alloc, task, state)?;
     let Some((number, token)) = states.send(entry)? else {
         return Ok(());
     };
+    let to = receivers(alloc, task, far, state)?;
     let state = message(alloc, task, number, token, states.entry(entry))?;
     out.push(Sending { state, to })
 }
@@ -94,10 +98,12 @@ fn send_entry(
 fn send_best(
     alloc: Global,
     task: &Task,
+    far: &FarIndex,
     states: &mut States,
     state: &mut Reached,
     out: &mut SendingList,
 ) -> Result<(), OutOfMemory>
+    requires index { IsFarIndexOf task.now far.now }
     requires states { AreStatesOf task.now states.old }
     requires sizes { HasSizes task.now.publics task.now.privates state.old }
     ensures sent { OnOk result (HaveSent task.now (sent_best task.now (reached_state state.old) states.old.kept)
@@ -106,29 +112,27 @@ fn send_best(
     ensures sizes { HasSizes task.now.publics task.now.privates state.new }
 {
     match states.best(state) {
-        Some(entry) => send_entry(alloc, task, states, state, entry, out),
+        Some(entry) => send_entry(alloc, task, far, states, state, entry, out),
         None => Ok(()),
     }
 }
 
-/// Whether a state that an own action led to is due to be sent.
+/// Whether a state that an own action led to is due to be sent. Takes no memory.
 fn is_due(
-    alloc: Global,
     task: &Task,
+    far: &FarIndex,
     is_public: bool,
     act: &Act,
     before: &Reached,
     state: &Reached,
-) -> Result<bool, OutOfMemory>
+) -> bool
+    requires index { IsFarIndexOf task.now far.now }
     requires public { is_public ≡ public.is_public act.now }
     requires before { HasSizes task.now.publics task.now.privates before.now }
     requires sizes { HasSizes task.now.publics task.now.privates state.now }
-    ensures { IfOk result (λ due. due ≡ is_due task.now act.now (reached_state before.now) (reached_state state.now)) }
+    ensures { result ≡ is_due task.now act.now (reached_state before.now) (reached_state state.now) }
 {
-    if !is_visible(task, is_public, act, before, state) {
-        return Ok(false);
-    }
-    Ok(receivers(alloc, task, state)?.len() > 0)
+    is_visible(task, is_public, act, before, state) && has_receivers(task, far, state)
 }
 
 /// Sends a state that an own action led to, where that is due.
@@ -136,6 +140,7 @@ fn is_due(
 pub(crate) fn send_if_due(
     alloc: Global,
     task: &Task,
+    far: &FarIndex,
     is_public: bool,
     act: &Act,
     before: &Reached,
@@ -143,6 +148,7 @@ pub(crate) fn send_if_due(
     state: &mut Reached,
     out: &mut SendingList,
 ) -> Result<(), OutOfMemory>
+    requires index { IsFarIndexOf task.now far.now }
     requires public { is_public ≡ public.is_public act.now }
     requires states { AreStatesOf task.now states.old }
     requires before { HasSizes task.now.publics task.now.privates before.now }
@@ -153,8 +159,8 @@ pub(crate) fn send_if_due(
     ensures state { reached_state state.new ≡ reached_state state.old }
     ensures sizes { HasSizes task.now.publics task.now.privates state.new }
 {
-    if is_due(alloc, task, is_public, act, before, state)? {
-        return send_best(alloc, task, states, state, out);
+    if is_due(task, far, is_public, act, before, state) {
+        return send_best(alloc, task, far, states, state, out);
     }
     Ok(())
 }

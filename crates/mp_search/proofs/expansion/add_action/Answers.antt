@@ -1,27 +1,20 @@
-use Rattle.std.proofs.Common.{◌≡◌, true, false, sym, subst, ◌∙◌}
+use Rattle.std.proofs.Common.{subst}
 use Rattle.mp_search.specs.AgentState.{AgentState}
 use Rattle.mp_search.specs.Expansion.{with_successor}
 use Rattle.mp_search.specs.StateKeys.{reached_state}
 use Rattle.mp_search.specs.Steps.{HaveSent, parent_of}
-use Rattle.mp_search.proofs.SendingSteps.{action_sent, no_action, on_ok, successor_sent}
+use Rattle.mp_search.proofs.SendingSteps.{action_sent, on_ok, successor_sent}
 use Rattle.mp_search.proofs.expansion.add_action.Goals as goal
-
-pub returns-then-not-may_apply-clause-sent : goal.returns-then-not-may_apply-clause-sent
-returns-then-not-may_apply-clause-sent g c =
-    let not : c.may_apply.result ≡ false = cc in
-    no_action c.args.task.now (g.H.Heuristic.value c.args.task.now) (parent_of c.args.parent.now) c.args.number c.args.act.now c.args.states.now c.args.out.now
-    (sym c.may_apply.ensures ∙ not) c.requires.states
 
 pub returns-clause-sent : goal.returns-clause-sent
 returns-clause-sent g c =
     let t = c.args.task.now in
     let value = g.H.Heuristic.value t in
     let p = parent_of c.args.parent.now in
-    let may : c.may_apply.result ≡ true = cc in
     on_ok c.send_if_due.result _ _ c.send_if_due.ensures.sent
     (λ sent.
     action_sent t value p c.args.number c.args.act.now c.args.states.now c.send_if_due.new.states c.args.out.now c.send_if_due.new.out
-    (sym c.may_apply.ensures ∙ may)
+    c.requires.applies
     (subst (λ (s : AgentState). HaveSent t (with_successor t value p c.args.number c.args.act.now s c.args.states.now.kept) c.args.out.now c.send_if_due.new.out c.args.states.now c.send_if_due.new.states)
     c.follow.ensures.state
     (successor_sent t value p c.args.number c.args.act.now

@@ -12,15 +12,15 @@ add_actions-requires-clause-parent g c =
     let n = c.args.number in
     let entries = c.args.states.now.kept.entries in
     let told =
-    entry_told (λ (e : Entry AgentState). parent_of c.in_ok-parent.parent ≡ record { number = n; state = e.key; g = e.g })
-    (slice_get entries n) c.in_ok-parent.ensures.entry
+    entry_told (λ (e : Entry AgentState). parent_of c.set_parent.new.parent ≡ record { number = n; state = e.key; g = e.g })
+    (slice_get entries n) c.in_ok-set_parent.ensures.entry
     in
     record {
       inside = subst (λ (m : ℕ). m < length entries) (sym (ap (λ (x : Parent). x.number) told.2)) c.requires.inside;
-      bounded = c.in_ok-parent.ensures.bounded;
+      bounded = c.in_ok-set_parent.ensures.bounded;
       sizes = record {
-        publics_size = c.in_ok-parent.ensures.sizes.publics_size ∙ c.requires.states.publics;
-        privates_size = c.in_ok-parent.ensures.sizes.privates_size ∙ c.requires.states.privates;
+        publics_size = c.in_ok-set_parent.ensures.sizes.publics_size ∙ c.requires.states.publics;
+        privates_size = c.in_ok-set_parent.ensures.sizes.privates_size ∙ c.requires.states.privates;
       };
     }
 
@@ -31,8 +31,8 @@ returns-clause-sent g c =
     let n = c.args.number in
     let r = c.args.states.now.kept in
     let told =
-    entry_told (λ (e : Entry AgentState). parent_of c.in_ok-parent.parent ≡ record { number = n; state = e.key; g = e.g })
-    (slice_get r.entries n) c.in_ok-parent.ensures.entry
+    entry_told (λ (e : Entry AgentState). parent_of c.set_parent.new.parent ≡ record { number = n; state = e.key; g = e.g })
+    (slice_get r.entries n) c.in_ok-set_parent.ensures.entry
     in
     subst (λ (o : Option (Entry AgentState)). IsSomeAnd o (λ e.
     (c.add_actions.new.out, c.add_actions.new.states.kept) ≡ with_actions t value (record { number = n; state = e.key; g = e.g }) 0 t.acts r))
