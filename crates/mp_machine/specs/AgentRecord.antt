@@ -1,5 +1,6 @@
--- What one agent of a team has done so far, as contracts see it: its search (MAD-A*, Nissim and Brafman 2014), its part
--- in snapshots (Chandy and Lamport 1985), and its part in walking the plan back.
+-- What one agent of a team has done so far, as contracts see it: its search (MAD-A*, Nissim and
+-- Brafman 2014), its part in snapshots (Chandy and Lamport 1985), and its part in walking the
+-- plan back.
 use Rattle.std.specs.Prelude.{ℕ, ◌==◌, Bool, true, false, List, [], Option, None, if◌then◌else◌}
 use Rattle.mp_sets.specs.Numbers.{Numbers}
 use Rattle.mp_task.specs.AgentTask.{AgentTask}
@@ -33,7 +34,8 @@ pub record AgentRecord : Type 0 where
   -- its actions of the plan with their times, once there is one
   pub share : List Timed
 
--- An agent at the start. A heuristic's value is a parameter: none where no plan leads on from a state.
+-- An agent at the start. A heuristic's value is a parameter: none where no plan leads on from a
+-- state.
 abbrev pub new_record : AgentTask → (Numbers → Numbers → Option ℕ) → ℕ → AgentRecord
 new_record t value limit = record {
   task = t;

@@ -1,5 +1,6 @@
 -- A machine: an agent that takes steps until one is refused for good.
-use Rattle.std.specs.Prelude.{◌≡◌, ℕ, Bool, true, false, List, [], map, Option, Some, None, IfSome, Result, Ok, Err, if◌then◌else◌}
+use Rattle.std.specs.Prelude.{◌≡◌, ℕ, Bool, true, false, List, [], map, Option, Some, None, IfSome}
+use Rattle.std.specs.Prelude.{Result, Ok, Err, if◌then◌else◌}
 use Rattle.std.specs.Option.{option_map_or}
 use Rattle.mp_sets.specs.Numbers.{Numbers}
 use Rattle.mp_machine.specs.declared.event.Local.{Local}
@@ -17,12 +18,15 @@ pub record AgentMachine : Type 0 where
   pub stopped : Option StepRefusal
 
 -- a step was taken, or a bad message stops the machine
-abbrev pub stepped : AgentRecord → Result Step BadKind → Result (List Out) StepRefusal × AgentMachine
+abbrev pub stepped :
+    AgentRecord → Result Step BadKind → Result (List Out) StepRefusal × AgentMachine
 stepped r (Ok s) = (Ok (map in_bytes s.out), record { done = s.after; stopped = None })
 stepped r (Err kind) = (Err (Bad kind), record { done = r; stopped = Some (Bad kind) })
 
 -- What a machine answers and what it is then, with memory enough.
-abbrev pub answered : (Numbers → Numbers → Option ℕ) → AgentMachine → Local → List ℕ → Result (List Out) StepRefusal × AgentMachine
+abbrev pub answered :
+    (Numbers → Numbers → Option ℕ) → AgentMachine → Local → List ℕ
+    → Result (List Out) StepRefusal × AgentMachine
 answered value m event bytes =
     option_map_or (λ refusal. (Err refusal, m)) m.stopped
     (if may m.done event then stepped m.done (local value m.done event bytes) else (Err NotNow, m))
@@ -39,8 +43,8 @@ abbrev pub given : Option (List ℕ) → List ℕ
 given None = []
 given (Some bytes) = bytes
 
--- What a step answers, and what the machine is then. For want of memory alone the answer is another one than the
--- definition's.
+-- What a step answers, and what the machine is then. For want of memory alone the answer is
+-- another one than the definition's.
 pub record IsStep
     (value : Numbers → Numbers → Option ℕ)
     (old : AgentMachine)

@@ -1,5 +1,7 @@
--- A search and a member of the program as the plain record that contracts see, and what holds of them.
-use Rattle.std.specs.Prelude.{◌≡◌, ◌-◌, ◌*◌, ◌+◌, ◌<◌, ◌≤◌, ◌^◌, true, false, List, [], ◌++◌, length, map, All, IfSome, Result, Ok, Err}
+-- A search and a member of the program as the plain record that contracts see, and what holds of
+-- them.
+use Rattle.std.specs.Prelude.{◌≡◌, ◌-◌, ◌*◌, ◌+◌, ◌<◌, ◌≤◌, ◌^◌, true, false, List, [], ◌++◌}
+use Rattle.std.specs.Prelude.{length, map, All, IfSome, Result, Ok, Err}
 use Rattle.mp_task.specs.AgentTask.{AgentTask}
 use Rattle.mp_task.specs.Limits.{IsWithinLimits}
 use Rattle.mp_messages.specs.Spelling.{AreFindings, AreStateNumbers}
@@ -107,6 +109,8 @@ IsRefused (Bad kind) wanted r after = (wanted ≡ Err kind) × (after ≡ r)
 IsRefused OutOfMemory wanted r after = Unit {0}
 
 -- A message was taken or refused as the definition says, unless memory ran out.
-abbrev pub IsTaken : {A : Type 0} → Result A StepRefusal → Result Step BadKind → List Out → List Out → AgentRecord → AgentRecord → Type 0
+abbrev pub IsTaken :
+    {A : Type 0} → Result A StepRefusal → Result Step BadKind → List Out → List Out
+    → AgentRecord → AgentRecord → Type 0
 IsTaken (Ok a) wanted old new r after = HasTaken wanted old new after
 IsTaken (Err e) wanted old new r after = IsRefused e wanted r after

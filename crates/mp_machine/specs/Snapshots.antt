@@ -17,8 +17,8 @@ use Rattle.mp_machine.specs.AgentRecord.{AgentRecord, given_verdict}
 use Rattle.mp_machine.specs.Outgoing.{Step, after_sending, without_messages, to_one, to_others}
 use Rattle.mp_machine.specs.WalkingBack.{walked_from_goal}
 
--- What a search with a limit has found. The number is that of the snapshot, and no state is under way yet: a snapshot
--- that begins sees to both.
+-- What a search with a limit has found. The number is that of the snapshot, and no state is
+-- under way yet: a snapshot that begins sees to both.
 abbrev pub found_by : ℕ → SearchRecord → Findings
 found_by limit s = record {
   number = 0;
@@ -31,8 +31,8 @@ found_by limit s = record {
 abbrev pub findings : AgentRecord → Findings
 findings r = found_by r.limit r.search
 
--- an entry from which a plan can be walked back: the plan is at most as long as the entry's number, and the lengths
--- that messages tell are below 2 ^ 60
+-- an entry from which a plan can be walked back: the plan is at most as long as the entry's
+-- number, and the lengths that messages tell are below 2 ^ 60
 abbrev pub if_walkable : Option (ℕ × ℕ) → Option ℕ
 if_walkable None = None
 if_walkable (Some (cost, entry)) = if nat_lt entry (2 ^ 60) then Some entry else None
@@ -49,7 +49,8 @@ with_notes snapshot r = record r {
   goal = goal_entry r.search.kept;
 }
 
--- What agent 1 does by a verdict. By the first one an agent begins to walk the plan back; by the next two all end.
+-- What agent 1 does by a verdict. By the first one an agent begins to walk the plan back; by the
+-- next two all end.
 abbrev pub by_verdict : AgentRecord → Verdict → Step
 by_verdict r (Proved agent cost) =
     if agent == r.task.me
@@ -85,11 +86,13 @@ started r =
     after_sending (to_others r.task (Marker (r.snapshot.number + 1)))
     (judged (with_notes (begun r.snapshot (r.snapshot.number + 1) (findings r)) r))
 
--- A marker has come that is not strange. By the first one the snapshot begins here, and all others are sent a marker.
+-- A marker has come that is not strange. By the first one the snapshot begins here, and all
+-- others are sent a marker.
 abbrev pub marked : AgentRecord → ℕ → ℕ → Step
 marked r from number =
     if is_under_way r.snapshot
-    then judged_or_reported (record r { snapshot = after_marker r.snapshot from number (findings r) })
+    then
+    judged_or_reported (record r { snapshot = after_marker r.snapshot from number (findings r) })
     else
     after_sending (to_others r.task (Marker number))
     (judged_or_reported (with_notes (after_marker r.snapshot from number (findings r)) r))

@@ -14,8 +14,8 @@ use Rattle.mp_machine.specs.Outgoing.{Step, without_messages, to_one, to_others}
 abbrev pub solved : AgentRecord → ℕ → AgentRecord
 solved r length = record r { ending = Solved length; share = share length r.trail }
 
--- At the initial state the plan's length is known: all others are told, and the agent ends. At a state that another
--- agent sent, that one is to go on.
+-- At the initial state the plan's length is known: all others are told, and the agent ends. At a
+-- state that another agent sent, that one is to go on.
 abbrev pub arrived : AgentRecord → Walked → Step
 arrived r (Root length) = record {
   out = to_others r.task (Length length);
@@ -23,10 +23,12 @@ arrived r (Root length) = record {
 }
 arrived r (Hop agent sent back) = record { out = to_one agent (Trace sent back); after = r }
 
--- The agent walks back from an entry that so many actions of the plan come after, and notes its own actions.
+-- The agent walks back from an entry that so many actions of the plan come after, and notes its
+-- own actions.
 unfoldable pub walked : AgentRecord → ℕ → ℕ → Step
 walked r entry back =
-    arrived (record r { trail = r.trail ++ (walk r.search.kept entry back).noted }) (walk r.search.kept entry back).end
+    arrived (record r { trail = r.trail ++ (walk r.search.kept entry back).noted })
+    (walk r.search.kept entry back).end
 
 -- the walk begins at the goal entry that the agent noted
 abbrev pub walked_from_goal : AgentRecord → Step

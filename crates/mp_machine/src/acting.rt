@@ -5,7 +5,8 @@ ghost use Rattle.mp_messages.specs.Spelling.{Fits};
 ghost use Rattle.mp_snapshot.specs.Rules.{IsAnother};
 ghost use Rattle.mp_machine.specs.AgentRecord.{given_verdict, is_going};
 ghost use Rattle.mp_machine.specs.LocalStep.{is_another, local, may, may_now, may_start};
-ghost use Rattle.mp_machine.specs.MemberFields.{record_of, HasTaken, IsMember, IsReady, IsRefused, IsSameMember, IsTaken};
+ghost use Rattle.mp_machine.specs.MemberFields.{record_of, HasTaken, IsMember, IsReady};
+ghost use Rattle.mp_machine.specs.MemberFields.{IsRefused, IsSameMember, IsTaken};
 ghost use Rattle.mp_machine.specs.Taking.{took, took_message};
 ghost use Rattle.mp_machine.specs.Verdicts.{is_deciding, proved_cost};
 
@@ -131,7 +132,8 @@ fn take_message<H: Heuristic>(
     requires another { IsAnother member.old.snapshot from }
     requires fits { Fits search.old.task.agents search.old.task.publics message }
     ensures step { IsTaken result
-        (took_message (H.value search.old.task) (record_of search.old member.old) from message) outs.old outs.new
+        (took_message (H.value search.old.task) (record_of search.old member.old) from message)
+        outs.old outs.new
         (record_of search.old member.old) (record_of search.new member.new) }
     ensures ready { OnOk result (IsReady search.new member.new) }
     ensures team { IsSameMember member.old member.new }
@@ -160,7 +162,8 @@ fn take<H: Heuristic>(
     requires ready { IsReady search.old member.old }
     requires another { IsAnother member.old.snapshot from }
     ensures step { IsTaken result
-        (took (H.value search.old.task) (record_of search.old member.old) from bytes.now) outs.old outs.new
+        (took (H.value search.old.task) (record_of search.old member.old) from bytes.now)
+        outs.old outs.new
         (record_of search.old member.old) (record_of search.new member.new) }
     ensures ready { OnOk result (IsReady search.new member.new) }
     ensures team { IsSameMember member.old member.new }
@@ -185,7 +188,8 @@ fn add_step<H: Heuristic>(
     requires ready { IsReady search.old member.old }
     requires may { may_now (record_of search.old member.old) event.now ≡ true }
     ensures step { IsTaken result
-        (local (H.value search.old.task) (record_of search.old member.old) event.now bytes.now) outs.old outs.new
+        (local (H.value search.old.task) (record_of search.old member.old) event.now bytes.now)
+        outs.old outs.new
         (record_of search.old member.old) (record_of search.new member.new) }
     ensures ready { OnOk result (IsReady search.new member.new) }
     ensures team { IsSameMember member.old member.new }
@@ -209,7 +213,8 @@ pub(crate) fn act<H: Heuristic>(
     requires ready { IsReady search.old member.old }
     requires may { may_now (record_of search.old member.old) event.now ≡ true }
     ensures taken { IfOk result (λ outs. HasTaken
-        (local (H.value search.old.task) (record_of search.old member.old) event.now bytes.now) [] outs
+        (local (H.value search.old.task) (record_of search.old member.old) event.now bytes.now)
+        [] outs
         (record_of search.new member.new)) }
     ensures refused { IfErr result (λ e. IsRefused e
         (local (H.value search.old.task) (record_of search.old member.old) event.now bytes.now)

@@ -1,4 +1,5 @@
-//! One agent of a team of MAD-A*, a distributed A*, as a pure step: an event and bytes in, messages out.
+//! One agent of a team of MAD-A*, a distributed A*, as a pure step: an event and bytes in, messages
+//! out.
 #![tactic(auto)]
 
 mod acting;

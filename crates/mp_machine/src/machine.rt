@@ -29,8 +29,9 @@ fn taken_bytes(bytes: Option<&[u8]>) -> &[u8]
     }
 }
 
-/// One agent of a team: its search, its part in snapshots and its part in walking the plan back. Contracts see it as the
-/// plain record of what it did, and what it refuses every step with, once it does.
+/// One agent of a team: its search, its part in snapshots and its part in walking the plan back.
+/// Contracts see it as the plain record of what it did, and what it refuses every step with, once
+/// it does.
 #[derive(Drop)]
 pub struct Machine<H: Heuristic> {
     search: Search<H>,
@@ -55,7 +56,8 @@ impl<H: Heuristic> Model for Machine<H> {
 }
 
 impl<H: Heuristic> Machine<H> {
-    /// An agent at the start. The limit is from 1 to 10,000,000, and the heuristic was made of an equal task.
+    /// An agent at the start. The limit is from 1 to 10,000,000, and the heuristic was made of an
+    /// equal task.
     pub fn new(
         alloc: Global,
         task: Task,
@@ -65,7 +67,10 @@ impl<H: Heuristic> Machine<H> {
         requires from_1 { 1 ≤ limit }
         requires limit { limit ≤ 10000000 }
         requires heuristic { H.is_for heuristic task }
-        ensures { IfOk result (λ made. made ≡ record { done = new_record task (H.value task) limit; stopped = None }) }
+        ensures { IfOk result (λ made. made ≡ record {
+          done = new_record task (H.value task) limit;
+          stopped = None;
+        }) }
     {
         let member = new_member(alloc, &task);
         let search = Search::new(alloc, task, heuristic, limit)?;
@@ -83,12 +88,17 @@ impl<H: Heuristic> Machine<H> {
         may(&self.search, &self.member, event)
     }
 
-    /// Takes a step at an event that may happen, with the bytes of the oldest message of another agent, if one is taken:
-    /// the messages that go out, in this order. It refuses bytes that no agent of the team can have sent, and every step
-    /// from then on, as it does for want of memory.
+    /// Takes a step at an event that may happen, with the bytes of the oldest message of another
+    /// agent, if one is taken: the messages that go out, in this order.
+    ///
+    /// It refuses with `NotNow` exactly where the event may not happen, and then nothing changed.
+    /// It refuses with `Bad` exactly where the message that is taken is a bad one for this agent,
+    /// by what it has done so far, and tells the first kind that the message is of, in the order
+    /// of `BadKind`; the same bytes may be a good message for an agent that has done something
+    /// else. After `Bad`, and after want of memory, it refuses every step in the same way.
     pub fn step(&mut self, event: Local, bytes: Option<&[u8]>) -> Result<Outs, StepRefusal>
-        ensures { IsStep (H.value self.old.done.task) self.old event (given (option_map (λ b. b.now) bytes.entry))
-            result self.new }
+        ensures { IsStep (H.value self.old.done.task) self.old event
+            (given (option_map (λ b. b.now) bytes.entry)) result self.new }
     {
         if let Some(refusal) = self.stopped {
             return Err(refusal);
@@ -113,7 +123,8 @@ impl<H: Heuristic> Machine<H> {
         self.member.ending
     }
 
-    /// The cost of the plan that agent 1 has proved to be cheapest: none at another agent, and before that.
+    /// The cost of the plan that agent 1 has proved to be cheapest: none at another agent, and
+    /// before that.
     pub fn cost(&self) -> Option<u64>
         ensures { result ≡ proved_cost (given_verdict self.now.done) }
     {
@@ -134,7 +145,8 @@ impl<H: Heuristic> Machine<H> {
         self.search.expanded()
     }
 
-    /// How many entries it had when it noted what it found for its last snapshot, and 0 before the first.
+    /// How many entries it had when it noted what it found for its last snapshot, and 0 before the
+    /// first.
     pub fn noted(&self) -> u64
         ensures { result ≡ self.now.done.noted }
     {

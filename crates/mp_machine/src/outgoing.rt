@@ -31,7 +31,8 @@ pub(crate) fn send(
 ) -> Result<(), OutOfMemory>
     requires numbers { AreNumbers message.now }
     requires facts { FactsBelow (2 ^ 32 - 1) message.now }
-    ensures { OnOk result (outs.new ≡ outs.old ++ record { to = to; bytes = spelling message.now } ∷ []) }
+    ensures { OnOk result (outs.new
+        ≡ outs.old ++ record { to = to; bytes = spelling message.now } ∷ []) }
 {
     let bytes = encode(alloc, message)?;
     outs.push(Out { to, bytes })
@@ -89,7 +90,8 @@ pub(crate) fn send_to_others(
     requires team { agents ≤ 16 }
     requires numbers { AreNumbers message.now }
     requires facts { FactsBelow (2 ^ 32 - 1) message.now }
-    ensures { OnOk result (outs.new ≡ outs.old ++ map in_bytes (to_each (others me agents) message.now)) }
+    ensures { OnOk result (outs.new
+        ≡ outs.old ++ map in_bytes (to_each (others me agents) message.now)) }
 {
     for before in 0..agents {
         send_to_another(alloc, outs, me, before + 1, message)?;

@@ -1,12 +1,15 @@
 //! An agent's part in the snapshots of its team.
 
-ghost use Rattle.std.specs.Prelude.{◌≡◌, ◌+◌, ◌<◌, ◌≤◌, ◌^◌, ◌++◌, ℕ, [], true, false, if◌then◌else◌, length, map, option_map, OnOk};
+ghost use Rattle.std.specs.Prelude.{◌≡◌, ◌+◌, ◌<◌, ◌≤◌, ◌^◌, ◌++◌, ℕ, [], true, false};
+ghost use Rattle.std.specs.Prelude.{if◌then◌else◌, length, map, option_map, OnOk};
 ghost use Rattle.mp_snapshot.specs.Rules.{begun, is_under_way, is_whole, own, IsAnother};
 ghost use Rattle.mp_machine.specs.AgentRecord.{given_verdict};
 ghost use Rattle.mp_machine.specs.LocalStep.{may_start};
-ghost use Rattle.mp_machine.specs.MemberFields.{record_of, HasStepped, IsReady, IsSameMember, IsTaken};
+ghost use Rattle.mp_machine.specs.MemberFields.{record_of, HasStepped, IsReady};
+ghost use Rattle.mp_machine.specs.MemberFields.{IsSameMember, IsTaken};
 ghost use Rattle.mp_machine.specs.Outgoing.{after_sending, in_bytes, others, to_each, to_others};
-ghost use Rattle.mp_machine.specs.Snapshots.{by_verdict, found_by, goal_entry, if_walkable, judged, judged_or_reported, started, with_notes};
+ghost use Rattle.mp_machine.specs.Snapshots.{by_verdict, found_by, goal_entry, if_walkable};
+ghost use Rattle.mp_machine.specs.Snapshots.{judged, judged_or_reported, started, with_notes};
 ghost use Rattle.mp_machine.specs.Taking.{knows_of_no_plan, took_marker, took_report};
 
 use crate::event::Ending;
@@ -82,7 +85,8 @@ fn end_without_plan(
 ) -> Result<(), OutOfMemory>
     requires { member.old.agents ≤ 16 }
     ensures out { OnOk result (outs.new
-        ≡ outs.old ++ map in_bytes (to_each (others member.old.me member.old.agents) (Message.Done kind))) }
+        ≡ outs.old ++ map in_bytes
+        (to_each (others member.old.me member.old.agents) (Message.Done kind))) }
     ensures member { member.new ≡ record member.old { ending = ending } }
 {
     member.ending = ending;
@@ -162,7 +166,8 @@ fn begin<H: Heuristic>(search: &Search<H>, member: &mut Member)
     requires free { is_under_way member.old.snapshot ≡ false }
     requires room { member.old.snapshot.number + 1 < 2 ^ 60 }
     ensures { member.new ≡ record member.old {
-      snapshot = begun member.old.snapshot (member.old.snapshot.number + 1) (found_by search.now.limit search.now.done);
+      snapshot = begun member.old.snapshot (member.old.snapshot.number + 1)
+          (found_by search.now.limit search.now.done);
       noted = length search.now.done.kept.entries;
       goal = goal_entry search.now.done.kept;
     } }
@@ -199,7 +204,8 @@ fn judge_or_report<H: Heuristic>(
 ) -> Result<(), OutOfMemory>
     requires ready { IsReady search.now member.old }
     requires trail { search.now.task.me ≡ 1 → member.old.trail ≡ [] }
-    requires whole { whole ≡ (if is_whole member.old.snapshot then Some (own member.old.snapshot) else None) }
+    requires whole { whole
+        ≡ (if is_whole member.old.snapshot then Some (own member.old.snapshot) else None) }
     ensures step { OnOk result (HasStepped (judged_or_reported (record_of search.now member.old))
         outs.old outs.new (record_of search.now member.new)) }
     ensures ready { OnOk result (IsReady search.now member.new) }
@@ -228,7 +234,8 @@ fn begin_here<H: Heuristic>(
     requires ready { IsReady search.now member.old }
     requires small { number < 2 ^ 60 }
     requires trail { search.now.task.me ≡ 1 → member.old.trail ≡ [] }
-    requires whole { whole ≡ (if is_whole member.old.snapshot then Some (own member.old.snapshot) else None) }
+    requires whole { whole
+        ≡ (if is_whole member.old.snapshot then Some (own member.old.snapshot) else None) }
     ensures step { OnOk result (HasStepped
         (after_sending (to_others search.now.task (Message.Marker number))
         (judged_or_reported (with_notes member.old.snapshot (record_of search.now member.old))))
@@ -253,8 +260,8 @@ pub(crate) fn take_marker<H: Heuristic>(
     requires ready { IsReady search.now member.old }
     requires another { IsAnother member.old.snapshot from }
     requires small { number < 2 ^ 60 }
-    ensures step { IsTaken result (took_marker (record_of search.now member.old) from number) outs.old outs.new
-        (record_of search.now member.old) (record_of search.now member.new) }
+    ensures step { IsTaken result (took_marker (record_of search.now member.old) from number)
+        outs.old outs.new (record_of search.now member.old) (record_of search.now member.new) }
     ensures ready { OnOk result (IsReady search.now member.new) }
     ensures team { IsSameMember member.old member.new }
 {
@@ -279,8 +286,8 @@ pub(crate) fn take_report<H: Heuristic>(
 ) -> Result<(), StepRefusal>
     requires ready { IsReady search.now member.old }
     requires another { IsAnother member.old.snapshot from }
-    ensures step { IsTaken result (took_report (record_of search.now member.old) from found) outs.old outs.new
-        (record_of search.now member.old) (record_of search.now member.new) }
+    ensures step { IsTaken result (took_report (record_of search.now member.old) from found)
+        outs.old outs.new (record_of search.now member.old) (record_of search.now member.new) }
     ensures ready { OnOk result (IsReady search.now member.new) }
     ensures team { IsSameMember member.old member.new }
 {

@@ -8,7 +8,8 @@ ghost use Rattle.mp_search.specs.Search.{may_expand};
 ghost use Rattle.mp_snapshot.specs.Rules.{IsAnother};
 ghost use Rattle.mp_machine.specs.declared.outgoing.Out.{Out};
 ghost use Rattle.mp_machine.specs.LocalStep.{with_search};
-ghost use Rattle.mp_machine.specs.MemberFields.{record_of, IsReady, IsSameMember, IsTaken, SendingFits, sent_state};
+ghost use Rattle.mp_machine.specs.MemberFields.{record_of, IsReady, IsSameMember, IsTaken};
+ghost use Rattle.mp_machine.specs.MemberFields.{SendingFits, sent_state};
 ghost use Rattle.mp_machine.specs.Taking.{took_state};
 
 use crate::member::Member;
@@ -74,8 +75,8 @@ pub(crate) fn take_state<H: Heuristic>(
     requires another { IsAnother member.old.snapshot from }
     requires state { IsStateFor search.old.task state }
     ensures step { (outs : List Out) → IsTaken result
-        (took_state (H.value search.old.task) (record_of search.old member.old) from state) outs outs
-        (record_of search.old member.old) (record_of search.new member.new) }
+        (took_state (H.value search.old.task) (record_of search.old member.old) from state)
+        outs outs (record_of search.old member.old) (record_of search.new member.new) }
     ensures ready { OnOk result (IsReady search.new member.new) }
     ensures team { IsSameMember member.old member.new }
     ensures task { search.new.task ≡ search.old.task }

@@ -3,8 +3,11 @@
 ghost use Rattle.std.specs.Prelude.{◌≡◌, ◌==◌, ◌+◌, ◌^◌, List, length, not, OnOk};
 ghost use Rattle.mp_snapshot.specs.Rules.{IsAnother};
 ghost use Rattle.mp_machine.specs.declared.outgoing.Out.{Out};
-ghost use Rattle.mp_machine.specs.MemberFields.{record_of, IsMember, IsReady, IsSameMember, IsTaken};
-ghost use Rattle.mp_machine.specs.Taking.{ending_of, is_strange_length, is_strange_pick, is_strange_trace, knows_of_no_plan, took_done, took_length, took_pick, took_trace};
+ghost use Rattle.mp_machine.specs.MemberFields.{record_of, IsMember, IsReady};
+ghost use Rattle.mp_machine.specs.MemberFields.{IsSameMember, IsTaken};
+ghost use Rattle.mp_machine.specs.Taking.{ending_of, is_strange_length, is_strange_pick};
+ghost use Rattle.mp_machine.specs.Taking.{is_strange_trace, knows_of_no_plan, took_done};
+ghost use Rattle.mp_machine.specs.Taking.{took_length, took_pick, took_trace};
 ghost use Rattle.mp_machine.specs.Verdicts.{is_proved};
 
 use crate::event::Ending;
@@ -77,8 +80,8 @@ pub(crate) fn take_pick<H: Heuristic>(
 ) -> Result<(), StepRefusal>
     requires ready { IsReady search.now member.old }
     requires another { IsAnother member.old.snapshot from }
-    ensures step { IsTaken result (took_pick (record_of search.now member.old) from number) outs.old outs.new
-        (record_of search.now member.old) (record_of search.now member.new) }
+    ensures step { IsTaken result (took_pick (record_of search.now member.old) from number)
+        outs.old outs.new (record_of search.now member.old) (record_of search.now member.new) }
     ensures ready { OnOk result (IsReady search.now member.new) }
     ensures team { IsSameMember member.old member.new }
 {
@@ -114,8 +117,8 @@ pub(crate) fn take_trace<H: Heuristic>(
     outs: &mut Outs,
 ) -> Result<(), StepRefusal>
     requires { IsReady search.now member.old }
-    ensures step { IsTaken result (took_trace (record_of search.now member.old) sent back) outs.old outs.new
-        (record_of search.now member.old) (record_of search.now member.new) }
+    ensures step { IsTaken result (took_trace (record_of search.now member.old) sent back)
+        outs.old outs.new (record_of search.now member.old) (record_of search.now member.new) }
     ensures ready { OnOk result (IsReady search.now member.new) }
     ensures team { IsSameMember member.old member.new }
 {
@@ -145,7 +148,8 @@ pub(crate) fn take_length<H: Heuristic>(
     length: u64,
 ) -> Result<(), StepRefusal>
     requires { IsReady search.now member.old }
-    ensures step { (outs : List Out) → IsTaken result (took_length (record_of search.now member.old) length) outs outs
+    ensures step { (outs : List Out) → IsTaken result
+        (took_length (record_of search.now member.old) length) outs outs
         (record_of search.now member.old) (record_of search.now member.new) }
     ensures ready { OnOk result (IsReady search.now member.new) }
     ensures team { IsSameMember member.old member.new }
@@ -174,7 +178,8 @@ pub(crate) fn take_done<H: Heuristic>(
     kind: EndKind,
 ) -> Result<(), StepRefusal>
     requires { IsReady search.now member.old }
-    ensures step { (outs : List Out) → IsTaken result (took_done (record_of search.now member.old) from kind) outs outs
+    ensures step { (outs : List Out) → IsTaken result
+        (took_done (record_of search.now member.old) from kind) outs outs
         (record_of search.now member.old) (record_of search.now member.new) }
     ensures ready { OnOk result (IsReady search.now member.new) }
     ensures team { IsSameMember member.old member.new }

@@ -19,8 +19,10 @@ use mp_trail::Walked;
 /// The plan has a length, so that the agent knows its share of it, and ends.
 pub(crate) fn solve(member: &mut Member, length: u64) -> Result<(), OutOfMemory>
     requires { fits length member.old.trail ≡ true }
-    ensures member { OnOk result (member.new
-        ≡ record member.old { ending = Ending.Solved length; share = share length member.old.trail }) }
+    ensures member { OnOk result (member.new ≡ record member.old {
+      ending = Ending.Solved length;
+      share = share length member.old.trail;
+    }) }
     ensures team { IsSameMember member.old member.new }
 {
     member.share = member.trail.share(length)?;
@@ -34,9 +36,12 @@ fn solve_and_tell(member: &mut Member, length: u64, outs: &mut Outs) -> Result<(
     requires small { length < 2 ^ 60 }
     requires team { member.old.agents ≤ 16 }
     ensures out { OnOk result (outs.new
-        ≡ outs.old ++ map in_bytes (to_each (others member.old.me member.old.agents) (Message.Length length))) }
-    ensures member { OnOk result (member.new
-        ≡ record member.old { ending = Ending.Solved length; share = share length member.old.trail }) }
+        ≡ outs.old ++ map in_bytes
+        (to_each (others member.old.me member.old.agents) (Message.Length length))) }
+    ensures member { OnOk result (member.new ≡ record member.old {
+      ending = Ending.Solved length;
+      share = share length member.old.trail;
+    }) }
     ensures team { IsSameMember member.old member.new }
 {
     solve(member, length)?;
