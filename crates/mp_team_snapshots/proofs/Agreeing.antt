@@ -1,0 +1,22 @@
+-- Tasks that agree, of which one is within the limits, are those of a team.
+use Rattle.std.proofs.Common.{◌≤◌, List, subst, arith}
+use Rattle.std.specs.Prelude.{Contains, slice_index_or}
+use Rattle.std.proofs.lemmas.List.{get_or_default}
+use Rattle.std.proofs.lemmas.List.Elements.{All-contains}
+use Rattle.mp_task.specs.Agree.{Agree, FitsTeam}
+use Rattle.mp_task.specs.AgentTask.{AgentTask}
+use Rattle.mp_task.specs.Limits.{IsWithinLimits}
+use Rattle.mp_world.proofs.Agents.{agree_numbered}
+use Rattle.mp_team_snapshots.specs.Team.{IsTeamOf}
+
+pub agreeing_team : (tasks : List AgentTask) (t : AgentTask) → Agree tasks → Contains tasks t → IsWithinLimits t → IsTeamOf t.publics tasks
+agreeing_team tasks t agree member limits = record {
+  numbered = agree_numbered tasks agree;
+  alike = λ k d inside.
+      (agree.alike (slice_index_or tasks k d) t (k, inside, get_or_default tasks k (slice_index_or tasks k d) d inside) member).publics;
+  facts = let few = limits.publics in omega arith;
+  some = let inside = member.1 in omega arith;
+  agents =
+      let same = (All-contains (FitsTeam tasks) tasks t agree.team member).agents in
+      subst (λ n. n ≤ 16) same limits.at_most_16_agents;
+}

@@ -1,0 +1,141 @@
+-- What a receiver reads, and which joint states it knows then, in the world of a team.
+use Rattle.std.proofs.Common.{◌≡◌, ℕ, ◌+◌, ◌-◌, ◌⊎◌, Bool, true, cond, List, get_or, Option, Some, All, refl, sym, ap, subst, ◌∙◌, arith, inl, inr}
+use Rattle.std.specs.Prelude.{Contains, IsSomeAnd, Ok, Err, not, slice_get, if◌then◌else◌}
+use Rattle.std.specs.FinSet as set
+use Rattle.std.specs.List.{enumerate_from}
+use Rattle.std.proofs.lemmas.Bool.{eq-eqb}
+use Rattle.std.proofs.lemmas.List.{length-map}
+use Rattle.std.proofs.lemmas.List.FromFn.{length-enumerate_from}
+use Rattle.std.proofs.lemmas.Option.{same_Some}
+use Rattle.mp_sets.specs.Numbers.{Numbers}
+use Rattle.mp_task.specs.Agree.{Agree}
+use Rattle.mp_task.specs.AgentTask.{AgentTask}
+use Rattle.mp_task.specs.Limits.{IsWithinLimits}
+use Rattle.mp_task.specs.Plan.{IsJointState, private_of, task_of}
+use Rattle.mp_messages.specs.declared.message.Message.{Message}
+use Rattle.mp_messages.specs.declared.message.Message.TheVariants as kinds
+use Rattle.mp_messages.specs.declared.message.State.{State}
+use Rattle.mp_messages.specs.Reading.{message_of}
+use Rattle.mp_messages.specs.Spelling.{IfState, spelling}
+use Rattle.mp_store.specs.declared.entry.Entry.{Entry}
+use Rattle.mp_search.specs.AgentState.{AgentState, no_tag}
+use Rattle.mp_search.specs.Receipt.{IsStateFor, is_byte_right, is_token_given, state_of}
+use Rattle.mp_search.specs.Sending.{message_of as message_of_entry}
+use Rattle.mp_machine.specs.declared.refusal.BadKind.TheVariants.{UnknownToken, WrongByte}
+use Rattle.mp_machine.specs.AgentRecord.{AgentRecord}
+use Rattle.mp_machine.specs.Outgoing.{without_messages}
+use Rattle.mp_machine.specs.Taking.{took, unless_bad, with_state}
+use Rattle.mp_machine.proofs.TakingLemmas.{took_spelled}
+use Rattle.mp_world.specs.World.{IsTeamWorld, World, agent_at, under_way}
+use Rattle.mp_world.specs.Joint.{joint, joint_told, private_facts, told_by}
+use Rattle.mp_world.proofs.Agents.{agree_numbered, member_of}
+use Rattle.mp_team_states.specs.Sent.{IsSentIn}
+use Rattle.mp_team_states.specs.Sound.{AreStatesSound, AreTold, IsSentState, IsSoundState, IsStateOf}
+use Rattle.mp_team_states.proofs.JointStates.{read_place, received_joint, same_from_joint, sent_joint}
+use Rattle.mp_team_states.proofs.Quiet.{IsOther}
+use Rattle.mp_team_states.proofs.Received.{byte_right, state_known, token_given}
+use Rattle.mp_team_states.proofs.StepsSound.{agent_sound, at_me, limits_of, other_stays, read_state, state_heard, task_at}
+use Rattle.mp_team_states.proofs.WorldsGrow.{state_or_other}
+
+module _ (tasks : List AgentTask) (agree : Agree tasks) (limits : All IsWithinLimits tasks) (w : World) (team : IsTeamWorld tasks w) where
+  me_is : (agent : ℕ) (r : AgentRecord) → agent_at w agent ≡ Some r → r.task.me ≡ agent
+  me_is agent r there = (member_of tasks (agree_numbered tasks agree) w team agent r there).me
+
+  -- a state that an agent knows as a joint state
+  module _ (agent : ℕ) (r : AgentRecord) (there : agent_at w agent ≡ Some r) (s : AgentState) (is : IsStateOf w r.task s) where
+    pub known_is_joint : IsJointState tasks (joint w agent s)
+    known_is_joint =
+        length-map (enumerate_from 1 s.tags) (private_facts w agent s.mine) ∙ length-enumerate_from 1 s.tags ∙ is.number
+        ∙ (member_of tasks (agree_numbered tasks agree) w team agent r there).agents
+
+    pub own_facts : private_of (joint w agent s) agent ≡ s.mine
+    own_facts =
+        let of = member_of tasks (agree_numbered tasks agree) w team agent r there in
+        let fit = limits_of tasks agree limits w team agent r there in
+        let low = fit.from_1 in
+        let high = fit.in_team in
+        let number = is.number in
+        let mine = of.me in
+        let me : 1 + (agent - 1) ≡ agent = omega arith in
+        read_place (private_facts w agent s.mine) 1 s.tags (agent - 1) no_tag set.empty (omega arith)
+        ∙ ap (λ (b : Bool). cond b s.mine (told_by w (1 + (agent - 1), get_or s.tags (agent - 1) no_tag))) (eq-eqb (1 + (agent - 1)) agent me)
+
+  module _ (sound : AreStatesSound tasks w) where
+    pub equal_if_joint : (agent : ℕ) (r : AgentRecord) (a b : AgentState) → agent_at w agent ≡ Some r → IsStateOf w r.task a → IsStateOf w r.task b
+        → joint w agent a ≡ joint w agent b → a ≡ b
+    equal_if_joint agent r a b there a_is b_is same =
+        let me = me_is agent r there in
+        same_from_joint w r.task (limits_of tasks agree limits w team agent r there) r (at_me tasks agree limits w team agent r there)
+        (agent_sound tasks agree limits w team sound agent r there) a b a_is b_is
+        ((λ j. joint w (me j) a) ∙ same ∙ (λ j. joint w (sym me j) b))
+
+    sent_in : (agent : ℕ) (r : AgentRecord) (m : State) → agent_at w agent ≡ Some r → IsSentState w r.task m → IsSentIn r.task r.search.kept m
+    sent_in agent r m there sent =
+        subst (λ (o : Option AgentRecord). IsSomeAnd o (λ x. IsSentIn r.task x.search.kept m)) (at_me tasks agree limits w team agent r there) sent
+
+    pub tells_of_entry : (agent : ℕ) (r : AgentRecord) (m : State) (n : ℕ) (e : Entry AgentState) → agent_at w agent ≡ Some r → IsSentState w r.task m
+        → slice_get r.search.kept.sent m.sent ≡ Some n → slice_get r.search.kept.entries n ≡ Some e
+        → (joint w agent e.key ≡ joint_told w m) × (m.g ≡ e.g) × (m.h ≡ e.h)
+    unfolding message_of_entry
+    tells_of_entry agent r m n e there sent at_sent at =
+        let s = sent_in agent r m there sent in
+        let number : s.number ≡ n = same_Some s.number n (sym s.sent ∙ at_sent) in
+        let one : s.entry ≡ e = same_Some s.entry e (sym s.there ∙ ap (slice_get r.search.kept.entries) number ∙ at) in
+        let is : m ≡ message_of_entry r.task r.search.kept m.sent e = subst (λ (e : Entry AgentState). m ≡ message_of_entry r.task r.search.kept m.sent e) one s.is in (
+          ap (λ (a : ℕ). joint w a e.key) (sym (me_is agent r there))
+              ∙ sent_joint w r.task (limits_of tasks agree limits w team agent r there) r (at_me tasks agree limits w team agent r there)
+              (agent_sound tasks agree limits w team sound agent r there) m n e s at_sent at,
+          ap (λ (m : State). m.g) is,
+          ap (λ (m : State). m.h) is,
+        )
+
+    module _ (from to : ℕ) (u : AgentTask) (r : AgentRecord) (at : task_of tasks from ≡ Some u) (there : agent_at w to ≡ Some r) where
+      heard : (m : State) → IsSoundState w u m → IsStateFor r.task m × AreTold w m.tags
+      heard m state = state_heard tasks agree limits w team sound from u r.task m at (member_of tasks (agree_numbered tasks agree) w team to r there).task state
+
+      pub receiver_knows : (m : State) → IsSoundState w u m
+          → IsStateOf w r.task (state_of r.task r.search.kept m) × (joint w to (state_of r.task r.search.kept m) ≡ joint_told w m)
+      receiver_knows m state =
+          let h = heard m state in
+          let fit = limits_of tasks agree limits w team to r there in
+          let mine = at_me tasks agree limits w team to r there in
+          let known = agent_sound tasks agree limits w team sound to r there in (
+            state_known w r.task fit r mine known m h.0 h.1,
+            ap (λ (a : ℕ). joint w a (state_of r.task r.search.kept m)) (sym (me_is to r there)) ∙ received_joint w r.task fit r mine known m h.0,
+          )
+
+      pub what_is_read : (bytes : List ℕ) (m : State) → Contains (under_way w from to) bytes → message_of r.task.agents r.task.publics bytes ≡ Some (kinds.State m)
+          → (bytes ≡ spelling (kinds.State m)) × IsSoundState w u m
+      what_is_read bytes m here reads =
+          let sent = sound.mail from to u r.task bytes at (task_at tasks agree limits w team to r there) here in
+          by sent.message sent.is sent.state (state_or_other sent.message)
+        where
+          by : (x : Message) → bytes ≡ spelling x → IfState (IsSoundState w u) x → ((y : State) × (x ≡ kinds.State y)) ⊎ IsOther x
+              → (bytes ≡ spelling (kinds.State m)) × IsSoundState w u m
+          by x is state (inl found) =
+              let y = found.0 in
+              let known : IsSoundState w u y = subst (λ (x : Message). IfState (IsSoundState w u) x) found.1 state in
+              let spelled : bytes ≡ spelling (kinds.State y) = is ∙ ap spelling found.1 in
+              let again = read_state w r.task (limits_of tasks agree limits w team to r there) y bytes spelled (heard y known).0 in
+              let same_message : kinds.State y ≡ kinds.State m = same_Some (kinds.State y) (kinds.State m) (sym again ∙ reads) in
+              let same : y ≡ m = cc in
+              (subst (λ (y : State). bytes ≡ spelling (kinds.State y)) same spelled, subst (IsSoundState w u) same known)
+          by x is state (inr other) =
+              absurd (other_stays r.task.agents r.task.publics x (kinds.State m) other (ap (message_of r.task.agents r.task.publics) (sym is) ∙ reads))
+
+      pub state_is_taken : (value : Numbers → Numbers → Option ℕ) (m : State) → IsSoundState w u m
+          → (is_token_given r.task r.search.kept m ≡ true) × (is_byte_right r.task r.search.kept m ≡ true)
+          × (took value r from (spelling (kinds.State m)) ≡ Ok (without_messages (with_state value r from m)))
+      state_is_taken value m state =
+          let h = heard m state in
+          let fit = limits_of tasks agree limits w team to r there in
+          let mine = at_me tasks agree limits w team to r there in
+          let known = agent_sound tasks agree limits w team sound to r there in
+          let given = token_given w r.task fit r mine known m h.0 h.1 in
+          let right = byte_right w r.task fit r mine known m h.0 h.1 in
+          let small = fit.publics in (
+            given,
+            right,
+            sym (took_spelled value r from (spelling (kinds.State m)) (kinds.State m) (omega arith) (record { fits = h.0; is = refl }))
+                ∙ (λ j. if not (given j) then Err UnknownToken else unless_bad (not (right j)) WrongByte (without_messages (with_state value r from m))),
+          )

@@ -1,0 +1,21 @@
+-- in reading order: what grows; a search as changes one after another; expansions and receipts as such changes
+pub mod Growth
+pub mod Changes
+pub mod Expanding
+pub mod Quiet
+pub mod WorldsGrow
+pub mod Received
+pub mod LocalStates
+pub mod StepsSound
+pub mod StartSound
+pub mod JointStates
+pub mod GoodStates
+pub mod Entries
+pub mod JointSteps
+pub mod NewEntries
+pub mod Reached
+pub mod StartReached
+pub mod RoomLemmas
+pub mod RoomCounts
+pub mod Messages
+pub mod WalkingPaths

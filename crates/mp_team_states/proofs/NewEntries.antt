@@ -1,0 +1,201 @@
+-- Which entries come in an event: own actions led to them, or a state that another agent sent.
+use Rattle.std.proofs.Common.{◌≡◌, ℕ, ◌+◌, ◌<◌, ◌⊎◌, true, List, [], Option, Some, All, sym, ap, subst, ◌∙◌, arith, inl, inr}
+use Rattle.std.specs.Prelude.{Contains, Ok, slice_get}
+use Rattle.std.proofs.lemmas.List.Elements.{Contains-get_or}
+use Rattle.std.proofs.lemmas.Option.{slice_get_within}
+use Rattle.mp_sets.specs.Numbers.{Numbers}
+use Rattle.mp_task.specs.declared.act.Act.{Act}
+use Rattle.mp_task.specs.Agree.{Agree}
+use Rattle.mp_task.specs.AgentTask.{AgentTask}
+use Rattle.mp_task.specs.Limits.{IsWithinLimits}
+use Rattle.mp_task.specs.Plan.{task_of}
+use Rattle.mp_messages.specs.declared.history.Event.{Event}
+use Rattle.mp_messages.specs.declared.history.Event.TheVariants.{Expand, Take, Start}
+use Rattle.mp_messages.specs.declared.message.Message.{Message}
+use Rattle.mp_messages.specs.declared.message.Message.TheVariants as kinds
+use Rattle.mp_messages.specs.declared.message.State.{State}
+use Rattle.mp_store.specs.declared.entry.Entry.{Entry}
+use Rattle.mp_store.specs.declared.entry.Origin.TheVariants.{Own, From}
+use Rattle.mp_store.specs.Record.{Record}
+use Rattle.mp_search.specs.declared.answer.Sending.{Sending}
+use Rattle.mp_search.specs.AgentState.{AgentState, applies, successor}
+use Rattle.mp_search.specs.Expansion.{expanded}
+use Rattle.mp_search.specs.Offering.{own_value}
+use Rattle.mp_search.specs.Receipt.{greater_value, received, state_of}
+use Rattle.mp_search.specs.Search.{SearchRecord}
+use Rattle.mp_machine.specs.AgentRecord.{AgentRecord}
+use Rattle.mp_machine.specs.LocalStep.{with_search}
+use Rattle.mp_machine.specs.Outgoing.{Step, without_messages}
+use Rattle.mp_machine.specs.Snapshots.{started}
+use Rattle.mp_machine.specs.Taking.{took_message, took_state, with_state}
+use Rattle.mp_world.specs.World.{IsTeamWorld, World, under_way}
+use Rattle.mp_world.specs.Events.{taken}
+use Rattle.mp_world.specs.Steps.{IsStepOf}
+use Rattle.mp_world.proofs.Agents.{agent_there, agree_numbered, sender_of}
+use Rattle.mp_team_states.specs.Sound.{AreStatesSound, IsSoundState}
+use Rattle.mp_team_states.proofs.Entries.{IsNew, IsOld, alike_itself, changes_entry}
+use Rattle.mp_team_states.proofs.Expanding.{IsReceived, Led, expanded_changes, expanded_counts, received_changes}
+use Rattle.mp_team_states.proofs.GoodStates.{what_is_read}
+use Rattle.mp_team_states.proofs.Quiet.{IsOther, IsQuiet, quiet_message, quiet_started}
+use Rattle.mp_team_states.proofs.StepsSound.{not_none, task_at}
+use Rattle.mp_team_states.proofs.WorldsGrow.{IsTaking, state_or_other, state_taken, taking}
+
+-- an own action led to an entry from an earlier one
+pub record IsLedIn (value : Numbers → Numbers → Option ℕ) (r : AgentRecord) (after : SearchRecord) (n : ℕ) (e : Entry AgentState) : Type 0 where
+  pub action : ℕ
+  pub parent : ℕ
+  pub act : Act
+  pub from : Entry AgentState
+  pub own : slice_get r.task.acts action ≡ Some act
+  pub there : slice_get after.kept.entries parent ≡ Some from
+  pub earlier : parent < n
+  pub old : Entry AgentState
+  pub was : slice_get r.search.kept.entries parent ≡ Some old
+  pub same : from.g ≡ old.g
+  pub counted : after.expansions ≡ r.search.expansions + 1
+  pub may : applies act from.key ≡ true
+  pub key : e.key ≡ successor act from.key
+  pub g_is : e.g ≡ from.g + act.cost
+  pub h_is : own_value r.task value e.key ≡ Some e.h
+  pub origin : e.origin ≡ Own action parent
+
+-- an entry is of a state that another agent sent
+pub record IsHeardIn (value : Numbers → Numbers → Option ℕ) (tasks : List AgentTask) (w : World) (r : AgentRecord) (e : Entry AgentState) : Type 0 where
+  pub sender : ℕ
+  pub task : AgentTask
+  pub message : State
+  pub at : task_of tasks sender ≡ Some task
+  pub state : IsSoundState w task message
+  pub key : e.key ≡ state_of r.task r.search.kept message
+  pub g_is : e.g ≡ message.g
+  pub h_is : greater_value r.task value message.h e.key ≡ Some e.h
+  pub origin : e.origin ≡ From sender message.sent
+
+-- an entry of an agent after an event
+abbrev pub Comes
+    : (Numbers → Numbers → Option ℕ)
+    → List AgentTask
+    → World
+    → AgentRecord
+    → Step
+    → ℕ
+    → Entry AgentState
+    → Type 0
+Comes value tasks w r s n e =
+    IsOld r.search.kept n e ⊎ (IsLedIn value r s.after.search n e ⊎ IsHeardIn value tasks w r e)
+
+module _ (value : Numbers → Numbers → Option ℕ) (tasks : List AgentTask) (w : World) (r : AgentRecord) where
+  old_only : (s : Step) → IsQuiet r.task r.limit r.search s → (n : ℕ) (e : Entry AgentState) → slice_get s.after.search.kept.entries n ≡ Some e → Comes value tasks w r s n e
+  old_only s quiet n e at = inl (record {
+    old = e;
+    there = ap (λ (x : SearchRecord). slice_get x.kept.entries n) (sym quiet.search_is) ∙ at;
+    alike = alike_itself e;
+  })
+
+  expanded_comes : (n : ℕ) (e : Entry AgentState)
+      → slice_get (expanded r.task value r.search).1.kept.entries n ≡ Some e → Comes value tasks w r (with_search r (expanded r.task value r.search)) n e
+  expanded_comes n e at = both (expanded_counts r.task value r.search) (changes_entry (Led r.task value r.search.kept) r.task r.search.kept d.1.kept d.0 (expanded_changes r.task value r.search) n e at)
+    where
+      d : List Sending × SearchRecord
+      d = expanded r.task value r.search
+
+      both : (d.1 ≡ r.search) ⊎ (d.1.expansions ≡ r.search.expansions + 1) → IsOld r.search.kept n e ⊎ IsNew (Led r.task value r.search.kept) r.task d.1.kept n e
+          → Comes value tasks w r (with_search r d) n e
+      both (inl same) any = inl (record {
+        old = e;
+        there = ap (λ (x : SearchRecord). slice_get x.kept.entries n) (sym same) ∙ at;
+        alike = alike_itself e;
+      })
+      both (inr counted) (inl old) = inl old
+      both (inr counted) (inr new) =
+          let led = new.comes in
+          let from = new.grown.entries led.parent led.from led.there in
+          let inside = slice_get_within new.before.entries led.parent led.from led.there in
+          let number = new.number in
+          inr (inl (record {
+            action = led.action;
+            parent = led.parent;
+            act = led.act;
+            from = from.0;
+            own = led.own;
+            there = from.1;
+            earlier = omega arith;
+            old = led.old;
+            was = led.was;
+            same = from.2.g ∙ led.same;
+            counted = counted;
+            may = ap (λ (s : AgentState). applies led.act s) from.2.key ∙ led.may;
+            key = new.alike.key ∙ led.is.key ∙ ap (λ (s : AgentState). successor led.act s) (sym from.2.key);
+            g_is = new.alike.g ∙ led.is.g ∙ ap (λ (g : ℕ). g + led.act.cost) (sym from.2.g);
+            h_is =
+                ap (own_value r.task value) (new.alike.key ∙ led.is.key) ∙ led.is.h ∙ ap (λ (h : ℕ). Some h) (sym new.alike.h);
+            origin = new.alike.origin ∙ led.is.origin;
+          }))
+
+  received_comes : (sender : ℕ) (u : AgentTask) (m : State) → task_of tasks sender ≡ Some u → IsSoundState w u m
+      → (n : ℕ) (e : Entry AgentState) → slice_get (received r.task value sender m r.search.kept).1.entries n ≡ Some e
+      → IsOld r.search.kept n e ⊎ IsHeardIn value tasks w r e
+  received_comes sender u m at_sender state n e at =
+      by (changes_entry (IsReceived r.task value sender m r.search.kept) r.task r.search.kept last [] (received_changes r.task value sender m r.search.kept) n e at)
+    where
+      last : Record AgentState
+      last = (received r.task value sender m r.search.kept).1
+
+      by : IsOld r.search.kept n e ⊎ IsNew (IsReceived r.task value sender m r.search.kept) r.task last n e → IsOld r.search.kept n e ⊎ IsHeardIn value tasks w r e
+      by (inl old) = inl old
+      by (inr new) = inr (record {
+        sender = sender;
+        task = u;
+        message = m;
+        at = at_sender;
+        state = state;
+        key = new.alike.key ∙ new.comes.key;
+        g_is = new.alike.g ∙ new.comes.g;
+        h_is =
+            ap (greater_value r.task value m.h) (new.alike.key ∙ new.comes.key) ∙ new.comes.h ∙ ap (λ (h : ℕ). Some h) (sym new.alike.h);
+        origin = new.alike.origin ∙ new.comes.origin;
+      })
+
+module _ (tasks : List AgentTask) (agree : Agree tasks) (limits : All IsWithinLimits tasks) (w : World) (team : IsTeamWorld tasks w) (sound : AreStatesSound tasks w)
+    (value : AgentTask → Numbers → Numbers → Option ℕ) (next : World) where
+  pub entry_comes : (event : Event) (is : IsStepOf value w event next) (n : ℕ) (e : Entry AgentState) → slice_get is.step.after.search.kept.entries n ≡ Some e
+      → Comes (value is.agent.task) tasks w is.agent is.step n e
+  unfolding with_state
+  entry_comes (Expand agent) is n e at =
+      let r = is.agent in
+      let d = expanded r.task (value r.task) r.search in
+      let same : with_search r d ≡ is.step = let local : Ok (with_search r d) ≡ Ok is.step = is.local in cc in
+      subst (λ (s : Step). slice_get s.after.search.kept.entries n ≡ Some e → Comes (value r.task) tasks w r s n e) same (λ at. expanded_comes (value r.task) tasks w r n e at) at
+  entry_comes (Take by from) is n e at = kind (state_or_other t.message)
+    where
+      r : AgentRecord
+      r = is.agent
+
+      bytes : List ℕ
+      bytes = taken w (Take by from)
+
+      t : IsTaking (value r.task) r from bytes is.step
+      t = taking (value r.task) r from bytes is.step is.local
+
+      kind : ((x : State) × (t.message ≡ kinds.State x)) ⊎ IsOther t.message → Comes (value r.task) tasks w r is.step n e
+      kind (inl found) =
+          let m = found.0 in
+          let sender = sender_of tasks (agree_numbered tasks agree) w team by from r is.there is.may in
+          let other = agent_there w from sender.0 in
+          let at_sender : task_of tasks from ≡ Some other.0.task = task_at tasks agree limits w team from other.0 other.1 in
+          let here : Contains (under_way w from by) bytes = Contains-get_or (under_way w from by) 0 [] (not_none (under_way w from by) is.message) in
+          let read = what_is_read tasks agree limits w team sound from by other.0.task r at_sender is.there bytes m here (t.reads ∙ ap Some found.1) in
+          let took : took_state (value r.task) r from m ≡ Ok is.step = subst (λ (x : Message). took_message (value r.task) r from x ≡ Ok is.step) found.1 t.took in
+          let same = state_taken (value r.task) r from m is.step took in
+          subst (λ (s : Step). slice_get s.after.search.kept.entries n ≡ Some e → Comes (value r.task) tasks w r s n e) same
+          (λ at. either (received_comes (value r.task) tasks w r from other.0.task m at_sender read.1 n e at)) at
+        where
+          either : IsOld r.search.kept n e ⊎ IsHeardIn (value r.task) tasks w r e → Comes (value r.task) tasks w r (without_messages (with_state (value r.task) r from found.0)) n e
+          either (inl old) = inl old
+          either (inr heard) = inr (inr heard)
+      kind (inr other) = old_only (value r.task) tasks w r is.step (quiet_message r is.step (value r.task) from t.message other t.took) n e at
+  entry_comes Start is n e at =
+      let r = is.agent in
+      let same : started r ≡ is.step = let local : Ok (started r) ≡ Ok is.step = is.local in cc in
+      subst (λ (s : Step). slice_get s.after.search.kept.entries n ≡ Some e → Comes (value r.task) tasks w r s n e) same
+      (λ at. old_only (value r.task) tasks w r (started r) (quiet_started r) n e at) at

@@ -1,0 +1,333 @@
+-- What is so of the states that agents keep and send stays so at each event.
+use Rattle.std.proofs.Common.{◌≡◌, ◌≢◌, ℕ, zero, suc, ◌<◌, ◌⊎◌, Bool, true, false, cond, eqb, List, [], ◌∷◌, ◌++◌, length, map, Option, Some, None, All, refl, sym, ap, subst, ◌∙◌, arith, inl, inr}
+use Rattle.std.specs.Prelude.{Contains, IsSomeAnd, Ok, drop, not, option_map, slice_get, ◌==◌, if◌then◌else◌}
+use Rattle.std.specs.List.{filter}
+use Rattle.std.proofs.lemmas.Bool.{and_parts, cases_eq, eqb-true}
+use Rattle.std.proofs.lemmas.List.Elements.{All-contains, All-filter, All-map, All-weaker, Contains-append_cases, Contains-get_or}
+use Rattle.std.proofs.lemmas.Option.{cond_some, none-some, same_Some, slice_get-map, slice_get_within}
+use Rattle.mp_list.proofs.Members.{contains_tail, no_member}
+use Rattle.mp_sets.specs.Numbers.{Numbers}
+use Rattle.mp_task.specs.Agree.{Agree}
+use Rattle.mp_task.specs.AgentTask.{AgentTask}
+use Rattle.mp_task.specs.Limits.{IsWithinLimits}
+use Rattle.mp_task.specs.Plan.{task_of}
+use Rattle.mp_messages.specs.declared.history.Event.{Event}
+use Rattle.mp_messages.specs.declared.history.Event.TheVariants.{Expand, Take, Start}
+use Rattle.mp_messages.specs.declared.message.Message.{Message}
+use Rattle.mp_messages.specs.declared.message.Message.TheVariants as kinds
+use Rattle.mp_messages.specs.declared.message.State.{State}
+use Rattle.mp_messages.specs.Reading.{◌>>=◌, as_kind, ending_at, fields_at, findings_at, message_at, message_of, number_at, trace_at}
+use Rattle.mp_messages.specs.Spelling.{Fits, IfState, ending, findings, number, spelling}
+use Rattle.mp_messages.proofs.Messages.{all_again}
+use Rattle.mp_search.specs.Expansion.{expanded}
+use Rattle.mp_search.specs.Receipt.{IsStateFor}
+use Rattle.mp_search.specs.Search.{may_expand}
+use Rattle.mp_machine.specs.declared.event.Local.{Local}
+use Rattle.mp_machine.specs.declared.event.Local.TheVariants as locals
+use Rattle.mp_machine.specs.declared.outgoing.Out.{Out}
+use Rattle.mp_machine.specs.AgentRecord.{AgentRecord, is_going}
+use Rattle.mp_machine.specs.LocalStep.{local, may, with_search}
+use Rattle.mp_machine.specs.Outgoing.{Outgoing, Step, in_bytes}
+use Rattle.mp_machine.specs.Snapshots.{started}
+use Rattle.mp_machine.specs.Taking.{took_message, took_state}
+use Rattle.mp_world.specs.World.{IsAgent, IsTeamWorld, World, agent_at, under_way}
+use Rattle.mp_world.specs.Events.{agent_of, taken, without_taken}
+use Rattle.mp_world.specs.Steps.{IsStepOf, sent_between, sent_to}
+use Rattle.mp_world.proofs.Agents.{agent_there, agree_numbered, member_of, sender_of}
+use Rattle.mp_world.proofs.Mail.{agent_of_team, under_way-other, under_way-same}
+use Rattle.mp_world.proofs.Stepping.{team_lists, team_size}
+use Rattle.mp_team_states.specs.Further.{HaveGrown, HaveSoundRecords}
+use Rattle.mp_team_states.specs.Sent.{IsSentIn}
+use Rattle.mp_team_states.specs.Sound.{AreStatesSound, AreTold, IsSoundAgent, IsSoundMessage, IsSoundState, IsStateOf}
+use Rattle.mp_team_states.proofs.LocalStates.{GoesOut, IsSoundStep, expansion_sound, quiet_sound, receipt_sound}
+use Rattle.mp_team_states.proofs.Quiet.{IsOther, quiet_message, quiet_started}
+use Rattle.mp_team_states.proofs.Received.{sent_told}
+use Rattle.mp_team_states.proofs.WorldsGrow.{sent_state_stays, state_or_other, state_stays, state_taken, step_grows, taking}
+
+-- ---- what is read of bytes that spell no state
+
+read_other : {A : Type 0} (kind : A → Message) (read : Option (A × List ℕ)) (m : Message) → ((a : A) → IsOther (kind a))
+    → (as_kind kind read >>= λ x. cond (eqb (length x.1) 0) (Some x.0) None) ≡ Some m → IsOther m
+read_other kind None m each is = absurd (none-some m is)
+read_other kind (Some x) m each is =
+    let parts = cond_some (eqb (length x.1) 0) (kind x.0) m is in
+    subst IsOther parts.1 (each x.0)
+
+pub other_stays : (agents publics : ℕ) (m read : Message) → IsOther m → message_of agents publics (spelling m) ≡ Some read → IsOther read
+unfolding message_of message_at fields_at spelling
+other_stays agents publics (kinds.State x) read other is = absurd other
+other_stays agents publics (kinds.Marker n) read other is = read_other kinds.Marker (number_at (number n)) read (λ a. tt) is
+other_stays agents publics (kinds.Report f) read other is = read_other kinds.Report (findings_at (findings f)) read (λ a. tt) is
+other_stays agents publics (kinds.Pick n) read other is = read_other kinds.Pick (number_at (number n)) read (λ a. tt) is
+other_stays agents publics (kinds.Trace sent back) read other is = read_other (λ t. kinds.Trace t.0 t.1) (trace_at (number sent ++ number back)) read (λ a. tt) is
+other_stays agents publics (kinds.Length n) read other is = read_other kinds.Length (number_at (number n)) read (λ a. tt) is
+other_stays agents publics (kinds.Done e) read other is = read_other kinds.Done (ending_at (ending e)) read (λ a. tt) is
+
+-- ---- a step of an agent
+
+-- bytes spell a message, and where that is a state, it fits a team and its tags were told
+pub record IsKnown (w : World) (t : AgentTask) (bytes : List ℕ) : Type 0 where
+  pub message : Message
+  pub is : bytes ≡ spelling message
+  pub state : IfState (λ m. IsStateFor t m × AreTold w m.tags) message
+
+-- what is read of them
+pub read_state : (w : World) (t : AgentTask) (limits : IsWithinLimits t) (m : State) (bytes : List ℕ) → bytes ≡ spelling (kinds.State m) → IsStateFor t m
+    → message_of t.agents t.publics bytes ≡ Some (kinds.State m)
+read_state w t limits m bytes is fits =
+    all_again t.agents t.publics (kinds.State m) bytes (let size = limits.publics in omega arith) (record { fits = fits; is = is })
+
+module _ (w : World) (r : AgentRecord) (limits : IsWithinLimits r.task) (sound : IsSoundAgent w r.task r) (there : agent_at w r.task.me ≡ Some r)
+    (value : Numbers → Numbers → Option ℕ) (s : Step) where
+  take_sound : (from : ℕ) (bytes : List ℕ) → IsKnown w r.task bytes → local value r (locals.Take from) bytes ≡ Ok s → IsSoundStep w r.task s
+  take_sound from bytes known is =
+      let t = taking value r from bytes s is in
+      by known.message known.is known.state (state_or_other known.message) t.message t.reads t.took
+    where
+      by : (m : Message) → bytes ≡ spelling m → IfState (λ m. IsStateFor r.task m × AreTold w m.tags) m → ((x : State) × (m ≡ kinds.State x)) ⊎ IsOther m
+          → (read : Message) → message_of r.task.agents r.task.publics bytes ≡ Some read → took_message value r from read ≡ Ok s → IsSoundStep w r.task s
+      by m spelled state (inl found) read reads took =
+          let x = found.0 in
+          let parts : IsStateFor r.task x × AreTold w x.tags = subst (λ (m : Message). IfState (λ m. IsStateFor r.task m × AreTold w m.tags) m) found.1 state in
+          let again = read_state w r.task limits x bytes (spelled ∙ ap spelling found.1) parts.0 in
+          let same : read ≡ kinds.State x = same_Some read (kinds.State x) (sym reads ∙ again) in
+          let took_x : took_state value r from x ≡ Ok s = subst (λ (m : Message). took_message value r from m ≡ Ok s) same took in
+          subst (IsSoundStep w r.task) (state_taken value r from x s took_x) (receipt_sound w r limits sound value there from x parts.0 parts.1)
+      by m spelled state (inr other) read reads took =
+          let still = other_stays r.task.agents r.task.publics m read other (ap (message_of r.task.agents r.task.publics) (sym spelled) ∙ reads) in
+          quiet_sound w r.task r s sound (quiet_message r s value from read still took)
+
+  pub local_sound : (event : Local) (bytes : List ℕ) → may r event ≡ true → ((from : ℕ) → event ≡ locals.Take from → IsKnown w r.task bytes)
+      → local value r event bytes ≡ Ok s → IsSoundStep w r.task s
+  local_sound locals.Expand bytes allowed known is =
+      let same : with_search r (expanded r.task value r.search) ≡ s = cc in
+      let parts = and_parts (is_going r.ending) (may_expand r.limit r.search) allowed in
+      subst (IsSoundStep w r.task) same (expansion_sound w r limits sound value parts.1)
+  local_sound (locals.Take from) bytes allowed known is = take_sound from bytes (known from refl) is
+  local_sound locals.Start bytes allowed known is =
+      let same : started r ≡ s = cc in
+      subst (IsSoundStep w r.task) same (quiet_sound w r.task r (started r) sound (quiet_started r))
+
+-- ---- what stays
+
+if_state : (P R : State → Type 0) → ((x : State) → P x → R x) → (m : Message) → IfState P m → IfState R m
+if_state P R each (kinds.State x) h = each x h
+if_state P R each (kinds.Marker n) h = tt
+if_state P R each (kinds.Report f) h = tt
+if_state P R each (kinds.Pick n) h = tt
+if_state P R each (kinds.Trace sent back) h = tt
+if_state P R each (kinds.Length n) h = tt
+if_state P R each (kinds.Done e) h = tt
+
+module _ (w next : World) (records : HaveSoundRecords w) (grown : HaveGrown w next) where
+  agent_stays : (t : AgentTask) (r : AgentRecord) → IsSoundAgent w t r → IsSoundAgent next t r
+  agent_stays t r sound = record {
+    task = sound.task;
+    limit = sound.limit;
+    within = sound.within;
+    sent = sound.sent;
+    kept = sound.kept;
+    fits = sound.fits;
+    states =
+        All-weaker (λ e. IsStateOf w t e.key) (λ e. IsStateOf next t e.key) (λ e is. state_stays w next records grown t e.key is)
+        r.search.kept.entries sound.states;
+  }
+
+  message_stays : (t : AgentTask) (bytes : List ℕ) → IsSoundMessage w t bytes → IsSoundMessage next t bytes
+  message_stays t bytes sound = record {
+    message = sound.message;
+    is = sound.is;
+    state =
+        if_state (IsSoundState w t) (IsSoundState next t)
+        (λ m is. record { fits = is.fits; sent = sent_state_stays w next records grown t m is.sent }) sound.message sound.state;
+  }
+
+some_and : {X : Type 0} (P R : X → Type 0) (o : Option X) → ((x : X) → P x → R x) → IsSomeAnd o P → IsSomeAnd o R
+some_and P R None each h = h
+some_and P R (Some x) each h = each x h
+
+-- ---- an event
+
+pub not_none : (xs : List (List ℕ)) → not (length xs == 0) ≡ true → 0 < length xs
+not_none xs test = eqb_positive (length xs) test
+  where
+    eqb_positive : (n : ℕ) → not (n == 0) ≡ true → 0 < n
+    eqb_positive zero test = absurd (let impossible : ⊥ = cc in impossible)
+    eqb_positive (suc n) test = omega arith
+
+drop_one : (xs : List (List ℕ)) (x : List ℕ) → Contains (drop 1 xs) x → Contains xs x
+drop_one [] x here = here
+drop_one (y ∷ xs) x here = contains_tail y xs x here
+
+module _ (tasks : List AgentTask) (agree : Agree tasks) (limits : All IsWithinLimits tasks) (w : World) (team : IsTeamWorld tasks w) where
+  pub task_at : (agent : ℕ) (r : AgentRecord) → agent_at w agent ≡ Some r → task_of tasks agent ≡ Some r.task
+  task_at zero r there = absurd (none-some r there)
+  task_at (suc k) r there =
+      ap (λ (ts : List AgentTask). slice_get ts k) (sym team.team) ∙ slice_get-map (λ (x : AgentRecord). x.task) w.agents k
+      ∙ ap (option_map (λ (x : AgentRecord). x.task)) there
+
+  pub agent_of_task : (agent : ℕ) (t : AgentTask) → task_of tasks agent ≡ Some t → IsAgent w agent
+  agent_of_task zero t at = absurd (none-some t at)
+  agent_of_task (suc k) t at =
+      let inside = slice_get_within tasks k t at in
+      let size = team_size tasks w team in
+      record { from_1 = omega arith; at_most = omega arith }
+
+  pub limits_of : (agent : ℕ) (r : AgentRecord) → agent_at w agent ≡ Some r → IsWithinLimits r.task
+  limits_of agent r there = All-contains IsWithinLimits tasks r.task limits (member_of tasks (agree_numbered tasks agree) w team agent r there).task
+
+  pub at_me : (agent : ℕ) (r : AgentRecord) → agent_at w agent ≡ Some r → agent_at w r.task.me ≡ Some r
+  at_me agent r there = ap (agent_at w) (member_of tasks (agree_numbered tasks agree) w team agent r there).me ∙ there
+
+  module _ (sound : AreStatesSound tasks w) where
+    pub agent_sound : (agent : ℕ) (r : AgentRecord) → agent_at w agent ≡ Some r → IsSoundAgent w r.task r
+    agent_sound agent r there =
+        subst (λ (o : Option AgentRecord). IsSomeAnd o (IsSoundAgent w r.task)) there (sound.agents agent r.task (task_at agent r there))
+
+    pub records_sound : HaveSoundRecords w
+    records_sound agent r there = (agent_sound agent r there).kept
+
+    -- a sent state's tags were told, and it fits each task of the team
+    pub state_heard : (from : ℕ) (u t : AgentTask) (m : State) → task_of tasks from ≡ Some u → Contains tasks t → IsSoundState w u m
+        → IsStateFor t m × AreTold w m.tags
+    state_heard from u t m at here state =
+        let found = agent_there w from (agent_of_task from u at) in
+        let r = found.0 in
+        let same : r.task ≡ u = same_Some r.task u (sym (task_at from r found.1) ∙ at) in
+        let of = member_of tasks (agree_numbered tasks agree) w team from r found.1 in
+        let in_team : Contains tasks u = subst (λ (t : AgentTask). Contains tasks t) same of.task in
+        let mine : agent_at w u.me ≡ Some r = subst (λ (t : AgentTask). agent_at w t.me ≡ Some r) same (at_me from r found.1) in
+        let known : IsSoundAgent w u r = subst (λ (t : AgentTask). IsSoundAgent w t r) same (agent_sound from r found.1) in
+        let sent : IsSentIn u r.search.kept m = subst (λ (o : Option AgentRecord). IsSomeAnd o (λ r. IsSentIn u r.search.kept m)) mine state.sent in
+        let agents : u.agents ≡ t.agents = (All-contains (λ t. t.agents ≡ length tasks) tasks u (agree_numbered tasks agree).team in_team) ∙ sym (All-contains (λ t. t.agents ≡ length tasks) tasks t (agree_numbered tasks agree).team here) in
+        let publics : u.publics ≡ t.publics = (agree.alike u t in_team here).publics in (
+          subst (λ (n : ℕ). Fits n t.publics (kinds.State m)) agents (subst (λ (n : ℕ). Fits u.agents n (kinds.State m)) publics state.fits),
+          sent_told w u (All-contains IsWithinLimits tasks u limits in_team) r mine known m sent,
+        )
+
+    pub bytes_known : (from to : ℕ) (u : AgentTask) (r : AgentRecord) (bytes : List ℕ) → task_of tasks from ≡ Some u → agent_at w to ≡ Some r
+        → Contains (under_way w from to) bytes → IsKnown w r.task bytes
+    bytes_known from to u r bytes at there here =
+        let m = sound.mail from to u r.task bytes at (task_at to r there) here in
+        let in_team = (member_of tasks (agree_numbered tasks agree) w team to r there).task in
+        record {
+          message = m.message;
+          is = m.is;
+          state = if_state (IsSoundState w u) (λ m. IsStateFor r.task m × AreTold w m.tags) (λ x state. state_heard from u r.task x at in_team state) m.message m.state;
+        }
+
+    module _ (value : AgentTask → Numbers → Numbers → Option ℕ) (next : World) where
+      step_sound : (event : Event) (is : IsStepOf value w event next) → IsSoundStep w is.agent.task is.step
+      step_sound (Expand agent) is =
+          local_sound w is.agent (limits_of agent is.agent is.there) (agent_sound agent is.agent is.there) (at_me agent is.agent is.there)
+          (value is.agent.task) is.step locals.Expand [] is.may (λ from e. absurd (let impossible : ⊥ = cc in impossible)) is.local
+      step_sound (Take by from) is =
+          let sender = sender_of tasks (agree_numbered tasks agree) w team by from is.agent is.there is.may in
+          let found = agent_there w from sender.0 in
+          let here : Contains (under_way w from by) (taken w (Take by from)) = Contains-get_or (under_way w from by) 0 [] (not_none (under_way w from by) is.message) in
+          local_sound w is.agent (limits_of by is.agent is.there) (agent_sound by is.agent is.there) (at_me by is.agent is.there)
+          (value is.agent.task) is.step (locals.Take from) (taken w (Take by from)) is.may
+          (λ other e. bytes_known from by found.0.task is.agent (taken w (Take by from)) (task_at from found.0 found.1) is.there here) is.local
+      step_sound Start is =
+          local_sound w is.agent (limits_of 1 is.agent is.there) (agent_sound 1 is.agent is.there) (at_me 1 is.agent is.there)
+          (value is.agent.task) is.step locals.Start [] is.may (λ from e. absurd (let impossible : ⊥ = cc in impossible)) is.local
+
+      -- no more messages are under way when one is taken
+      was_there : (event : Event) → IsStepOf value w event next → (from to : ℕ) → IsAgent w from → IsAgent w to → (bytes : List ℕ)
+          → Contains (under_way (without_taken w event) from to) bytes → Contains (under_way w from to) bytes
+      was_there (Expand agent) is from to sender receiver bytes here = here
+      was_there Start is from to sender receiver bytes here = here
+      was_there (Take by of) is from to sender receiver bytes here = both (cases_eq from of) (cases_eq to by)
+        where
+          left : List (List ℕ)
+          left = drop 1 (under_way w of by)
+
+          from_there : IsAgent w of
+          from_there = (sender_of tasks (agree_numbered tasks agree) w team by of is.agent is.there is.may).0
+
+          other : (from ≢ of) ⊎ (to ≢ by) → Contains (under_way w from to) bytes
+          other apart =
+              subst (λ (ms : List (List ℕ)). Contains ms bytes)
+              (under_way-other w (team_lists tasks w team) of by from to left from_there (agent_of_team w by is.agent is.there) sender receiver apart) here
+
+          both : (from ≡ of) ⊎ (from ≡ of → ⊥) → (to ≡ by) ⊎ (to ≡ by → ⊥) → Contains (under_way w from to) bytes
+          both (inr apart) any = other (inl apart)
+          both (inl same) (inr apart) = other (inr apart)
+          both (inl same) (inl same_to) =
+              let now : under_way (without_taken w (Take by of)) from to ≡ left =
+              (λ j. under_way (without_taken w (Take by of)) (same j) (same_to j))
+              ∙ under_way-same w (team_lists tasks w team) of by left from_there (agent_of_team w by is.agent is.there)
+              in
+              let first = drop_one (under_way w of by) bytes (subst (λ (ms : List (List ℕ)). Contains ms bytes) now here) in
+              subst (λ (ms : List (List ℕ)). Contains ms bytes) (λ j. under_way w (sym same j) (sym same_to j)) first
+
+      module _ (event : Event) (is : IsStepOf value w event next) where
+        grown : HaveGrown w next
+        grown = step_grows value w next event is
+
+        after_sound : IsSoundStep w is.agent.task is.step
+        after_sound = step_sound event is
+
+        agents_sound : (agent : ℕ) (t : AgentTask) → task_of tasks agent ≡ Some t → IsSomeAnd (agent_at next agent) (IsSoundAgent next t)
+        agents_sound agent t at = by (cases_eq agent (agent_of event))
+          where
+            by : (agent ≡ agent_of event) ⊎ (agent ≡ agent_of event → ⊥) → IsSomeAnd (agent_at next agent) (IsSoundAgent next t)
+            by (inl same) =
+                let task : is.agent.task ≡ t = same_Some is.agent.task t (sym (task_at (agent_of event) is.agent is.there) ∙ ap (task_of tasks) (sym same) ∙ at) in
+                subst (λ (o : Option AgentRecord). IsSomeAnd o (IsSoundAgent next t)) (sym (ap (agent_at next) same ∙ is.after))
+                (agent_stays w next records_sound grown t is.step.after (subst (λ (u : AgentTask). IsSoundAgent w u is.step.after) task after_sound.agent))
+            by (inr other) =
+                subst (λ (o : Option AgentRecord). IsSomeAnd o (IsSoundAgent next t)) (sym (is.others agent other))
+                (some_and (IsSoundAgent w t) (IsSoundAgent next t) (agent_at w agent) (agent_stays w next records_sound grown t) (sound.agents agent t at))
+
+        -- what goes out
+        new_sound : All (λ (x : Out). IsSoundMessage next is.agent.task x.bytes) (map in_bytes is.step.out)
+        new_sound =
+            let t = is.agent.task in
+            let of = member_of tasks (agree_numbered tasks agree) w team (agent_of event) is.agent is.there in
+            let mine : agent_at next t.me ≡ Some is.step.after = ap (agent_at next) of.me ∙ is.after in
+            All-map (λ (x : Out). IsSoundMessage next t x.bytes) in_bytes is.step.out
+            (All-weaker (GoesOut t is.step.after.search.kept) (λ (x : Outgoing). IsSoundMessage next t (spelling x.message))
+            (λ x goes. record {
+              message = x.message;
+              is = refl;
+              state =
+                  if_state (λ m. IsStateFor t m × IsSentIn t is.step.after.search.kept m) (IsSoundState next t)
+                  (λ m parts. record {
+                    fits = parts.0;
+                    sent = subst (λ (o : Option AgentRecord). IsSomeAnd o (λ r. IsSentIn t r.search.kept m)) (sym mine) parts.1;
+                  }) x.message goes;
+            })
+            is.step.out after_sound.out)
+
+        sent_sound : (from to : ℕ) (t : AgentTask) (bytes : List ℕ) → task_of tasks from ≡ Some t → Contains (sent_between event is.step from to) bytes → IsSoundMessage next t bytes
+        sent_sound from to t bytes at here = by (from == agent_of event) refl here
+          where
+            by : (b : Bool) → (from == agent_of event) ≡ b → Contains (if b then sent_to to (map in_bytes is.step.out) else []) bytes → IsSoundMessage next t bytes
+            by false test here = absurd (no_member bytes here)
+            by true test here =
+                let same = eqb-true from (agent_of event) test in
+                let task : is.agent.task ≡ t = same_Some is.agent.task t (sym (task_at (agent_of event) is.agent is.there) ∙ ap (task_of tasks) (sym same) ∙ at) in
+                subst (λ (u : AgentTask). IsSoundMessage next u bytes) task
+                (All-contains (IsSoundMessage next is.agent.task) (sent_to to (map in_bytes is.step.out)) bytes
+                (All-map (IsSoundMessage next is.agent.task) (λ (x : Out). x.bytes) (filter (λ x. x.to == to) (map in_bytes is.step.out))
+                (All-filter (λ (x : Out). x.to == to) (λ (x : Out). IsSoundMessage next is.agent.task x.bytes) (map in_bytes is.step.out) new_sound))
+                here)
+
+        pub states_stay_sound : AreStatesSound tasks next
+        states_stay_sound = record {
+          agents = agents_sound;
+          mail = λ from to t u bytes at to_at here.
+              let sender = agent_of_task from t at in
+              let receiver = agent_of_task to u to_at in
+              by from to t u bytes at to_at sender receiver
+              (Contains-append_cases (under_way (without_taken w event) from to) (sent_between event is.step from to) bytes
+              (subst (λ (ms : List (List ℕ)). Contains ms bytes) (is.mail from to sender receiver) here));
+        }
+          where
+            by : (from to : ℕ) (t u : AgentTask) (bytes : List ℕ) → task_of tasks from ≡ Some t → task_of tasks to ≡ Some u → IsAgent w from → IsAgent w to
+                → Contains (under_way (without_taken w event) from to) bytes ⊎ Contains (sent_between event is.step from to) bytes → IsSoundMessage next t bytes
+            by from to t u bytes at to_at sender receiver (inl old) =
+                message_stays w next records_sound grown t bytes
+                (sound.mail from to t u bytes at to_at (was_there event is from to sender receiver bytes old))
+            by from to t u bytes at to_at sender receiver (inr new) = sent_sound from to t bytes at new
