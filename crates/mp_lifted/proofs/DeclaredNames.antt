@@ -32,7 +32,7 @@ kept n name (t ∷ ts) apart =
     ]
 
 -- the first declarations have the names of all
-first_named : (ts : List Typed) (name : Text) → is_named (declared_names ts) name ≡ is_named (names_in ts) name
+pub first_named : (ts : List Typed) (name : Text) → is_named (declared_names ts) name ≡ is_named (names_in ts) name
 unfolding first_declared
 first_named [] name = refl
 first_named (t ∷ ts) name =

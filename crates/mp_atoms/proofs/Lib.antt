@@ -1,0 +1,2 @@
+-- facts that are kept, one by one
+pub mod Keeping
