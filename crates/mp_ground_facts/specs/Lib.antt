@@ -1,0 +1,4 @@
+pub mod Facts
+pub mod Keys
+pub mod Touched
+pub mod Ground

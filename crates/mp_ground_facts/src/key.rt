@@ -1,0 +1,32 @@
+//! Facts by parts that are borrowed, to look them up without memory.
+
+use crate::fact::GroundFact;
+use indexmap::Equivalent;
+
+/// A fact or the complement of one whose objects are borrowed.
+#[derive(Clone, Copy, PartialEq, Eq, Hash)]
+pub struct FactKey<'a> {
+    pub is_public: bool,
+    pub is_complement: bool,
+    pub predicate: u32,
+    pub objects: &'a [u32],
+}
+
+impl Equivalent<GroundFact> for FactKey<'_> {
+    ghost use Rattle.mp_ground_facts.specs.Keys.{fact_of_key, is_key_of};
+    ghost use Rattle.mp_ground_facts.specs.contracts.fact.GroundFactHash.TheImpl.Laws as hashed;
+    ghost use Rattle.mp_ground_facts.specs.contracts.fact.GroundFactEq.TheImpl.Laws as equal;
+
+    ghost equivalent = { is_key_of };
+
+    ghost respects_hash = { λ q. hashed.respects_eq-law (fact_of_key q) };
+
+    ghost respects_eq = { λ q. equal.laws-law.congr (fact_of_key q) };
+
+    fn equivalent(&self, key: &GroundFact) -> bool {
+        self.is_public == key.is_public
+            && self.is_complement == key.is_complement
+            && self.predicate == key.predicate
+            && self.objects == key.objects.as_slice()
+    }
+}

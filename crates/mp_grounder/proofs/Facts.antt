@@ -1,0 +1,83 @@
+-- Atoms in range, and the facts that they stand for.
+use Rattle.std.proofs.Common.{◌≡◌, ℕ, true, ◌&&◌, ◌||◌, ◌==◌, nat_eq, List, [], ◌∷◌, map, All, Option, Some, None, refl, sym, ap, ◌∙◌, subst, inl, inr}
+use Rattle.std.proofs.lemmas.Bool.{cases_Bool, and_right, and_parts, eqb-true, eq-eqb}
+use Rattle.std.proofs.lemmas.List.Elements.{All-head, All-tail}
+use Rattle.std.proofs.lemmas.Slice.Eq.{bytes_eq-Decides, slice_eq-Decides}
+use Rattle.std.specs.Cmp.Lexicographic.{pointwise}
+use Rattle.std.specs.Str.{bytes_eq}
+use Rattle.mp_factor.specs.declared.factor.Factor.{Factor}
+use Rattle.mp_names.specs.Numbers.{name_at}
+use Rattle.mp_typing.specs.Lookups.{objects_of}
+use Rattle.mp_joint.specs.Fact as joint
+use Rattle.mp_joint.specs.FactorContribution.{privates_of}
+use Rattle.mp_lifted.specs.declared.lifted.GroundAtom.{GroundAtom}
+use Rattle.mp_lifted.specs.Vocabulary.{vocabulary_of}
+use Rattle.mp_atoms.specs.Atoms.{same_atom, is_among}
+use Rattle.mp_grounder.specs.Named.{named_fact, named_objects, IsInRange}
+use Rattle.mp_grounder.proofs.Distinct.{AreDistinct, first_distinct}
+use Rattle.mp_grounder.proofs.Numbered.{same_places, same_lists}
+use Rattle.mp_grounder.proofs.Parts.{HasParts}
+
+pub objects_distinct : (factor : Factor) → AreDistinct (vocabulary_of factor).objects
+objects_distinct factor = first_distinct (objects_of factor)
+
+owner_itself : (o : Option ℕ) → joint.same_owner o o ≡ true
+owner_itself None = refl
+owner_itself (Some n) = eq-eqb n n refl
+
+-- where the names are the same, so is the owner
+same_names_owner : (agent : ℕ) (privates : joint.Privates) (p q : joint.Text) (xs ys : List joint.Text)
+    → joint.same_fact (joint.named agent privates p xs) (joint.named agent privates q ys) ≡ (bytes_eq p q && pointwise bytes_eq xs ys)
+same_names_owner agent privates p q xs ys =
+    elim (cases_Bool (bytes_eq p q && pointwise bytes_eq xs ys)) [
+      | inl same ↦
+          let parts = and_parts (bytes_eq p q) (pointwise bytes_eq xs ys) same in
+          let names : p ≡ q = (bytes_eq-Decides p q).0 parts.0 in
+          let args : xs ≡ ys = (slice_eq-Decides bytes_eq-Decides xs ys (pointwise bytes_eq xs ys) refl).0 parts.1 in
+          let owners : joint.owner agent privates p xs ≡ joint.owner agent privates q ys = λ i. joint.owner agent privates (names i) (args i) in
+          let itself : joint.same_owner (joint.owner agent privates p xs) (joint.owner agent privates q ys) ≡ true =
+          subst (λ o. joint.same_owner (joint.owner agent privates p xs) o ≡ true) owners (owner_itself (joint.owner agent privates p xs)) in
+          ap (λ b. b && (bytes_eq p q && pointwise bytes_eq xs ys)) itself
+      | inr differs ↦ and_right _ _ differs ∙ sym differs
+    ]
+
+-- atoms in range are the same where their facts are
+pub same_facts : (agent : ℕ) (factor : Factor) (a b : GroundAtom) → HasParts factor → IsInRange factor a → IsInRange factor b
+    → joint.same_fact (named_fact agent factor a) (named_fact agent factor b) ≡ same_atom a b
+same_facts agent factor a b parts first second =
+    let names = (vocabulary_of factor).predicates in
+    let objects = (vocabulary_of factor).objects in
+    same_names_owner agent (privates_of factor) (name_at names a.symbol) (name_at names b.symbol) (named_objects factor a.args) (named_objects factor b.args)
+    ∙ ap (λ t. t && pointwise bytes_eq (named_objects factor a.args) (named_objects factor b.args)) (same_places names a.symbol b.symbol parts.predicates first.symbol second.symbol)
+    ∙ ap (λ t. (a.symbol == b.symbol) && t) (same_lists objects a.args b.args (objects_distinct factor) first.args second.args)
+
+pub same_atom_is : (a b : GroundAtom) → same_atom a b ≡ true → a ≡ b
+same_atom_is a b h =
+    let parts = and_parts (a.symbol == b.symbol) (pointwise nat_eq a.args b.args) h in
+    let symbols : a.symbol ≡ b.symbol = eqb-true a.symbol b.symbol parts.0 in
+    let args : a.args ≡ b.args = (bytes_eq-Decides a.args b.args).0 parts.1 in
+    λ i. record { symbol = symbols i; args = args i }
+
+fact_itself : (agent : ℕ) (privates : joint.Privates) (p : joint.Text) (xs : List joint.Text)
+    → joint.same_fact (joint.named agent privates p xs) (joint.named agent privates p xs) ≡ true
+fact_itself agent privates p xs =
+    same_names_owner agent privates p p xs xs
+    ∙ ap (λ b. b && pointwise bytes_eq xs xs) ((bytes_eq-Decides p p).1 refl)
+    ∙ (slice_eq-Decides bytes_eq-Decides xs xs (pointwise bytes_eq xs xs) refl).1 refl
+
+pub different_facts : (agent : ℕ) (factor : Factor) (a b : GroundAtom) → HasParts factor → IsInRange factor a → IsInRange factor b
+    → named_fact agent factor a ≡ named_fact agent factor b → a ≡ b
+different_facts agent factor a b parts first second h =
+    same_atom_is a b
+    (sym (same_facts agent factor a b parts first second)
+    ∙ subst (λ f. joint.same_fact (named_fact agent factor a) f ≡ true) h
+    (fact_itself agent (privates_of factor) (name_at (vocabulary_of factor).predicates a.symbol) (named_objects factor a.args)))
+
+-- an atom is among others where its fact is among theirs
+pub same_among : (agent : ℕ) (factor : Factor) (a : GroundAtom) (bs : List GroundAtom) → HasParts factor → IsInRange factor a → All (IsInRange factor) bs
+    → joint.is_among (named_fact agent factor a) (map (named_fact agent factor) bs) ≡ is_among a bs
+same_among agent factor a [] parts first all = refl
+same_among agent factor a (b ∷ bs) parts first all =
+    ap (λ t. t || joint.is_among (named_fact agent factor a) (map (named_fact agent factor) bs))
+    (same_facts agent factor a b parts first (All-head (IsInRange factor) b bs all))
+    ∙ ap (λ t. same_atom a b || t) (same_among agent factor a bs parts first (All-tail (IsInRange factor) b bs all))

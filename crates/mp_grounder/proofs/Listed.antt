@@ -1,0 +1,130 @@
+-- The numbered facts, by their names, are a listing of the counted ones.
+use Rattle.std.proofs.Common.{◌≡◌, ℕ, Bool, true, false, cond, List, [], ◌∷◌, map, filter, get_or, All, Less, refl, sym, ap, ◌∙◌, subst, inl, inr}
+use Rattle.std.proofs.lemmas.Bool.{cases_Bool}
+use Rattle.std.proofs.lemmas.List.Elements.{All-head, All-tail, Contains-get_or}
+use Rattle.std.proofs.lemmas.List.Kept.{IsStrictlySortedBy-filter}
+use Rattle.std.specs.List.{AllByRecursion}
+use Rattle.std.specs.List.Sorted.{IsStrictlySortedBy}
+use Rattle.std.specs.Prelude.{Contains}
+use Rattle.mp_list.proofs.Members.{contains_head, contains_tail, contains_cases, no_member}
+use Rattle.mp_factor.specs.declared.factor.Factor.{Factor}
+use Rattle.mp_joint.specs.declared.fact.SignedFact.{SignedFact}
+use Rattle.mp_lifted.specs.declared.view.OpenView.{OpenView}
+use Rattle.mp_lifted.specs.Factors.{lifted_factor}
+use Rattle.mp_lifted.specs.Views.{setting_of}
+use Rattle.mp_instances.specs.Instances.{instances}
+use Rattle.mp_ground_facts.specs.declared.fact.GroundFact.{GroundFact}
+use Rattle.mp_ground_facts.specs.Facts.{fact_cmp}
+use Rattle.mp_ground_facts.specs.Touched.{counted}
+use Rattle.mp_grounder.specs.Checked.{IsChecked}
+use Rattle.mp_grounder.specs.Counted.{counted_facts, signed_cmp}
+use Rattle.mp_grounder.specs.Listing.{IsListing, AreNumbered}
+use Rattle.mp_grounder.specs.Named.{signed_fact, IsOfFactor}
+use Rattle.mp_grounder.proofs.Counted.{all_counted}
+use Rattle.mp_grounder.proofs.Ordered.{counted_stand, same_order}
+use Rattle.mp_grounder.proofs.Parts.{HasParts, parts_of}
+
+-- ---- members
+
+in_map : {X Y : Type 0} (f : X → Y) (xs : List X) (x : X) → Contains xs x → Contains (map f xs) (f x)
+in_map f [] x found = absurd (no_member x found)
+in_map f (y ∷ ys) x found =
+    elim (contains_cases y ys x found) [
+      | inl here ↦ subst (Contains (f y ∷ map f ys)) (ap f here) (contains_head (f y) (map f ys))
+      | inr there ↦ contains_tail (f y) (map f ys) (f x) (in_map f ys x there)
+    ]
+
+out_of_map : {X Y : Type 0} (f : X → Y) (xs : List X) (y : Y) → Contains (map f xs) y → (x : X) × Contains xs x × (f x ≡ y)
+out_of_map f [] y found = absurd (no_member y found)
+out_of_map f (x ∷ xs) y found =
+    elim (contains_cases (f x) (map f xs) y found) [
+      | inl here ↦ (x, contains_head x xs, here)
+      | inr there ↦ let rest = out_of_map f xs y there in (rest.0, contains_tail x xs rest.0 rest.1, rest.2)
+    ]
+
+-- lists with the same members have the same images
+same_images : {X Y : Type 0} (f : X → Y) (xs ys : List X) → ((x : X) → Contains xs x → Contains ys x) → (y : Y) → Contains (map f xs) y → Contains (map f ys) y
+same_images f xs ys each y found =
+    let from = out_of_map f xs y found in
+    subst (Contains (map f ys)) from.2 (in_map f ys from.0 (each from.0 from.1))
+
+in_filter : {X : Type 0} (test : X → Bool) (xs : List X) (x : X) → Contains xs x → test x ≡ true → Contains (filter test xs) x
+in_filter test [] x found passes = absurd (no_member x found)
+in_filter test (y ∷ ys) x found passes =
+    elim (contains_cases y ys x found) [
+      | inl here ↦
+          let also : test y ≡ true = subst (λ z. test z ≡ true) (sym here) passes in
+          rw also (subst (Contains (y ∷ filter test ys)) here (contains_head y (filter test ys)))
+      | inr there ↦
+          let rest = in_filter test ys x there passes in
+          elim (cases_Bool (test y)) [
+            | inl taken ↦ rw taken (contains_tail y (filter test ys) x rest)
+            | inr left ↦ rw left rest
+          ]
+    ]
+
+record HasPassed {X : Type 0} (test : X → Bool) (xs : List X) (x : X) : Type 0 where
+  there : Contains xs x
+  passes : test x ≡ true
+
+passed_later : {X : Type 0} (test : X → Bool) (y : X) (ys : List X) (x : X) → HasPassed test ys x → HasPassed test (y ∷ ys) x
+passed_later test y ys x h = record { there = contains_tail y ys x h.there; passes = h.passes }
+
+passed_by : {X : Type 0} (taken : Bool) (test : X → Bool) (y : X) (ys : List X) (x : X) → test y ≡ taken
+    → (Contains (filter test ys) x → HasPassed test ys x) → Contains (cond taken (y ∷ filter test ys) (filter test ys)) x → HasPassed test (y ∷ ys) x
+passed_by true test y ys x e later found =
+    elim (contains_cases y (filter test ys) x found) [
+      | inl here ↦ subst (HasPassed test (y ∷ ys)) here (record { there = contains_head y ys; passes = e })
+      | inr there ↦ passed_later test y ys x (later there)
+    ]
+passed_by false test y ys x e later found = passed_later test y ys x (later found)
+
+out_of_filter : {X : Type 0} (test : X → Bool) (xs : List X) (x : X) → Contains (filter test xs) x → HasPassed test xs x
+out_of_filter test [] x found = absurd (no_member x found)
+out_of_filter test (y ∷ ys) x found = passed_by (test y) test y ys x refl (out_of_filter test ys x) found
+
+-- ---- facts that rise in numbers rise by name
+
+rising_behind : (agent : ℕ) (factor : Factor) (view : OpenView) (f : GroundFact) (gs : List GroundFact) → HasParts factor → IsOfFactor factor view f
+    → All (IsOfFactor factor view) gs → AllByRecursion (λ g. fact_cmp f g ≡ Less) gs
+    → AllByRecursion (λ y. signed_cmp factor (signed_fact agent factor f) y ≡ Less) (map (signed_fact agent factor) gs)
+rising_behind agent factor view f [] parts is all h = tt
+rising_behind agent factor view f (g ∷ gs) parts is all h = (
+  same_order agent factor view f g parts is (All-head (IsOfFactor factor view) g gs all) ∙ h.0,
+  rising_behind agent factor view f gs parts is (All-tail (IsOfFactor factor view) g gs all) h.1,
+)
+
+rising_names : (agent : ℕ) (factor : Factor) (view : OpenView) (fs : List GroundFact) → HasParts factor → All (IsOfFactor factor view) fs
+    → IsStrictlySortedBy fact_cmp fs → IsStrictlySortedBy (signed_cmp factor) (map (signed_fact agent factor) fs)
+unfolding IsStrictlySortedBy
+rising_names agent factor view [] parts all h = tt
+rising_names agent factor view (f ∷ fs) parts all h = (
+  rising_behind agent factor view f fs parts (All-head (IsOfFactor factor view) f fs all) (All-tail (IsOfFactor factor view) f fs all) h.0,
+  rising_names agent factor view fs parts (All-tail (IsOfFactor factor view) f fs all) h.1,
+)
+
+-- ---- the listing
+
+of_factor : (factor : Factor) (view : OpenView) (facts : List GroundFact) → IsChecked factor → AreNumbered factor view facts → All (IsOfFactor factor view) facts
+of_factor factor view facts checked h k d less =
+    let f = get_or facts k d in
+    let there = (h.exact f).0 (Contains-get_or facts k d less) in
+    subst (IsOfFactor factor view) there.2 (all_counted factor view checked there.0 f there.1)
+
+pub listed : (agent : ℕ) (factor : Factor) (view : OpenView) (facts : List GroundFact) (test : SignedFact → Bool) → IsChecked factor → AreNumbered factor view facts
+    → IsListing (signed_cmp factor) test (counted_facts agent factor (setting_of agent factor view)) (filter test (map (signed_fact agent factor) facts))
+listed agent factor view facts test checked h =
+    let all = counted (lifted_factor factor view) (instances (lifted_factor factor view)) in
+    let named = map (signed_fact agent factor) facts in
+    let same = counted_stand agent factor view checked in
+    record {
+      rising = IsStrictlySortedBy-filter (signed_cmp factor) test named
+          (rising_names agent factor view facts (parts_of factor checked.no_fault) (of_factor factor view facts checked h) h.rising);
+      exact = λ x. (
+        λ found.
+            let from = out_of_filter test named x found in
+            (subst (λ xs. Contains xs x) same (same_images (signed_fact agent factor) facts all (λ f. (h.exact f).0) x from.there), from.passes),
+        λ found.
+            in_filter test named x (same_images (signed_fact agent factor) all facts (λ f. (h.exact f).1) x (subst (λ xs. Contains xs x) (sym same) found.0)) found.1,
+      );
+    }

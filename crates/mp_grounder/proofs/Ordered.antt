@@ -1,0 +1,111 @@
+-- The counted facts in numbers stand for those by names, different ones for different ones and in the same order.
+use Rattle.std.proofs.Common.{◌≡◌, ℕ, Bool, true, false, not, List, [], ◌∷◌, ◌++◌, map, Option, Some, None, slice_get, is_none, refl, sym, ap, ◌∙◌}
+use Rattle.std.proofs.lemmas.List.{map-append}
+use Rattle.std.specs.List.{flat_map}
+use Rattle.std.specs.Option.{option_map_or}
+use Rattle.std.specs.Ordering.{ordering_then, bool_cmp, nat_cmp}
+use Rattle.std.specs.Cmp.Lexicographic.{slice_cmp}
+use Rattle.mp_factor.specs.declared.factor.Factor.{Factor}
+use Rattle.mp_names.specs.Numbers.{number_in}
+use Rattle.mp_joint.specs.declared.fact.SignedFact.{SignedFact}
+use Rattle.mp_lifted.specs.declared.lifted.GroundAtom.{GroundAtom}
+use Rattle.mp_lifted.specs.declared.lifted.LiftedAction.{LiftedAction}
+use Rattle.mp_lifted.specs.declared.lifted.LiftedFactor.{LiftedFactor}
+use Rattle.mp_lifted.specs.declared.view.OpenView.{OpenView}
+use Rattle.mp_lifted.specs.Factors.{lifted_factor}
+use Rattle.mp_lifted.specs.Views.{setting_of}
+use Rattle.mp_lifted.specs.Vocabulary.{vocabulary_of}
+use Rattle.mp_atoms.specs.declared.binding.ActionBinding.{ActionBinding}
+use Rattle.mp_atoms.specs.Start.{is_private}
+use Rattle.mp_instances.specs.Instances.{instances}
+use Rattle.mp_ground_facts.specs.declared.fact.GroundFact.{GroundFact}
+use Rattle.mp_ground_facts.specs.Facts.{fact_cmp, atom_of}
+use Rattle.mp_ground_facts.specs.Touched.{needed, added, deleted, touched, of_action, goal_facts, counted}
+use Rattle.mp_grounder.specs.Checked.{IsChecked}
+use Rattle.mp_grounder.specs.Counted.{touched_by, counted_facts, signed_cmp}
+use Rattle.mp_grounder.specs.Grounding.{named_instance}
+use Rattle.mp_grounder.specs.Named.{signed_fact, IsOfFactor}
+use Rattle.mp_grounder.proofs.Facts.{different_facts, objects_distinct}
+use Rattle.mp_grounder.proofs.Grounding.{instances_stand}
+use Rattle.mp_grounder.proofs.Needed.{goals_stand}
+use Rattle.mp_grounder.proofs.Numbered.{number_at}
+use Rattle.mp_grounder.proofs.Parts.{HasParts, parts_of}
+use Rattle.mp_grounder.proofs.Starts.{public_is}
+use Rattle.mp_grounder.proofs.Texts.{numbers_again}
+
+-- ---- the counted facts
+
+three_parts : (f : GroundFact → SignedFact) (lifted : LiftedFactor) (objects : List ℕ) (o : Option LiftedAction)
+    → map f (option_map_or (λ (a : LiftedAction). touched lifted a objects) o [])
+    ≡ map f (option_map_or (λ (a : LiftedAction). needed lifted a objects) o [])
+    ++ map f (option_map_or (λ (a : LiftedAction). added lifted a objects) o [])
+    ++ map f (option_map_or (λ (a : LiftedAction). deleted lifted a objects) o [])
+three_parts f lifted objects None = refl
+three_parts f lifted objects (Some a) =
+    map-append f (needed lifted a objects ++ added lifted a objects) (deleted lifted a objects)
+    ∙ ap (λ xs. xs ++ map f (deleted lifted a objects)) (map-append f (needed lifted a objects) (added lifted a objects))
+
+all_touched : (agent : ℕ) (factor : Factor) (lifted : LiftedFactor) (is' : List ActionBinding)
+    → map (signed_fact agent factor) (flat_map (of_action lifted touched) is') ≡ flat_map touched_by (map (named_instance agent factor lifted) is')
+all_touched agent factor lifted [] = refl
+all_touched agent factor lifted (i ∷ is') =
+    map-append (signed_fact agent factor) (of_action lifted touched i) (flat_map (of_action lifted touched) is')
+    ∙ (λ j. three_parts (signed_fact agent factor) lifted i.objects (slice_get lifted.actions i.action) j ++ all_touched agent factor lifted is' j)
+
+pub counted_stand : (agent : ℕ) (factor : Factor) (view : OpenView) → IsChecked factor
+    → map (signed_fact agent factor) (counted (lifted_factor factor view) (instances (lifted_factor factor view)))
+    ≡ counted_facts agent factor (setting_of agent factor view)
+counted_stand agent factor view checked =
+    let lifted = lifted_factor factor view in
+    map-append (signed_fact agent factor) (flat_map (of_action lifted touched) (instances lifted)) (goal_facts lifted)
+    ∙ (λ i. (all_touched agent factor lifted (instances lifted) ∙ ap (flat_map touched_by) (instances_stand agent factor view checked)) i
+    ++ goals_stand agent factor view (parts_of factor checked.no_fault) i)
+
+-- ---- different ones
+
+not_not : (b : Bool) → not (not b) ≡ b
+not_not true = refl
+not_not false = refl
+
+pub different_signed : (agent : ℕ) (factor : Factor) (view : OpenView) (f g : GroundFact) → HasParts factor → IsOfFactor factor view f → IsOfFactor factor view g
+    → signed_fact agent factor f ≡ signed_fact agent factor g → f ≡ g
+different_signed agent factor view f g parts first second h =
+    let atoms : atom_of f ≡ atom_of g =
+    different_facts agent factor (atom_of f) (atom_of g) parts first.range second.range (ap (λ (x : SignedFact). x.fact) h) in
+    let signs : f.is_complement ≡ g.is_complement =
+    sym (not_not f.is_complement) ∙ ap (λ (x : SignedFact). not x.positive) h ∙ not_not g.is_complement in
+    let publics : f.is_public ≡ g.is_public =
+    first.public ∙ ap (λ (a : GroundAtom). not (is_private (lifted_factor factor view) a)) atoms ∙ sym second.public in
+    let predicates : f.predicate ≡ g.predicate = ap (λ (a : GroundAtom). a.symbol) atoms in
+    let objects : f.objects ≡ g.objects = ap (λ (a : GroundAtom). a.args) atoms in
+    λ i. record { is_public = publics i; is_complement = signs i; predicate = predicates i; objects = objects i }
+
+-- ---- their order
+
+by_parts : (f g : GroundFact) → fact_cmp f g
+    ≡ ordering_then (bool_cmp f.is_public g.is_public)
+    (ordering_then (bool_cmp f.is_complement g.is_complement)
+    (ordering_then (nat_cmp f.predicate g.predicate) (slice_cmp nat_cmp f.objects g.objects)))
+by_parts f g = refl
+
+record IsRead (agent : ℕ) (factor : Factor) (f : GroundFact) : Type 0 where
+  public : is_none (signed_fact agent factor f).fact.owner ≡ f.is_public
+  predicate : number_in (vocabulary_of factor).predicates (signed_fact agent factor f).fact.predicate ≡ f.predicate
+  objects : map (number_in (vocabulary_of factor).objects) (signed_fact agent factor f).fact.args ≡ f.objects
+
+read : (agent : ℕ) (factor : Factor) (view : OpenView) (f : GroundFact) → HasParts factor → IsOfFactor factor view f → IsRead agent factor f
+read agent factor view f parts is = record {
+  public = sym (is.public ∙ public_is agent factor view (atom_of f) is.range);
+  predicate = number_at (vocabulary_of factor).predicates f.predicate parts.predicates is.range.symbol;
+  objects = numbers_again (vocabulary_of factor).objects f.objects (objects_distinct factor) is.range.args;
+}
+
+pub same_order : (agent : ℕ) (factor : Factor) (view : OpenView) (f g : GroundFact) → HasParts factor → IsOfFactor factor view f → IsOfFactor factor view g
+    → signed_cmp factor (signed_fact agent factor f) (signed_fact agent factor g) ≡ fact_cmp f g
+same_order agent factor view f g parts first second =
+    let a = read agent factor view f parts first in
+    let b = read agent factor view g parts second in
+    (λ i. ordering_then (bool_cmp (a.public i) (b.public i))
+    (ordering_then (bool_cmp (not_not f.is_complement i) (not_not g.is_complement i))
+    (ordering_then (nat_cmp (a.predicate i) (b.predicate i)) (slice_cmp nat_cmp (a.objects i) (b.objects i)))))
+    ∙ sym (by_parts f g)

@@ -1,0 +1,220 @@
+-- Facts and the texts that spell them.
+use Rattle.std.proofs.Common.{arith, ◌≡◌, ℕ, ◌+◌, ◌-◌, ◌==◌, suc, Bool, true, false, not, ◌&&◌, ◌||◌, List, [], ◌∷◌, ◌++◌, map, filter, length, take, get_or, All, Option, Some, None, if◌then◌else◌, refl, sym, ap, ◌∙◌, subst, inl, inr, length-append}
+use Rattle.std.specs.Prelude.{IsTrue}
+use Rattle.std.specs.List.{join_with_byte, slice_split, cons_option, list_all}
+use Rattle.std.specs.Str.{bytes_eq}
+use Rattle.std.proofs.lemmas.Bool.{cases_Bool, and_parts, and_from, eqb-true, eq-eqb, true≢false}
+use Rattle.std.proofs.lemmas.List.{take_all, take-append-le}
+use Rattle.std.proofs.lemmas.List.Elements.{All-nil, All-cons, All-head, All-tail, All-map, All-append}
+use Rattle.std.proofs.lemmas.List.Splits.{join_with_byte-slice_split, slice_split_none, slice_split_at}
+use Rattle.std.proofs.lemmas.Slice.Eq.{bytes_eq-Decides}
+use Rattle.mp_list.proofs.Bools.{same_tests}
+use Rattle.mp_factor.specs.Kinds.{is_name}
+use Rattle.mp_factor.specs.Words.{is_name_byte, begins_with_letter}
+use Rattle.mp_factor.specs.Named.{IsName, IsTypedOf, IsSignatureOf, IsVariable}
+use Rattle.mp_factor.specs.declared.typed_values.Typed.{Typed}
+use Rattle.mp_factor.specs.declared.signature_values.Signature.{Signature}
+use Rattle.mp_factor.specs.declared.factor.Factor.{Factor}
+use Rattle.mp_names.specs.Numbers.{name_at, number_in}
+use Rattle.mp_typing.specs.ObjectList.{first_declared}
+use Rattle.mp_joint.specs.Fact.{Text, is_listed}
+use Rattle.mp_lifted.specs.declared.lifted.GroundAtom.{GroundAtom}
+use Rattle.mp_lifted.specs.Factors.{between_brackets, has_brackets, words_of, can_be_named, named_atom, known_atom, known_atoms}
+use Rattle.mp_lifted.specs.Texts.{bracketed, fact_text}
+use Rattle.mp_lifted.specs.Vocabulary.{vocabulary_of}
+use Rattle.mp_atoms.specs.Atoms.{same_atom, is_among}
+use Rattle.mp_names.proofs.NamesAt.{name_at_number}
+use Rattle.mp_grounder.specs.Checked.{IsChecked}
+use Rattle.mp_grounder.specs.Named.{named_fact, named_objects, IsInRange}
+use Rattle.mp_grounder.proofs.Distinct.{AreDistinct}
+use Rattle.mp_grounder.proofs.Facts.{objects_distinct, same_atom_is}
+use Rattle.mp_grounder.proofs.Lists.{all_some}
+use Rattle.mp_grounder.proofs.Numbered.{IsPlace, named_at, number_at}
+use Rattle.mp_grounder.proofs.Parts.{HasParts}
+
+-- ---- words of a text
+
+abbrev is_space : ℕ → Bool
+is_space b = b == 32
+
+abbrev NotSpace : ℕ → Type 0
+NotSpace b = is_space b ≡ false
+
+abbrev pub HasNoSpace : Text → Type 0
+HasNoSpace name = All NotSpace name
+
+-- a name with others behind it
+abbrev joined : Text → List Text → Text
+joined name names = join_with_byte 32 (name ∷ names)
+
+words_of_joined : (name : Text) (names : List Text) → All HasNoSpace (name ∷ names) → slice_split is_space (joined name names) ≡ name ∷ names
+words_of_joined name [] h = slice_split_none is_space name (All-head HasNoSpace name [] h)
+words_of_joined name (other ∷ names) h =
+    slice_split_at is_space name 32 (joined other names) (All-head HasNoSpace name (other ∷ names) h) refl
+    ∙ ap (λ ws. name ∷ ws) (words_of_joined other names (All-tail HasNoSpace name (other ∷ names) h))
+
+inner : (m : Text) → between_brackets (40 ∷ m ++ 41 ∷ []) ≡ m
+inner m =
+    let long : length (40 ∷ m ++ 41 ∷ []) ≡ suc (length m + 1) = ap suc (length-append m (41 ∷ [])) in
+    let count : length (40 ∷ m ++ 41 ∷ []) - 2 ≡ length m = omega (arith, long) in
+    ap (λ n. take n (m ++ 41 ∷ [])) count
+    ∙ take-append-le (length m) m (41 ∷ []) (omega arith) ∙ take_all (length m) m (omega arith)
+
+-- the words of a text with brackets spell it
+spelled : (t : Text) → has_brackets t ≡ true → bracketed (words_of t) ≡ t
+spelled t h =
+    ap (λ m. 40 ∷ m ++ 41 ∷ []) (join_with_byte-slice_split 32 (between_brackets t))
+    ∙ (bytes_eq-Decides (40 ∷ between_brackets t ++ 41 ∷ []) t).0 h
+
+record IsSpelled (t : Text) (names : List Text) : Type 0 where
+  brackets : has_brackets t ≡ true
+  words : words_of t ≡ names
+
+spells : (name : Text) (names : List Text) → All HasNoSpace (name ∷ names) → IsSpelled (bracketed (name ∷ names)) (name ∷ names)
+spells name names h =
+    let m = joined name names in
+    let within : between_brackets (40 ∷ m ++ 41 ∷ []) ≡ m = inner m in
+    record {
+      brackets = (bytes_eq-Decides (40 ∷ between_brackets (40 ∷ m ++ 41 ∷ []) ++ 41 ∷ []) (40 ∷ m ++ 41 ∷ [])).1 (ap (λ k. 40 ∷ k ++ 41 ∷ []) within);
+      words = ap (slice_split is_space) within ∙ words_of_joined name names h;
+    }
+
+-- ---- names have no space
+
+byte_not_space : (b : ℕ) → is_name_byte b ≡ true → NotSpace b
+byte_not_space b h =
+    elim (cases_Bool (is_space b)) [
+      | inl space ↦
+          let is : b ≡ 32 = eqb-true b 32 space in
+          absurd (true≢false (sym (subst (λ c. is_name_byte c ≡ true) is h)))
+      | inr other ↦ other
+    ]
+
+bytes_not_space : (name : Text) → list_all is_name_byte name ≡ true → HasNoSpace name
+bytes_not_space [] h = All-nil NotSpace
+bytes_not_space (b ∷ bs) h =
+    let parts = and_parts (is_name_byte b) (list_all is_name_byte bs) h in
+    All-cons NotSpace b bs (byte_not_space b parts.0) (bytes_not_space bs parts.1)
+
+name_not_space : (name : Text) → IsTrue (is_name name) → HasNoSpace name
+unfolding is_name
+name_not_space name h = bytes_not_space name ((and_parts (begins_with_letter name) (list_all is_name_byte name) h).1)
+
+each_implies : {X : Type 0} (P Q : X → Type 0) (xs : List X) → ((x : X) → P x → Q x) → All P xs → All Q xs
+each_implies P Q xs f h k d less = f (get_or xs k d) (h k d less)
+
+predicates_spaceless : (factor : Factor) → IsChecked factor → All HasNoSpace (vocabulary_of factor).predicates
+predicates_spaceless factor h =
+    All-map HasNoSpace (λ (s : Signature). s.word.name) factor.domain.predicates
+    (each_implies (IsSignatureOf IsName IsVariable) (λ (s : Signature). HasNoSpace s.word.name) factor.domain.predicates
+    (λ s is. name_not_space s.word.name is.word) h.domain_names.predicates)
+
+all_first : (P : Typed → Type 0) (ts : List Typed) → All P ts → All P (first_declared ts)
+unfolding first_declared
+all_first P [] h = All-nil P
+all_first P (t ∷ ts) h =
+    All-cons P t (filter (λ (o : Typed). not (bytes_eq o.word.name t.word.name)) (first_declared ts)) (All-head P t ts h)
+    (all_some P (λ (o : Typed). not (bytes_eq o.word.name t.word.name)) (first_declared ts) (all_first P ts (All-tail P t ts h)))
+
+objects_spaceless : (factor : Factor) → IsChecked factor → All HasNoSpace (vocabulary_of factor).objects
+objects_spaceless factor h =
+    let all = factor.domain.constants ++ factor.problem.objects in
+    All-map HasNoSpace (λ (o : Typed). o.word.name) (first_declared all)
+    (each_implies (IsTypedOf IsName IsName) (λ (o : Typed). HasNoSpace o.word.name) (first_declared all)
+    (λ o is. name_not_space o.word.name is.word)
+    (all_first (IsTypedOf IsName IsName) all
+    (All-append (IsTypedOf IsName IsName) factor.domain.constants factor.problem.objects h.domain_names.constants h.problem_names.objects)))
+
+-- names at places
+all_named : (names : List Text) (ns : List ℕ) → All HasNoSpace names → All (IsPlace names) ns → All HasNoSpace (map (name_at names) ns)
+all_named names [] each h = All-nil HasNoSpace
+all_named names (n ∷ ns) each h =
+    All-cons HasNoSpace (name_at names n) (map (name_at names) ns) (each n [] (All-head (IsPlace names) n ns h))
+    (all_named names ns each (All-tail (IsPlace names) n ns h))
+
+all_listed : (names : List Text) (ns : List ℕ) → All (IsPlace names) ns → list_all (λ o. is_listed o names) (map (name_at names) ns) ≡ true
+all_listed names [] h = refl
+all_listed names (n ∷ ns) h =
+    and_from (is_listed (name_at names n) names) (list_all (λ o. is_listed o names) (map (name_at names) ns))
+    (named_at names n (All-head (IsPlace names) n ns h)) (all_listed names ns (All-tail (IsPlace names) n ns h))
+
+pub numbers_again : (names : List Text) (ns : List ℕ) → AreDistinct names → All (IsPlace names) ns → map (number_in names) (map (name_at names) ns) ≡ ns
+numbers_again names [] once h = refl
+numbers_again names (n ∷ ns) once h =
+    λ i. number_at names n once (All-head (IsPlace names) n ns h) i ∷ numbers_again names ns once (All-tail (IsPlace names) n ns h) i
+
+names_again : (names texts : List Text) → list_all (λ o. is_listed o names) texts ≡ true → map (name_at names) (map (number_in names) texts) ≡ texts
+names_again names [] h = refl
+names_again names (t ∷ ts) h =
+    let parts = and_parts (is_listed t names) (list_all (λ o. is_listed o names) ts) h in
+    λ i. name_at_number names t parts.0 i ∷ names_again names ts parts.1 i
+
+-- ---- the facts that texts spell
+
+abbrev is_option : GroundAtom → Option GroundAtom → Bool
+is_option a None = false
+is_option a (Some b) = same_atom a b
+
+atom_itself : (a : GroundAtom) → same_atom a a ≡ true
+atom_itself a = and_from (a.symbol == a.symbol) _ (eq-eqb a.symbol a.symbol refl) ((bytes_eq-Decides a.args a.args).1 refl)
+
+-- the atom's own text spells it
+own_text : (agent : ℕ) (factor : Factor) (a : GroundAtom) → IsChecked factor → HasParts factor → IsInRange factor a
+    → is_option a (known_atom (vocabulary_of factor) (fact_text (named_fact agent factor a))) ≡ true
+own_text agent factor a checked parts range =
+    let voc = vocabulary_of factor in
+    let predicate = name_at voc.predicates a.symbol in
+    let args = named_objects factor a.args in
+    let spaceless = All-cons HasNoSpace predicate args (predicates_spaceless factor checked a.symbol [] range.symbol)
+    (all_named voc.objects a.args (objects_spaceless factor checked) range.args) in
+    let s = spells predicate args spaceless in
+    let listed = and_from (is_listed predicate voc.predicates) (list_all (λ o. is_listed o voc.objects) args)
+    (named_at voc.predicates a.symbol range.symbol) (all_listed voc.objects a.args range.args) in
+    let can : can_be_named voc (words_of (bracketed (predicate ∷ args))) ≡ true = ap (can_be_named voc) s.words ∙ listed in
+    let is : named_atom voc (words_of (bracketed (predicate ∷ args))) ≡ a =
+    ap (named_atom voc) s.words
+    ∙ (λ i. record {
+      symbol = number_at voc.predicates a.symbol parts.predicates range.symbol i;
+      args = numbers_again voc.objects a.args (objects_distinct factor) range.args i;
+    }) in
+    ap (λ b. is_option a (if b then Some (named_atom voc (words_of (bracketed (predicate ∷ args)))) else None))
+    (and_from (has_brackets (bracketed (predicate ∷ args))) (can_be_named voc (words_of (bracketed (predicate ∷ args)))) s.brackets can)
+    ∙ ap (same_atom a) is ∙ atom_itself a
+
+-- and a text that spells it is its own
+by_words : (agent : ℕ) (factor : Factor) (words : List Text) → can_be_named (vocabulary_of factor) words ≡ true
+    → fact_text (named_fact agent factor (named_atom (vocabulary_of factor) words)) ≡ bracketed words
+by_words agent factor [] h = absurd (true≢false (sym h))
+by_words agent factor (p ∷ os) h =
+    let voc = vocabulary_of factor in
+    let parts = and_parts (is_listed p voc.predicates) (list_all (λ o. is_listed o voc.objects) os) h in
+    λ i. bracketed (name_at_number voc.predicates p parts.0 i ∷ names_again voc.objects os parts.1 i)
+
+of_spelled : (agent : ℕ) (factor : Factor) (a : GroundAtom) (t : Text) (test : Bool) → (has_brackets t && can_be_named (vocabulary_of factor) (words_of t)) ≡ test
+    → is_option a (if test then Some (named_atom (vocabulary_of factor) (words_of t)) else None) ≡ true
+    → fact_text (named_fact agent factor a) ≡ t
+of_spelled agent factor a t true e h =
+    let parts = and_parts (has_brackets t) (can_be_named (vocabulary_of factor) (words_of t)) e in
+    ap (λ b. fact_text (named_fact agent factor b)) (same_atom_is a (named_atom (vocabulary_of factor) (words_of t)) h)
+    ∙ by_words agent factor (words_of t) parts.1 ∙ spelled t parts.0
+of_spelled agent factor a t false e h = absurd (true≢false (sym h))
+
+one_text : (agent : ℕ) (factor : Factor) (a : GroundAtom) (t : Text) → IsChecked factor → HasParts factor → IsInRange factor a
+    → is_option a (known_atom (vocabulary_of factor) t) ≡ bytes_eq (fact_text (named_fact agent factor a)) t
+one_text agent factor a t checked parts range =
+    let text = fact_text (named_fact agent factor a) in
+    same_tests (is_option a (known_atom (vocabulary_of factor) t)) (bytes_eq text t)
+    (λ h. (bytes_eq-Decides text t).1 (of_spelled agent factor a t (has_brackets t && can_be_named (vocabulary_of factor) (words_of t)) refl h))
+    (λ h. subst (λ u. is_option a (known_atom (vocabulary_of factor) u) ≡ true) ((bytes_eq-Decides text t).0 h) (own_text agent factor a checked parts range))
+
+among_option : (a : GroundAtom) (o : Option GroundAtom) (rest : List GroundAtom) → is_among a (cons_option o rest) ≡ (is_option a o || is_among a rest)
+among_option a None rest = refl
+among_option a (Some b) rest = refl
+
+-- an atom is among those that texts spell where its text is among them
+pub known_texts : (agent : ℕ) (factor : Factor) (a : GroundAtom) (ts : List Text) → IsChecked factor → HasParts factor → IsInRange factor a
+    → is_among a (known_atoms (vocabulary_of factor) ts) ≡ is_listed (fact_text (named_fact agent factor a)) ts
+known_texts agent factor a [] checked parts range = refl
+known_texts agent factor a (t ∷ ts) checked parts range =
+    among_option a (known_atom (vocabulary_of factor) t) (known_atoms (vocabulary_of factor) ts)
+    ∙ (λ i. one_text agent factor a t checked parts range i || known_texts agent factor a ts checked parts range i)

@@ -1,0 +1,20 @@
+use Rattle.std.proofs.Common.{Contains, subst}
+use Rattle.mp_factor.specs.declared.factor.Factor.{Factor}
+use Rattle.mp_factor.specs.declared.schema_values.Schema.{Schema}
+use Rattle.mp_grounder.specs.Checked.{IsChecked}
+use Rattle.mp_grounder.proofs.Needed.{needed_stand, added_stand, deleted_stand}
+use Rattle.mp_grounder.proofs.Parts.{parts_of, IsSchema}
+use Rattle.mp_grounder.proofs.laws.touched_facts_stand_for_named_facts.Goals as goal
+
+checked_schema : (factor : Factor) (s : Schema) → IsChecked factor → Contains factor.domain.schemas s → IsSchema factor s
+checked_schema factor s h there = subst (IsSchema factor) there.2 ((parts_of factor h.no_fault).schemas there.0 s there.1)
+
+pub returns-clause-needed : goal.returns-clause-needed
+returns-clause-needed c = λ agent factor view s objects cost h there b. needed_stand agent factor view s objects cost b (checked_schema factor s h there)
+
+pub returns-clause-added : goal.returns-clause-added
+returns-clause-added c = λ agent factor view s objects cost h there b.
+    added_stand agent factor view s objects cost (parts_of factor h.no_fault) b (checked_schema factor s h there)
+
+pub returns-clause-deleted : goal.returns-clause-deleted
+returns-clause-deleted c = λ agent factor view s objects cost h there b. deleted_stand agent factor view s objects cost b (checked_schema factor s h there)

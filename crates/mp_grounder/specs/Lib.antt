@@ -1,0 +1,5 @@
+pub mod Checked
+pub mod Named
+pub mod Grounding
+pub mod Counted
+pub mod Listing
