@@ -1,0 +1,81 @@
+-- Lists in an order: that they rise, and what they have.
+use Rattle.std.proofs.Common.{◌≡◌, Bool, true, false, ◌&&◌, List, [], ◌∷◌, map, refl, sym, ap, ◌∙◌, Ordering, Less, Equal, Greater, is_some}
+use Rattle.std.specs.Prelude.{T}
+use Rattle.std.specs.Cmp.{IsTotalOrder}
+use Rattle.std.specs.Cmp.Lexicographic.{slice_cmp, nat_list_cmp_total, texts_ties}
+use Rattle.std.specs.FinMap.{entries, entries_sorted, from_entries, get-from_entries, contains_key-keys}
+use Rattle.std.specs.FinMap.Entries.{below_all, is_some-find, is_sorted}
+use Rattle.std.specs.List.{list_any, AllByRecursion}
+use Rattle.std.specs.List.Sorted.{IsStrictlySortedBy}
+use Rattle.std.specs.Ordering.{eq_by_cmp, is_lt, match_ordering, nat_cmp}
+use Rattle.std.specs.BTreeSet.{insert_key}
+use Rattle.mp_joint.specs.Fact.{Text, is_listed}
+use Rattle.mp_views.specs.Sorted.{sorted_by, sorted_once, with_nothing}
+use Rattle.mp_views.proofs.SortedLemmas.{key, with_all, all_sorted}
+
+first : (a b : Bool) → T (a && b) → T a
+first true b p = tt
+first false b p = p
+
+second : (a b : Bool) → T (a && b) → T b
+second true b p = p
+second false b p = absurd p
+
+less_is : (o : Ordering) → T (is_lt o) → o ≡ Less
+less_is Less h = refl
+less_is Equal h = absurd h
+less_is Greater h = absurd h
+
+keys_back : {K : Type 0} (xs : List K) → map key (map with_nothing xs) ≡ xs
+keys_back [] = refl
+keys_back (x ∷ xs) = λ i. x ∷ keys_back xs i
+
+module _ {K : Type 0} (R : K → K → Ordering) where
+  of_below : (x : K) (es : List (K × Unit {0})) → T (below_all R x es) → AllByRecursion (λ y. R x y ≡ Less) (map key es)
+  of_below x [] h = tt
+  of_below x (e ∷ es) h = (less_is (R x e.0) (first _ _ h), of_below x es (second _ _ h))
+
+  of_sorted : (es : List (K × Unit {0})) → T (is_sorted R es) → IsStrictlySortedBy R (map key es)
+  unfolding IsStrictlySortedBy
+  of_sorted [] h = tt
+  of_sorted (e ∷ es) h = (of_below e.0 es (first _ _ h), of_sorted es (second _ _ h))
+
+  -- they rise
+  pub rises : (xs : List K) → IsStrictlySortedBy R (sorted_by R xs)
+  unfolding sorted_by
+  rises xs = let m = from_entries {R = R} (map with_nothing xs) in of_sorted (entries m) (entries_sorted m)
+
+  below_first : (x : K) (xs : List K) → AllByRecursion (λ y. R x y ≡ Less) xs → insert_key R xs x ≡ x ∷ xs
+  below_first x [] h = refl
+  below_first x (y ∷ ys) h = λ i. match_ordering (h.0 i) (x ∷ y ∷ ys) (y ∷ ys) (y ∷ insert_key R ys x)
+
+  all_added : (xs : List K) → IsStrictlySortedBy R xs → with_all R xs [] ≡ xs
+  unfolding IsStrictlySortedBy
+  all_added [] h = refl
+  all_added (x ∷ xs) h = ap (λ (ks : List K). insert_key R ks x) (all_added xs h.1) ∙ below_first x xs h.0
+
+module _ {K : Type 0} {R : K → K → Ordering} (o : IsTotalOrder R) where
+  -- they are those of the list
+  pub same_members : (xs : List K) (q : K) → list_any (eq_by_cmp R q) (sorted_by R xs) ≡ list_any (eq_by_cmp R q) xs
+  unfolding sorted_by
+  same_members xs q =
+      let m = from_entries {R = R} (map with_nothing xs) in
+      sym (contains_key-keys m q) ∙ ap is_some (get-from_entries o (map with_nothing xs) q)
+      ∙ is_some-find R q (map with_nothing xs) ∙ ap (list_any (eq_by_cmp R q)) (keys_back xs)
+
+  -- what rises already stays
+  pub unchanged : (xs : List K) → IsStrictlySortedBy R xs → sorted_by R xs ≡ xs
+  unchanged xs h = sym (all_sorted o xs) ∙ all_added R xs h
+
+-- the same of texts
+pub tied : (q : Text) (xs : List Text) → is_listed q xs ≡ list_any (eq_by_cmp (slice_cmp nat_cmp) q) xs
+tied q xs = λ i. list_any (λ x. texts_ties q x i) xs
+
+pub texts_rise : (texts : List Text) → IsStrictlySortedBy (slice_cmp nat_cmp) (sorted_once texts)
+texts_rise texts = rises (slice_cmp nat_cmp) texts
+
+pub same_texts : (texts : List Text) (q : Text) → is_listed q (sorted_once texts) ≡ is_listed q texts
+same_texts texts q = tied q (sorted_once texts) ∙ same_members nat_list_cmp_total texts q ∙ sym (tied q texts)
+
+pub texts_unchanged : (texts : List Text) → IsStrictlySortedBy (slice_cmp nat_cmp) texts → sorted_once texts ≡ texts
+texts_unchanged texts h = unchanged nat_list_cmp_total texts h

@@ -1,0 +1,59 @@
+-- The items of a list in an order, added one by one.
+use Rattle.std.proofs.Common.{◌≡◌, List, [], ◌∷◌, ◌++◌, map, length, refl, sym, ap, ◌∙◌, Ordering, Less, Equal, Greater, arith}
+use Rattle.std.specs.Cmp.{IsTotalOrder}
+use Rattle.std.specs.Cmp.Lexicographic.{slice_cmp, nat_list_cmp_total}
+use Rattle.std.specs.FinMap.{empty, entries, entries-insert, from_entries, len-empty, len-entries}
+use Rattle.std.specs.FinMap.Entries.{put, by_order}
+use Rattle.std.specs.Ordering.{match_ordering, nat_cmp}
+use Rattle.std.specs.BTreeSet.{insert_key}
+use Rattle.mp_joint.specs.Fact.{Text}
+use Rattle.mp_views.specs.Sorted.{sorted_by, sorted_once, with_nothing}
+
+-- the key of an entry that has nothing at it
+abbrev pub key : {K : Type 0} → K × Unit {0} → K
+key e = e.0
+
+none_at : {K : Type 0} (es : List (K × Unit {0})) → length es ≡ 0 → map key es ≡ []
+none_at [] e = refl
+none_at (x ∷ es) e = absurd (omega arith)
+
+module _ {K : Type 0} (R : K → K → Ordering) where
+  -- the keys of a set to which the items of a list are added, the last one first
+  abbrev pub with_all : List K → List K → List K
+  with_all [] ks = ks
+  with_all (x ∷ xs) ks = insert_key R (with_all xs ks) x
+
+  pub with_last : (xs : List K) (x : K) (ks : List K) → with_all xs (insert_key R ks x) ≡ with_all (xs ++ x ∷ []) ks
+  with_last [] x ks = refl
+  with_last (y ∷ xs) x ks = ap (λ (zs : List K). insert_key R zs y) (with_last xs x ks)
+
+  put_key : (k : K) (es : List (K × Unit {0})) → map key (put R k tt es) ≡ insert_key R (map key es) k
+  put_key k [] = refl
+  put_key k (e ∷ es) =
+      elim (R k e.0) as (λ o. map key (by_order o ((k, tt) ∷ e ∷ es) ((e.0, tt) ∷ es) (e ∷ put R k tt es)) ≡ match_ordering o (k ∷ e.0 ∷ map key es) (e.0 ∷ map key es) (e.0 ∷ insert_key R (map key es) k)) [
+        | Less ↦ refl
+        | Equal ↦ refl
+        | Greater ↦ ap (λ (zs : List K). e.0 ∷ zs) (put_key k es)
+      ]
+
+  pub sorted_none : sorted_by R [] ≡ []
+  unfolding sorted_by
+  sorted_none = none_at (entries (empty {R = R})) (sym (len-entries (empty {X = Unit {0}} {R = R})) ∙ len-empty R (Unit {0}))
+
+module _ {K : Type 0} {R : K → K → Ordering} (o : IsTotalOrder R) where
+  pub sorted_one_more : (x : K) (xs : List K) → sorted_by R (x ∷ xs) ≡ insert_key R (sorted_by R xs) x
+  unfolding sorted_by
+  sorted_one_more x xs =
+      let m = from_entries {R = R} (map with_nothing xs) in
+      ap (map key) (entries-insert o m x tt) ∙ put_key R x (entries m)
+
+  -- a set to which all items of a list are added has them in order
+  pub all_sorted : (xs : List K) → with_all R xs [] ≡ sorted_by R xs
+  all_sorted [] = sym (sorted_none R)
+  all_sorted (x ∷ xs) = ap (λ (ks : List K). insert_key R ks x) (all_sorted xs) ∙ sym (sorted_one_more x xs)
+
+-- the same of texts
+pub texts_sorted : (texts : List Text) → with_all (slice_cmp nat_cmp) texts [] ≡ sorted_once texts
+texts_sorted texts = all_sorted nat_list_cmp_total texts
+
+pub ruleset set_steps = (with_last, texts_sorted)

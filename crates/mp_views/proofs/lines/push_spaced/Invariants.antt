@@ -1,0 +1,6 @@
+use Rattle.std.proofs.Common.{◌≡◌, ◌++◌, take}
+use Rattle.mp_views.specs.Lines.{spaced}
+use Rattle.mp_views.proofs.lines.push_spaced.Given as goal
+
+abbrev pub invariant-loop-name : goal.invariant-loop-name
+invariant-loop-name l = l.text ≡ l.fn.text ++ (l.label ++ spaced (take l.name-index l.names))

@@ -1,0 +1,9 @@
+use Rattle.std.proofs.Common.{◌≡◌, ◌++◌, take, not}
+use Rattle.std.specs.Prelude.{filter}
+use Rattle.mp_joint.specs.Fact.{is_listed}
+use Rattle.mp_lifted.specs.Views.{predicates_of}
+use Rattle.mp_views.proofs.open.add_atoms.Given as goal
+
+abbrev pub invariant-loop-atom : goal.invariant-loop-atom
+invariant-loop-atom l =
+    l.out.items ≡ l.fn.out.items ++ filter (λ n. not (is_listed n l.privates)) (predicates_of (take l.atom-index l.atoms))

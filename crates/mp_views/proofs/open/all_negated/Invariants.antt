@@ -1,0 +1,7 @@
+use Rattle.std.proofs.Common.{◌≡◌, take}
+use Rattle.std.specs.List.{flat_map}
+use Rattle.mp_lifted.specs.declared.view.OpenView.{OpenView}
+use Rattle.mp_views.proofs.open.all_negated.Given as goal
+
+abbrev pub invariant-loop-view : goal.invariant-loop-view
+invariant-loop-view l = l.out.items ≡ flat_map (λ (v : OpenView). v.negated) (take l.view-index l.views)

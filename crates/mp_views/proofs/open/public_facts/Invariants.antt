@@ -1,0 +1,12 @@
+use Rattle.std.proofs.Common.{◌≡◌, [], map, take}
+use Rattle.std.specs.Prelude.{filter}
+use Rattle.std.specs.Option.{is_none}
+use Rattle.mp_joint.specs.declared.fact.NamedFact.{NamedFact}
+use Rattle.mp_joint.specs.Grounding.{fact_of}
+use Rattle.mp_lifted.specs.Texts.{fact_text}
+use Rattle.mp_views.proofs.open.public_facts.Given as goal
+
+abbrev pub invariant-loop-atom : goal.invariant-loop-atom
+invariant-loop-atom l =
+    l.out.items ≡ map fact_text (filter (λ (f : NamedFact). is_none f.owner)
+    (map (fact_of 1 (record { predicates = l.privates.predicates; objects = l.privates.objects }) [] []) (take l.atom-index l.atoms)))

@@ -1,0 +1,10 @@
+use Rattle.std.proofs.Common.{◌≡◌, [], drop}
+use Rattle.std.specs.List.{list_any}
+use Rattle.mp_joint.specs.Fact.{is_listed}
+use Rattle.mp_joint.specs.Grounding.{objects_of}
+use Rattle.mp_views.proofs.privates.is_one_among.Given as goal
+
+abbrev pub invariant-loop-term : goal.invariant-loop-term
+invariant-loop-term l =
+    list_any (λ o. is_listed o l.names) (objects_of [] [] (drop l.term-index l.terms))
+    ≡ list_any (λ o. is_listed o l.names) (objects_of [] [] l.terms)

@@ -1,0 +1,273 @@
+//! What an agent shows of its factor before grounding.
+
+ghost use Rattle.std.specs.Prelude.{◌≡◌, ◌++◌, ◌∷◌, [], not, map, filter, IfOk, OnOk};
+ghost use Rattle.std.specs.List.{flat_map};
+ghost use Rattle.std.specs.Option.{is_none};
+ghost use Rattle.mp_joint.specs.Fact.{is_listed};
+ghost use Rattle.mp_joint.specs.Grounding.{negated_atoms, fact_of};
+ghost use Rattle.mp_lifted.specs.Texts.{fact_text};
+ghost use Rattle.mp_lifted.specs.Views.{predicates_of, changed_predicates, negated_predicates};
+ghost use Rattle.mp_views.specs.Sorted.{sorted_once as once_sorted};
+ghost use Rattle.mp_views.specs.Opened.{open_view as view_of, joined};
+
+use crate::privates::{PrivateNames, is_public, private_names};
+use crate::sorted::sorted_once;
+use crate::spelling::atom_text;
+use mp_factor::{Atom, AtomList, Factor, LiteralList, Schema, SchemaList};
+use mp_lifted::{FactTexts, OpenView};
+use mp_list::{Copied, List, OutOfMemory};
+use mp_names::NameTable;
+use mp_sexp::{Name, NameList};
+use mp_typing::CheckedFactor;
+use std::alloc::Global;
+
+/// Adds a name, where it is not private.
+fn add_public(out: &mut Vec<Name>, privates: &NameTable<'_>, name: &Name) -> Result<(), OutOfMemory>
+    ensures { OnOk result (out.new.items
+        ≡ out.old.items ++ filter (λ n. not (is_listed n privates.now)) (name.now ∷ [])) }
+{
+    if !privates.contains(name) {
+        out.push(name.copy()?)?;
+    }
+    Ok(())
+}
+
+/// Adds the predicates of atoms, where they are not private.
+fn add_atoms(
+    out: &mut Vec<Name>,
+    privates: &NameTable<'_>,
+    atoms: &AtomList,
+) -> Result<(), OutOfMemory>
+    ensures { OnOk result (out.new.items
+        ≡ out.old.items ++ filter (λ n. not (is_listed n privates.now)) (predicates_of atoms.now)) }
+{
+    for atom in atoms.as_slice() {
+        add_public(out, privates, &atom.word.name)?;
+    }
+    Ok(())
+}
+
+/// Adds the predicates that stand under `not`, where they are not private.
+fn add_negated(
+    out: &mut Vec<Name>,
+    privates: &NameTable<'_>,
+    literals: &LiteralList,
+) -> Result<(), OutOfMemory>
+    ensures { OnOk result (out.new.items ≡ out.old.items
+        ++ filter (λ n. not (is_listed n privates.now)) (predicates_of (negated_atoms literals.now))) }
+{
+    for literal in literals.as_slice() {
+        if !literal.positive {
+            add_public(out, privates, &literal.atom.word.name)?;
+        }
+    }
+    Ok(())
+}
+
+/// Adds the predicates that an action changes, where they are not private.
+fn add_changed(
+    out: &mut Vec<Name>,
+    privates: &NameTable<'_>,
+    schema: &Schema,
+) -> Result<(), OutOfMemory>
+    ensures { OnOk result (out.new.items ≡ out.old.items ++ filter (λ n. not (is_listed n privates.now))
+        (predicates_of schema.now.add ++ predicates_of schema.now.del)) }
+{
+    add_atoms(out, privates, &schema.add)?;
+    add_atoms(out, privates, &schema.del)
+}
+
+/// The predicates that actions change, where they are not private.
+fn public_changed(
+    alloc: Global,
+    privates: &NameTable<'_>,
+    schemas: &SchemaList,
+) -> Result<Vec<Name>, OutOfMemory>
+    ensures { IfOk result (λ out. out.items ≡ filter (λ n. not (is_listed n privates.now))
+        (flat_map (λ s. predicates_of s.add ++ predicates_of s.del) schemas.now)) }
+{
+    let mut out = Vec::new(alloc);
+    for schema in schemas.as_slice() {
+        add_changed(&mut out, privates, schema)?;
+    }
+    Ok(out)
+}
+
+/// The predicates that stand under `not` in preconditions, where they are not private.
+fn public_avoided(
+    alloc: Global,
+    privates: &NameTable<'_>,
+    schemas: &SchemaList,
+) -> Result<Vec<Name>, OutOfMemory>
+    ensures { IfOk result (λ out. out.items ≡ filter (λ n. not (is_listed n privates.now))
+        (flat_map (λ s. predicates_of (negated_atoms s.pre)) schemas.now)) }
+{
+    let mut out = Vec::new(alloc);
+    for schema in schemas.as_slice() {
+        add_negated(&mut out, privates, &schema.pre)?;
+    }
+    Ok(out)
+}
+
+/// The predicates that stand under `not` in preconditions and goals, where they are not private.
+fn public_negated(
+    alloc: Global,
+    privates: &NameTable<'_>,
+    schemas: &SchemaList,
+    goals: &LiteralList,
+) -> Result<Vec<Name>, OutOfMemory>
+    ensures { IfOk result (λ out. out.items ≡ filter (λ n. not (is_listed n privates.now))
+        (flat_map (λ s. predicates_of (negated_atoms s.pre)) schemas.now ++ predicates_of (negated_atoms goals.now))) }
+{
+    let mut out = public_avoided(alloc, privates, schemas)?;
+    add_negated(&mut out, privates, goals)?;
+    Ok(out)
+}
+
+/// Adds the text of a fact, where it is public.
+fn add_fact(
+    alloc: Global,
+    out: &mut Vec<Name>,
+    scratch: &mut Vec<u8>,
+    privates: &PrivateNames<'_>,
+    atom: &Atom,
+) -> Result<(), OutOfMemory>
+    ensures { OnOk result (out.new.items ≡ out.old.items ++ map fact_text (filter (λ f. is_none f.owner)
+        (fact_of 1 (record { predicates = privates.now.predicates; objects = privates.now.objects })
+        [] [] atom.now ∷ []))) }
+{
+    if is_public(atom, &privates.predicates, &privates.objects) {
+        out.push(atom_text(alloc, scratch, atom)?)?;
+    }
+    Ok(())
+}
+
+/// The texts of those initial facts that are public.
+fn public_facts(
+    alloc: Global,
+    privates: &PrivateNames<'_>,
+    atoms: &AtomList,
+) -> Result<Vec<Name>, OutOfMemory>
+    ensures { IfOk result (λ out. out.items ≡ map fact_text (filter (λ f. is_none f.owner)
+        (map (fact_of 1 (record { predicates = privates.now.predicates; objects = privates.now.objects })
+        [] []) atoms.now))) }
+{
+    let mut out = Vec::new(alloc);
+    let mut scratch = Vec::new(alloc);
+    for atom in atoms.as_slice() {
+        add_fact(alloc, &mut out, &mut scratch, privates, atom)?;
+    }
+    Ok(out)
+}
+
+/// What an agent shows as changed, where these names are private.
+fn changed_names(
+    alloc: Global,
+    privates: &PrivateNames<'_>,
+    factor: &Factor,
+) -> Result<NameList, OutOfMemory>
+    ensures { IfOk result (λ names. names ≡ once_sorted
+        (filter (λ n. not (is_listed n privates.now.predicates)) (changed_predicates factor.now))) }
+{
+    let names = public_changed(alloc, &privates.predicates, &factor.domain.schemas)?;
+    sorted_once(alloc, names)
+}
+
+/// What an agent shows as standing under `not`, where these names are private.
+fn negated_names(
+    alloc: Global,
+    privates: &PrivateNames<'_>,
+    factor: &Factor,
+) -> Result<NameList, OutOfMemory>
+    ensures { IfOk result (λ names. names ≡ once_sorted
+        (filter (λ n. not (is_listed n privates.now.predicates)) (negated_predicates factor.now))) }
+{
+    let schemas = &factor.domain.schemas;
+    let names = public_negated(alloc, &privates.predicates, schemas, &factor.problem.goals)?;
+    sorted_once(alloc, names)
+}
+
+/// What an agent shows as true at the start, where these names are private.
+fn initial_facts(
+    alloc: Global,
+    privates: &PrivateNames<'_>,
+    factor: &Factor,
+) -> Result<FactTexts, OutOfMemory>
+    ensures { IfOk result (λ facts. facts ≡ once_sorted (map fact_text (filter (λ f. is_none f.owner)
+        (map (fact_of 1 (record { predicates = privates.now.predicates; objects = privates.now.objects })
+        [] []) factor.now.problem.init)))) }
+{
+    let facts = public_facts(alloc, privates, &factor.problem.init)?;
+    sorted_once(alloc, facts)
+}
+
+/// What an agent shows of its factor before grounding: the public predicates that its actions change, those that stand
+/// under `not`, and its public initial facts. Refuses only for want of memory.
+pub fn open_view(alloc: Global, factor: &CheckedFactor) -> Result<OpenView, OutOfMemory>
+    ensures { IfOk result (λ view. view ≡ view_of factor.now) }
+{
+    let whole = factor.factor();
+    let privates = private_names(alloc, whole)?;
+    let changed = changed_names(alloc, &privates, whole)?;
+    let negated = negated_names(alloc, &privates, whole)?;
+    let init = initial_facts(alloc, &privates, whole)?;
+    Ok(OpenView {
+        changed,
+        negated,
+        init,
+    })
+}
+
+/// Adds copies of names.
+fn add_copies(out: &mut Vec<Name>, names: &List<Name>) -> Result<(), OutOfMemory>
+    ensures { OnOk result (out.new.items ≡ out.old.items ++ names.now) }
+{
+    for name in names.as_slice() {
+        out.push(name.copy()?)?;
+    }
+    Ok(())
+}
+
+/// The predicates that some agent shows as changed.
+fn all_changed(alloc: Global, views: &[OpenView]) -> Result<Vec<Name>, OutOfMemory>
+    ensures { IfOk result (λ out. out.items ≡ flat_map (λ v. v.changed) views.now) }
+{
+    let mut out = Vec::new(alloc);
+    for view in views {
+        add_copies(&mut out, &view.changed)?;
+    }
+    Ok(out)
+}
+
+/// The predicates that some agent shows as standing under `not`.
+fn all_negated(alloc: Global, views: &[OpenView]) -> Result<Vec<Name>, OutOfMemory>
+    ensures { IfOk result (λ out. out.items ≡ flat_map (λ v. v.negated) views.now) }
+{
+    let mut out = Vec::new(alloc);
+    for view in views {
+        add_copies(&mut out, &view.negated)?;
+    }
+    Ok(out)
+}
+
+/// The facts that some agent shows as true at the start.
+fn all_initial(alloc: Global, views: &[OpenView]) -> Result<Vec<Name>, OutOfMemory>
+    ensures { IfOk result (λ out. out.items ≡ flat_map (λ v. v.init) views.now) }
+{
+    let mut out = Vec::new(alloc);
+    for view in views {
+        add_copies(&mut out, &view.init)?;
+    }
+    Ok(out)
+}
+
+/// What several agents show together before grounding. Refuses only for want of memory.
+pub fn join(alloc: Global, views: &[OpenView]) -> Result<OpenView, OutOfMemory>
+    ensures { IfOk result (λ view. view ≡ joined views.now) }
+{
+    Ok(OpenView {
+        changed: sorted_once(alloc, all_changed(alloc, views)?)?,
+        negated: sorted_once(alloc, all_negated(alloc, views)?)?,
+        init: sorted_once(alloc, all_initial(alloc, views)?)?,
+    })
+}

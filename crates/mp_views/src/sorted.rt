@@ -1,0 +1,41 @@
+//! Texts in the order of their bytes, each once.
+
+ghost use Rattle.std.specs.Prelude.{◌≡◌, IfOk};
+ghost use Rattle.mp_views.specs.Sorted.{sorted_once as once_sorted};
+
+use mp_list::{List, OutOfMemory};
+use mp_sexp::{Name, NameList};
+use std::alloc::Global;
+use std::collections::BTreeSet;
+
+/// The set of some texts.
+#[tactic(auto, using(crate::proofs::SortedLemmas::set_steps))]
+pub(crate) fn set_of(alloc: Global, texts: Vec<Name>) -> Result<BTreeSet<Name>, OutOfMemory>
+    ensures { IfOk result (λ set. set.keys ≡ once_sorted texts.items) }
+{
+    let mut set = BTreeSet::new(alloc);
+    let mut left = texts;
+    while let Some(text) = left.pop() {
+        set.insert(text)?;
+    }
+    Ok(set)
+}
+
+/// The texts of a set.
+fn list_of(alloc: Global, set: BTreeSet<Name>) -> Result<NameList, OutOfMemory>
+    ensures { IfOk result (λ list. list ≡ set.keys) }
+{
+    let mut list = List::with_capacity(alloc, set.len())?;
+    for text in set {
+        list.push(text)?;
+    }
+    Ok(list)
+}
+
+/// Texts in the order of their bytes, each once. Refuses only for want of memory.
+pub fn sorted_once(alloc: Global, texts: Vec<Name>) -> Result<NameList, OutOfMemory>
+    ensures { IfOk result (λ sorted. sorted ≡ once_sorted texts.items) }
+{
+    let set = set_of(alloc, texts)?;
+    list_of(alloc, set)
+}
