@@ -1,0 +1,15 @@
+use Rattle.std.proofs.Common.{◌≡◌, ◌≤◌, ◌+◌, ◌*◌, ◌^◌, length, drop}
+use Rattle.mp_messages.specs.History.{schedule}
+use Rattle.mp_text.specs.Outcome.{messages, message_bytes}
+use Rattle.mp_text.proofs.counts.count.Given as goal
+
+-- what was counted so far, and the counts of the entries that are left, make the whole
+abbrev pub invariant-loop-entry : goal.invariant-loop-entry
+invariant-loop-entry l = record {
+  events : l.events + length (schedule (drop l.entry-index l.log)) ≡ length (schedule l.log);
+  messages : l.messages + length (messages (drop l.entry-index l.log)) ≡ length (messages l.log);
+  bytes : l.total + message_bytes (drop l.entry-index l.log) ≡ message_bytes l.log;
+  few_events : l.events ≤ l.entry-index;
+  few_messages : l.messages ≤ l.entry-index;
+  few_bytes : l.total ≤ l.entry-index * 2 ^ 64;
+}

@@ -1,0 +1,18 @@
+//! Texts of runs and of outcomes, and schedules that are read back from them.
+#![tactic(auto)]
+
+mod counts;
+mod laws;
+mod line;
+mod outcome;
+mod schedule;
+mod trace;
+mod write;
+
+pub use laws::traces_are_read_again;
+pub use outcome::{Outcome, ShareList, outcome_text};
+pub use schedule::{EventLine, EventLines, LineRefusal, read_schedule};
+pub use trace::trace_text;
+
+#[cfg(test)]
+mod tests;
