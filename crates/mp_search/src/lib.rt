@@ -13,6 +13,3 @@ mod states;
 
 pub use answer::{AgentList, ExpandRefusal, ReceiveRefusal, Received, Sending, SendingList};
 pub use search::Search;
-
-#[cfg(test)]
-mod tests;

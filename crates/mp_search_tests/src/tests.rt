@@ -10,11 +10,11 @@ mod sending;
 mod teams;
 mod two_ways;
 
-use crate::{AgentList, ExpandRefusal, ReceiveRefusal, Received, Search, Sending, SendingList};
 use alone::ALONE;
 use mp_hmax::Hmax;
 use mp_list::OutOfMemory;
 use mp_messages::{Message, State, decode};
+use mp_search::{AgentList, ExpandRefusal, ReceiveRefusal, Received, Search, Sending, SendingList};
 use mp_sets::{Agent, Tag};
 use mp_store::{EntryView, Origin, Store};
 use mp_task::{Blind, Heuristic, Task};

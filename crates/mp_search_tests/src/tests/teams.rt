@@ -1,16 +1,14 @@
 //! Tasks of agents of small teams, with four public and four own private facts each.
 
 ghost use Rattle.std.specs.Prelude.{◌≡◌, ◌≤◌, ◌+◌, All, IfOk, OnOk, length};
-ghost use Rattle.mp_task.specs.Limits.{ActFits, AllLess, FarFits};
+ghost use Rattle.mp_task.specs.Limits.{ActFits, FarFits};
 
 use super::{Known, Step};
+use crate::numbers::{FACTS, facts_in};
 use mp_list::OutOfMemory;
-use mp_sets::{Agent, Bits, FactList};
+use mp_sets::{Agent, FactList};
 use mp_task::{Act, ActList, Far, FarList, Flags, Task};
 use std::alloc::Global;
-
-/// How many public facts the tasks have; they have as many private ones.
-const FACTS: u32 = 4;
 
 /// An own action. A number below four is that of a public fact, and each higher one is four above the number of a
 /// private fact.
@@ -43,29 +41,16 @@ pub(super) struct Case {
     pub(super) steps: &'static [Step],
 }
 
-/// The numbers from `from` on, and below four more than that.
-fn facts(alloc: Global, numbers: &[u32], from: u32) -> Result<FactList, OutOfMemory>
-    ensures { IfOk result (AllLess 4) }
-{
-    let mut set = Bits::new(alloc, FACTS)?;
-    for number in numbers {
-        if *number >= from && *number - from < FACTS {
-            set.insert(*number - from);
-        }
-    }
-    set.list()
-}
-
 fn act(alloc: Global, row: &Row) -> Result<Act, OutOfMemory>
     ensures { IfOk result (ActFits 4 4) }
 {
     Ok(Act {
-        pre_pub: facts(alloc, row.pre, 0)?,
-        pre_priv: facts(alloc, row.pre, FACTS)?,
-        add_pub: facts(alloc, row.add, 0)?,
-        add_priv: facts(alloc, row.add, FACTS)?,
-        del_pub: facts(alloc, row.del, 0)?,
-        del_priv: facts(alloc, row.del, FACTS)?,
+        pre_pub: facts_in(alloc, row.pre, 0)?,
+        pre_priv: facts_in(alloc, row.pre, FACTS)?,
+        add_pub: facts_in(alloc, row.add, 0)?,
+        add_priv: facts_in(alloc, row.add, FACTS)?,
+        del_pub: facts_in(alloc, row.del, 0)?,
+        del_priv: facts_in(alloc, row.del, FACTS)?,
         cost: row.cost.min(16_000_000),
     })
 }
@@ -106,8 +91,8 @@ fn push_far(alloc: Global, far: &mut FarList, agents: u16, row: &Part) -> Result
     }
     far.push(Far {
         by,
-        pre: facts(alloc, row.pre, 0)?,
-        add: facts(alloc, row.add, 0)?,
+        pre: facts_in(alloc, row.pre, 0)?,
+        add: facts_in(alloc, row.add, 0)?,
         del: FactList::new(alloc),
         cost: row.cost.min(16_000_000),
     })
@@ -149,10 +134,10 @@ pub(super) fn task(alloc: Global, case: &Case, me: Agent) -> Result<Task, OutOfM
         agents,
         publics: FACTS,
         privates: FACTS,
-        start_pub: facts(alloc, case.start, 0)?,
-        start_priv: facts(alloc, case.start, FACTS)?,
-        goal_pub: facts(alloc, case.goals, 0)?,
-        goal_priv: facts(alloc, case.goals, FACTS)?,
+        start_pub: facts_in(alloc, case.start, 0)?,
+        start_priv: facts_in(alloc, case.start, FACTS)?,
+        goal_pub: facts_in(alloc, case.goals, 0)?,
+        goal_priv: facts_in(alloc, case.goals, FACTS)?,
         acts: acts(alloc, case.acts)?,
         far: far(alloc, agents, case.far)?,
         met: met(alloc, case.met)?,

@@ -2,7 +2,7 @@
 
 use super::teams::{Case, Part, Row};
 use super::{Came, Kept, Known, NONE, START, Sent, Step, Told};
-use crate::Received;
+use mp_search::Received;
 use mp_sets::Tag;
 
 pub(super) static TWO_WAYS: [Case; 2] = [

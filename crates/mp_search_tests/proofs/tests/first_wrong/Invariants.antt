@@ -1,5 +1,5 @@
 use Rattle.std.proofs.Common.{◌≡◌}
-use Rattle.mp_search.proofs.tests.first_wrong.Given as goal
+use Rattle.mp_search_tests.proofs.tests.first_wrong.Given as goal
 
 abbrev pub invariant-loop-i : goal.invariant-loop-i
 invariant-loop-i g l = record {

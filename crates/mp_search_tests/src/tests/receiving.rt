@@ -2,7 +2,7 @@
 
 use super::teams::{Case, Row};
 use super::{Came, Kept, Known, NONE, START, Sent, Step, Told};
-use crate::{ExpandRefusal, ReceiveRefusal, Received};
+use mp_search::{ExpandRefusal, ReceiveRefusal, Received};
 use mp_sets::Tag;
 
 pub(super) static RECEIVING: [Case; 1] = [

@@ -2,7 +2,7 @@
 
 use super::teams::{Case, Part, Row};
 use super::{Came, Kept, Known, NONE, START, Sent, Step, Told};
-use crate::{ReceiveRefusal, Received};
+use mp_search::{ReceiveRefusal, Received};
 use mp_sets::Tag;
 
 pub(super) static SENDING: [Case; 2] = [

@@ -2,7 +2,7 @@
 
 use super::teams::{Case, Row};
 use super::{Came, Kept, Known, NONE, Step};
-use crate::ExpandRefusal;
+use mp_search::ExpandRefusal;
 
 pub(super) static ALONE: [Case; 4] = [
     // a cheaper way to an open entry, and nothing left that is worth it
