@@ -1,0 +1,132 @@
+-- An entry is marked as a goal exactly where its state is one.
+use Rattle.std.proofs.Common.{◌≡◌, ℕ, ◌≤◌, ◌⊎◌, List, [], Option, Some, All, sym, ap, subst, ◌∙◌, inl, inr}
+use Rattle.std.specs.Prelude.{Ok, slice_get}
+use Rattle.std.proofs.lemmas.Bool.{cases_eq}
+use Rattle.std.proofs.lemmas.Option.{none-some, same_Some}
+use Rattle.mp_sets.specs.Numbers.{Numbers}
+use Rattle.mp_task.specs.Agree.{Agree}
+use Rattle.mp_task.specs.AgentTask.{AgentTask}
+use Rattle.mp_task.specs.Limits.{IsWithinLimits}
+use Rattle.mp_messages.specs.declared.history.Event.{Event}
+use Rattle.mp_messages.specs.declared.message.Message.{Message}
+use Rattle.mp_messages.specs.declared.message.Message.TheVariants as kinds
+use Rattle.mp_messages.specs.declared.message.State.{State}
+use Rattle.mp_store.specs.declared.entry.Entry.{Entry}
+use Rattle.mp_store.specs.declared.entry.Origin.{Origin}
+use Rattle.mp_store.specs.Record.{Record, empty}
+use Rattle.mp_search.specs.AgentState.{AgentState, is_goal_state}
+use Rattle.mp_search.specs.Expansion.{expanded}
+use Rattle.mp_search.specs.Offering.{start_record}
+use Rattle.mp_search.specs.Receipt.{received}
+use Rattle.mp_search.specs.Search.{SearchRecord}
+use Rattle.mp_machine.specs.declared.event.Local.{Local}
+use Rattle.mp_machine.specs.declared.event.Local.TheVariants as locals
+use Rattle.mp_machine.specs.AgentRecord.{AgentRecord}
+use Rattle.mp_machine.specs.LocalStep.{local, with_search}
+use Rattle.mp_machine.specs.Outgoing.{Step}
+use Rattle.mp_machine.specs.Snapshots.{started}
+use Rattle.mp_machine.specs.Taking.{took_message, took_state, with_state}
+use Rattle.mp_world.specs.Events.{agent_of, local_of, run, taken}
+use Rattle.mp_world.specs.Steps.{IsStepOf}
+use Rattle.mp_world.specs.World.{World, agent_at, start_world}
+use Rattle.mp_world.proofs.Runs.{run_has}
+use Rattle.mp_team_states.specs.Growing.{IsAlike}
+use Rattle.mp_team_states.proofs.Entries.{IsNew, IsOld, changes_entry}
+use Rattle.mp_team_states.proofs.Expanding.{IsEntryOf, IsFirst, IsReceived, Led, expanded_changes, received_changes, start_changes}
+use Rattle.mp_team_states.proofs.Quiet.{IsOther, IsQuiet, quiet_message, quiet_started}
+use Rattle.mp_team_states.proofs.StartReached.{task_is}
+use Rattle.mp_team_states.proofs.WorldsGrow.{state_or_other, state_taken, taking}
+
+-- the mark of an entry says whether its state is a goal
+abbrev pub IsFlagged : AgentTask → Entry AgentState → Type 0
+IsFlagged t e = e.goal ≡ is_goal_state t e.key
+
+abbrev pub AreFlagged : AgentTask → Record AgentState → Type 0
+AreFlagged t r = (n : ℕ) (e : Entry AgentState) → slice_get r.entries n ≡ Some e → IsFlagged t e
+
+alike_flagged : (t : AgentTask) (e later : Entry AgentState) → IsAlike e later → IsFlagged t e → IsFlagged t later
+alike_flagged t e later alike flagged = alike.goal ∙ flagged ∙ ap (is_goal_state t) (sym alike.key)
+
+new_flagged : (t : AgentTask) (s : AgentState) (cost : ℕ) (value : Option ℕ) (from : Origin) (new : Entry AgentState) → IsEntryOf t s cost value from new → IsFlagged t new
+new_flagged t s cost value from new is = is.goal ∙ ap (is_goal_state t) (sym is.key)
+
+module _ (t : AgentTask) (value : Numbers → Numbers → Option ℕ) where
+  expanded_flagged : (r : SearchRecord) → AreFlagged t r.kept → AreFlagged t (expanded t value r).1.kept
+  expanded_flagged r old n e at =
+      by (changes_entry (Led t value r.kept) t r.kept (expanded t value r).1.kept (expanded t value r).0 (expanded_changes t value r) n e at)
+    where
+      by : IsOld r.kept n e ⊎ IsNew (Led t value r.kept) t (expanded t value r).1.kept n e → IsFlagged t e
+      by (inl is) = alike_flagged t is.old e is.alike (old n is.old is.there)
+      by (inr is) = alike_flagged t is.new e is.alike (new_flagged t _ _ _ _ is.new is.comes.is)
+
+  received_flagged : (from : ℕ) (m : State) (r : Record AgentState) → AreFlagged t r → AreFlagged t (received t value from m r).1
+  received_flagged from m r old n e at =
+      by (changes_entry (IsReceived t value from m r) t r (received t value from m r).1 [] (received_changes t value from m r) n e at)
+    where
+      by : IsOld r n e ⊎ IsNew (IsReceived t value from m r) t (received t value from m r).1 n e → IsFlagged t e
+      by (inl is) = alike_flagged t is.old e is.alike (old n is.old is.there)
+      by (inr is) = alike_flagged t is.new e is.alike (new_flagged t _ _ _ _ is.new is.comes)
+
+  start_flagged : AreFlagged t (start_record t value).kept
+  start_flagged n e at = by (changes_entry (IsFirst t value) t empty (start_record t value).kept [] (start_changes t value) n e at)
+    where
+      by : IsOld empty n e ⊎ IsNew (IsFirst t value) t (start_record t value).kept n e → IsFlagged t e
+      by (inl is) = absurd (none-some is.old is.there)
+      by (inr is) = alike_flagged t is.new e is.alike (new_flagged t _ _ _ _ is.new is.comes)
+
+-- ---- a step of an agent
+
+abbrev pub HasFlags : AgentRecord → Type 0
+HasFlags r = AreFlagged r.task r.search.kept
+
+module _ (value : Numbers → Numbers → Option ℕ) (r : AgentRecord) (s : Step) (old : HasFlags r) where
+  quiet_flags : IsQuiet r.task r.limit r.search s → HasFlags s.after
+  quiet_flags quiet =
+      subst (λ (t : AgentTask). AreFlagged t s.after.search.kept) (sym quiet.task) (subst (λ (x : SearchRecord). AreFlagged r.task x.kept) (sym quiet.search_is) old)
+
+  take_flags : (from : ℕ) (m : Message) → took_message value r from m ≡ Ok s → HasFlags s.after
+  unfolding with_state
+  take_flags from m is = by (state_or_other m)
+    where
+      by : ((x : State) × (m ≡ kinds.State x)) ⊎ IsOther m → HasFlags s.after
+      by (inl state) =
+          let x = state.0 in
+          let took : took_state value r from x ≡ Ok s = subst (λ (m : Message). took_message value r from m ≡ Ok s) state.1 is in
+          subst (λ (s : Step). HasFlags s.after) (state_taken value r from x s took) (received_flagged r.task value from x r.search.kept old)
+      by (inr other) = quiet_flags (quiet_message r s value from m other is)
+
+  local_flags : (event : Local) (bytes : List ℕ) → local value r event bytes ≡ Ok s → HasFlags s.after
+  local_flags locals.Expand bytes is =
+      let d = expanded r.task value r.search in
+      let same : with_search r d ≡ s = cc in
+      subst (λ (s : Step). HasFlags s.after) same (expanded_flagged r.task value r.search old)
+  local_flags (locals.Take from) bytes is =
+      let t = taking value r from bytes s is in
+      take_flags from t.message t.took
+  local_flags locals.Start bytes is =
+      let same : started r ≡ s = cc in
+      quiet_flags (subst (IsQuiet r.task r.limit r.search) same (quiet_started r))
+
+-- ---- in all runs
+
+abbrev pub HaveFlags : World → Type 0
+HaveFlags w = (i : ℕ) (r : AgentRecord) → agent_at w i ≡ Some r → HasFlags r
+
+module _ (value : AgentTask → Numbers → Numbers → Option ℕ) (limit : ℕ) (tasks : List AgentTask) (agree : Agree tasks) (limits : All IsWithinLimits tasks)
+    (most : limit ≤ 10000000) where
+  start_flags : HaveFlags (start_world value limit tasks)
+  start_flags i r there =
+      let of = task_is value limit tasks agree limits most i r there in
+      subst HasFlags (sym of.2) (start_flagged of.0 (value of.0))
+
+  event_flags : (w : World) (event : Event) (next : World) → HaveFlags w → IsStepOf value w event next → HaveFlags next
+  event_flags w event next old is i r there = by (cases_eq i (agent_of event))
+    where
+      by : (i ≡ agent_of event) ⊎ (i ≡ agent_of event → ⊥) → HasFlags r
+      by (inl same) =
+          let one : is.step.after ≡ r = same_Some is.step.after r (sym is.after ∙ sym (ap (agent_at next) same) ∙ there) in
+          subst HasFlags one (local_flags (value is.agent.task) is.agent is.step (old (agent_of event) is.agent is.there) (local_of event) (taken w event) is.local)
+      by (inr other) = old i r (sym (is.others i other) ∙ there)
+
+  pub flags_in_runs : (schedule : List Event) (w : World) → run value limit tasks schedule ≡ Some w → HaveFlags w
+  flags_in_runs = run_has value limit tasks HaveFlags start_flags (λ w event next team old is. event_flags w event next old is)
