@@ -1,0 +1,11 @@
+-- in reading order: one machine of many changes; what an event makes of a world, and of the parts of a
+-- team; the run goes on; a team at the start; answers; messages that are
+-- taken get fewer; parts of a schedule
+pub mod Places
+pub mod Events
+pub mod Happens
+pub mod Goes
+pub mod Starts
+pub mod Answering
+pub mod Fewer
+pub mod Onward

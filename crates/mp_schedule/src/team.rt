@@ -1,0 +1,170 @@
+//! A team that runs on one thread.
+
+ghost use Rattle.std.specs.Prelude.{◌≡◌, ◌≤◌, length, map, true, false, All, Err, IfOk, OnOk};
+ghost use Rattle.mp_machine.specs.AgentRecord.{is_going};
+ghost use Rattle.mp_schedule.specs.Happening.{IsAnswer, IsOfTeam};
+ghost use Rattle.mp_schedule.specs.Machines.{AreNew, IsFree, limit_of, tasks_of};
+ghost use Rattle.mp_schedule.specs.TeamRun.{IsRun, IsSameTeam, IsTeam, start_run};
+ghost use Rattle.mp_world.specs.RoundRobin.{is_over};
+
+use crate::mail::Mail;
+use crate::refusal::EventRefusal;
+use crate::steps::{happen, refusal_of};
+use mp_list::OutOfMemory;
+use mp_machine::{Ending, Machine, StepRefusal};
+use mp_messages::{Event, Log};
+use mp_task::Heuristic;
+use mp_team_walks::no_message_is_bad;
+use std::alloc::Global;
+use std::marker::Model;
+
+/// The agents of a team, the messages under way between them, and the log of what has happened. Contracts see it as the
+/// run that its log tells.
+#[derive(Drop)]
+pub struct World<H: Heuristic> {
+    alloc: Global,
+    machines: Vec<Machine<H>>,
+    mail: Mail,
+    log: Log,
+    /// Memory ran out before, and it refuses each event.
+    failed: bool,
+}
+
+impl<H: Heuristic> Model for World<H> {
+    ghost use Rattle.mp_schedule.specs.TeamRun.{TeamRun};
+    ghost use Rattle.mp_schedule.specs.Machines.{team_run, AreOneRun};
+
+    ghost Value = { TeamRun };
+
+    ghost use Rattle.std.specs.Coded.{codes};
+    ghost use Rattle.mp_search.specs.StateKeys.{coded_numbers};
+
+    ghost coded = { Prim.hlevel (codes, coded_numbers) };
+
+    ghost view = { λ w. team_run w.machines.items w.mail w.log w.failed };
+
+    ghost invariant = { λ w. AreOneRun H.value w.machines.items w.mail w.log w.failed };
+}
+
+/// Whether an agent has not ended.
+fn is_going<H: Heuristic>(machine: &Machine<H>) -> bool
+    ensures { result ≡ is_going machine.now.done.ending }
+{
+    match machine.ending() {
+        Ending::Going => true,
+        _ => false,
+    }
+}
+
+impl<H: Heuristic> World<H> {
+    /// A team at the start. Its machines are new, 1 to 16 of them, their tasks agree and are within the limits, and
+    /// each may expand as many entries, at most 10,000,000. Refuses only for want of memory.
+    pub fn new(alloc: Global, machines: Vec<Machine<H>>) -> Result<World<H>, OutOfMemory>
+        requires { AreNew H.value machines.items }
+        ensures { IfOk result (λ made. made
+            ≡ start_run H.value (limit_of machines.items) (tasks_of machines.items)) }
+    {
+        let mail = Mail::new(alloc, machines.len())?;
+        Ok(World {
+            alloc,
+            machines,
+            mail,
+            log: Log::new(alloc),
+            failed: false,
+        })
+    }
+
+    /// An event happens.
+    ///
+    /// It refuses with `NotNow` exactly where its agent may not do it, and otherwise with `Empty` exactly where there
+    /// is no message that it could take; then nothing has changed. No agent finds its message to be a bad one. After
+    /// want of memory it refuses each event so.
+    pub fn event(&mut self, event: Event) -> Result<(), EventRefusal>
+        requires { IsOfTeam (length self.old.tasks) event }
+        ensures { IsAnswer H.value self.old event result self.new }
+    {
+        if self.failed {
+            return Err(EventRefusal::OutOfMemory);
+        }
+        if let Some(refusal) = refusal_of(&self.machines, &self.mail, &event) {
+            return Err(refusal);
+        }
+        match happen(
+            self.alloc,
+            &mut self.machines,
+            &mut self.mail,
+            &mut self.log,
+            &event,
+        ) {
+            Ok(()) => Ok(()),
+            Err(StepRefusal::Bad(_)) => {
+                no_message_is_bad();
+                unreachable!()
+            }
+            Err(_) => {
+                self.failed = true;
+                Err(EventRefusal::OutOfMemory)
+            }
+        }
+    }
+
+    /// Whether all agents have ended.
+    pub fn over(&self) -> bool
+        ensures { result ≡ is_over self.now.world }
+    {
+        for machine in &self.machines {
+            if is_going(machine) {
+                return false;
+            }
+        }
+        true
+    }
+
+    /// The machines of the agents, agent 1 first. None has been stopped, unless memory ran out.
+    pub fn machines(&self) -> &[Machine<H>]
+        ensures agents { map (λ m. m.done) result.now ≡ self.now.world.agents }
+        ensures free { self.now.failed ≡ false → All IsFree result.now }
+    {
+        self.machines.as_slice()
+    }
+
+    /// Each event, and behind it the messages that went out.
+    pub fn log(&self) -> &Log
+        ensures { result.now ≡ self.now.log }
+    {
+        &self.log
+    }
+
+    /// How many agents there are.
+    pub fn agents(&self) -> u16
+        ensures tasks { result ≡ length self.now.tasks }
+        ensures world { result ≡ length self.now.world.agents }
+        ensures at_most { result ≤ 16 }
+    {
+        self.machines.len() as u16
+    }
+
+    /// Whether memory ran out before.
+    pub fn has_failed(&self) -> bool
+        ensures { result ≡ self.now.failed }
+    {
+        self.failed
+    }
+
+    /// From now on it refuses each call for want of memory.
+    pub(crate) fn fail(&mut self)
+        ensures failed { self.new.failed ≡ true }
+        ensures same { IsSameTeam self.old self.new }
+    {
+        self.failed = true;
+    }
+
+    /// The tasks agree and are within the limits. Unless memory ran out, the world is the one that the schedule leads
+    /// to, and the log is that of its run.
+    pub fn comes_from_a_run(&self)
+        ensures team { IsTeam self.now }
+        ensures run { self.now.failed ≡ false → IsRun H.value self.now }
+    {
+        let _ = &self.log;
+    }
+}
