@@ -1,0 +1,59 @@
+-- Members of mapped and joined lists; items at places of parts of a list; functions that agree on members.
+use Rattle.std.proofs.Common.{arith, ◌≡◌, Bool, cond, ℕ, zero, suc, ◌+◌, ◌<◌, List, [], ◌∷◌, map, filter, get_or, All, take, drop, Option, Some, None, slice_get, refl, sym, ap, ◌∙◌, subst, inl, inr}
+use Rattle.std.proofs.lemmas.List.Elements.{Contains-append_left, Contains-append_right, Contains-get_or}
+use Rattle.std.specs.List.{flat_map}
+use Rattle.std.specs.Prelude.{Contains}
+use Rattle.mp_list.proofs.Members.{contains_head, contains_tail, contains_cases, no_member}
+
+pub contains_map : {X Y : Type 0} (f : X → Y) (xs : List X) (x : X) → Contains xs x → Contains (map f xs) (f x)
+contains_map f [] x found = absurd (no_member x found)
+contains_map f (y ∷ ys) x found =
+    elim (contains_cases y ys x found) [
+      | inl here ↦ subst (Contains (f y ∷ map f ys)) (ap f here) (contains_head (f y) (map f ys))
+      | inr there ↦ contains_tail (f y) (map f ys) (f x) (contains_map f ys x there)
+    ]
+
+pub from_map : {X Y : Type 0} (f : X → Y) (xs : List X) (y : Y) → Contains (map f xs) y → (x : X) × Contains xs x × (f x ≡ y)
+from_map f [] y found = absurd (no_member y found)
+from_map f (x ∷ xs) y found =
+    elim (contains_cases (f x) (map f xs) y found) [
+      | inl here ↦ (x, contains_head x xs, here)
+      | inr there ↦ let rest = from_map f xs y there in (rest.0, contains_tail x xs rest.0 rest.1, rest.2)
+    ]
+
+pub contains_flat_map : {X Y : Type 0} (f : X → List Y) (xs : List X) (x : X) (y : Y) → Contains xs x → Contains (f x) y → Contains (flat_map f xs) y
+contains_flat_map f [] x y found of_it = absurd (no_member x found)
+contains_flat_map f (z ∷ zs) x y found of_it =
+    elim (contains_cases z zs x found) [
+      | inl here ↦ Contains-append_left (f z) (flat_map f zs) y (subst (λ v. Contains (f v) y) (sym here) of_it)
+      | inr there ↦ Contains-append_right (f z) (flat_map f zs) y (contains_flat_map f zs x y there of_it)
+    ]
+
+-- the item at a place among the first ones
+pub get_taken : {X : Type 0} (m n : ℕ) (xs : List X) → n < m → slice_get (take m xs) n ≡ slice_get xs n
+get_taken zero n xs less = absurd (omega (arith, less))
+get_taken (suc m) n [] less = refl
+get_taken (suc m) zero (x ∷ xs) less = refl
+get_taken (suc m) (suc n) (x ∷ xs) less = get_taken m n xs (omega (arith, less))
+
+-- and among those behind them
+pub get_dropped : {X : Type 0} (m n : ℕ) (xs : List X) → slice_get (drop m xs) n ≡ slice_get xs (m + n)
+get_dropped zero n xs = ap (slice_get xs) (let e : n ≡ 0 + n = omega arith in e)
+get_dropped (suc m) n [] = refl
+get_dropped (suc m) n (x ∷ xs) = get_dropped m n xs ∙ ap (slice_get (x ∷ xs)) (let e : suc (m + n) ≡ suc m + n = omega arith in e)
+
+-- functions that agree on the members of a list map it alike
+pub map_on : {X Y : Type 0} (f g : X → Y) (xs : List X) → ((x : X) → Contains xs x → f x ≡ g x) → map f xs ≡ map g xs
+map_on f g [] h = refl
+map_on f g (x ∷ xs) h = λ i. h x (contains_head x xs) i ∷ map_on f g xs (λ y there. h y (contains_tail x xs y there)) i
+
+-- and tests that do take the same ones
+pub filter_on : {X : Type 0} (p q : X → Bool) (xs : List X) → ((x : X) → Contains xs x → p x ≡ q x) → filter p xs ≡ filter q xs
+filter_on p q [] h = refl
+filter_on p q (x ∷ xs) h =
+    ap (λ b. cond b (x ∷ filter p xs) (filter p xs)) (h x (contains_head x xs))
+    ∙ ap (λ ys. cond (q x) (x ∷ ys) ys) (filter_on p q xs (λ y there. h y (contains_tail x xs y there)))
+
+-- what holds of each member holds of all
+pub all_members : {X : Type 0} (P : X → Type 0) (xs : List X) → ((x : X) → Contains xs x → P x) → All P xs
+all_members P xs h k d less = h (get_or xs k d) (Contains-get_or xs k d less)

@@ -1,0 +1,347 @@
+-- What a factor that is grounded in numbers becomes is the grounded factor by names, and it keeps the limits.
+use Rattle.std.proofs.Common.{arith, ◌≡◌, ℕ, ◌+◌, ◌-◌, ◌≤◌, ◌<◌, Bool, true, false, not, nat_lt, List, [], ◌∷◌, ◌++◌, map, filter, length, take, drop, get_or, All, Option, Some, None, slice_get, refl, sym, ap, ◌∙◌, subst, Ordering, Less, Greater, if◌then◌else◌}
+use Rattle.std.specs.Prelude.{Contains, ◌↔◌}
+use Rattle.std.specs.List.{flat_map}
+use Rattle.std.specs.Option.{is_none, option_map_or}
+use Rattle.std.specs.Ordering.{ordering_then, bool_cmp, nat_cmp}
+use Rattle.std.specs.Cmp.Lexicographic.{slice_cmp}
+use Rattle.std.proofs.lemmas.List.{length-drop, length-map}
+use Rattle.std.proofs.lemmas.List.Elements.{All-contains, All-map, Contains-append_left, Contains-append_right}
+use Rattle.std.proofs.lemmas.List.Filters.{length-filter_both}
+use Rattle.std.proofs.lemmas.Option.{same_Some}
+use Rattle.std.proofs.lemmas.Simd.{map-map}
+use Rattle.mp_list.proofs.Members.{no_member}
+use Rattle.mp_factor.specs.declared.factor.Factor.{Factor}
+use Rattle.mp_typing.specs.Places.{numbers_where}
+use Rattle.mp_typing.proofs.Passing.{taken_passes, taken_from_passes}
+use Rattle.mp_joint.specs.declared.fact.SignedFact.{SignedFact}
+use Rattle.mp_joint.specs.Fact.{Text}
+use Rattle.mp_joint.specs.Grounded.{Setting}
+use Rattle.mp_joint.specs.Instance.{holds}
+use Rattle.mp_task.specs.declared.act.Act.{Act}
+use Rattle.mp_task.specs.Limits.{ActFits, AllLess}
+use Rattle.mp_lifted.specs.declared.lifted.LiftedAction.{LiftedAction}
+use Rattle.mp_lifted.specs.declared.lifted.LiftedFactor.{LiftedFactor}
+use Rattle.mp_lifted.specs.declared.view.OpenView.{OpenView}
+use Rattle.mp_lifted.specs.Factors.{lifted_factor}
+use Rattle.mp_lifted.specs.Texts.{signed_text}
+use Rattle.mp_lifted.specs.Views.{setting_of}
+use Rattle.mp_atoms.specs.declared.binding.ActionBinding.{ActionBinding}
+use Rattle.mp_instances.specs.Instances.{instances}
+use Rattle.mp_ground_facts.specs.declared.fact.GroundFact.{GroundFact}
+use Rattle.mp_ground_facts.specs.declared.grounded.GroundAction.{GroundAction}
+use Rattle.mp_ground_facts.specs.Facts.{atom_of, fact_cmp, is_initial}
+use Rattle.mp_ground_facts.specs.Ground.{facts_of, number_of, numbers_of, ground_action, ground_factor}
+use Rattle.mp_ground_facts.specs.Touched.{needed, added, deleted, touched, of_action, goal_facts, counted as counted_at}
+use Rattle.mp_ground_facts.proofs.FactsOf.{facts_are_counted, facts_rise, facts_stand, one_place}
+use Rattle.mp_views.specs.Public.{is_public, public_texts}
+use Rattle.mp_views.specs.Sorted.{sorted_once}
+use Rattle.mp_views.proofs.SortedLaws.{texts_rise, same_texts}
+use Rattle.mp_grounder.specs.Checked.{IsChecked}
+use Rattle.mp_grounder.specs.Counted.{counted_facts, named_goals, signed_cmp}
+use Rattle.mp_grounder.specs.Grounding.{GroundedInstance, named_instance}
+use Rattle.mp_grounder.specs.Listing.{AreNumbered, IsListing}
+use Rattle.mp_grounder.specs.Named.{signed_fact, step_of, IsOfFactor}
+use Rattle.mp_grounder.proofs.Counted.{all_counted}
+use Rattle.mp_grounder.proofs.Grounding.{instances_stand}
+use Rattle.mp_grounder.proofs.Listed.{listed}
+use Rattle.mp_grounder.proofs.Lists.{filter_of_map}
+use Rattle.mp_grounder.proofs.Needed.{goals_stand}
+use Rattle.mp_grounder.proofs.Ordered.{counted_stand, different_signed}
+use Rattle.mp_grounder.proofs.Parts.{parts_of}
+use Rattle.mp_grounder.proofs.SmallCosts.{small_costs}
+use Rattle.mp_grounder.proofs.Starts.{public_is, same_start}
+use Rattle.mp_ground.specs.declared.grounded.Ground.{Ground}
+use Rattle.mp_ground.specs.Grounded.{Known, IsGrounded, act_of, counted, instances_by_name}
+use Rattle.mp_ground.specs.Limits.{KeepsLimits}
+use Rattle.mp_ground.specs.Numbered.{fact_names, text_at, count_private, public_texts_at, places_of, rising, private_numbers, public_numbers, act_at, binding_at, ground_at}
+use Rattle.mp_ground.specs.Places.{same_signed, places_in, public_places_in, is_private}
+use Rattle.mp_ground.proofs.CheapActions.{CostsLittle, instances_cost_little}
+use Rattle.mp_ground.proofs.Members.{contains_map, from_map, contains_flat_map, map_on, filter_on, all_members}
+use Rattle.mp_ground.proofs.Parted.{failing_first, passing_behind, told_by_place}
+use Rattle.mp_ground.proofs.Placed.{HaveNumbers, AreTold, HaveTexts, first_places, first_passing, later_places}
+use Rattle.mp_ground.proofs.Rising.{places_below}
+use Rattle.mp_ground.proofs.SameFacts.{same_signed_is, signed_itself}
+use Rattle.mp_ground.proofs.Sorted.{same_in_order, count_in_order}
+
+-- ---- the order of facts in numbers
+
+abbrev is_public_fact : GroundFact → Bool
+is_public_fact f = f.is_public
+
+up : (f g : GroundFact) → fact_cmp f g ≡ Less → f.is_public ≡ true → g.is_public ≡ true
+up f g less h = by g.is_public refl
+  where
+    rest : Ordering
+    rest = ordering_then (bool_cmp f.is_complement g.is_complement) (ordering_then (nat_cmp f.predicate g.predicate) (slice_cmp nat_cmp f.objects g.objects))
+
+    by : (b : Bool) → g.is_public ≡ b → g.is_public ≡ true
+    by true e = e
+    by false e =
+        absurd (let no : Greater ≡ Less = sym (λ i. ordering_then (bool_cmp (h i) (e i)) rest) ∙ less in cc)
+
+-- ---- the facts of a factor
+
+module _ (me : ℕ) (factor : Factor) (view : OpenView) (checked : IsChecked factor) where
+  abbrev lifted : LiftedFactor
+  lifted = lifted_factor factor view
+
+  abbrev all : List ActionBinding
+  all = instances lifted
+
+  abbrev facts : List GroundFact
+  facts = facts_of lifted all
+
+  abbrev name : GroundFact → SignedFact
+  name f = signed_fact me factor f
+
+  abbrev number : GroundFact → ℕ
+  number f = number_of facts f
+
+  abbrev k : Known
+  k = record { me = me; factor = factor; view = view }
+
+  abbrev first : ℕ
+  first = count_private facts
+
+  abbrev privates : List SignedFact
+  privates = map name (take first facts)
+
+  abbrev texts : List Text
+  texts = public_texts_at (fact_names factor) facts
+
+  numbered : AreNumbered factor view facts
+  numbered = record { rising = facts_rise lifted all; exact = λ f. facts_are_counted lifted all f }
+
+  have : HaveNumbers facts number
+  have = record {
+    numbered = λ f found. facts_stand lifted all f ((facts_are_counted lifted all f).0 found);
+    once = λ f i j. one_place facts (facts_rise lifted all) i j f;
+  }
+
+  of_factor : (f : GroundFact) → Contains facts f → IsOfFactor factor view f
+  of_factor f found =
+      All-contains (IsOfFactor factor view) (counted_at lifted all) f (all_counted factor view checked) ((facts_are_counted lifted all f).0 found)
+
+  public_told : (f : GroundFact) → Contains facts f → is_public (name f) ≡ f.is_public
+  public_told f found =
+      let is = of_factor f found in
+      sym (is.public ∙ public_is me factor view (atom_of f) is.range)
+
+  told : AreTold facts number have first name same_signed
+  told = record {
+    apart = λ f g here there same.
+        different_signed me factor view f g (parts_of factor checked.no_fault) (of_factor f here) (of_factor g there) (same_signed_is (name f) (name g) same);
+    itself = λ f. signed_itself (name f);
+  }
+
+  tells_later : (f : GroundFact) → Contains facts f → is_public (name f) ≡ not (nat_lt (number f) first)
+  tells_later f found =
+      public_told f found ∙ told_by_place fact_cmp is_public_fact up facts (facts_rise lifted all) (number f) f (have.numbered f found)
+
+  have_texts : HaveTexts facts number have first name signed_text is_public (sorted_once texts)
+  have_texts = record { rise = texts_rise texts; same = same_texts texts }
+
+  -- ---- what it lists
+
+  lists_privates : IsListing (signed_cmp factor) is_private (counted k) privates
+  lists_privates =
+      let named : filter is_private (map name facts) ≡ privates =
+      filter_of_map name is_private facts
+      ∙ ap (map name) (filter_on (λ f. is_private (name f)) (λ f. not f.is_public) facts (λ f found. ap not (public_told f found))
+      ∙ failing_first fact_cmp is_public_fact up facts (facts_rise lifted all)) in
+      subst (IsListing (signed_cmp factor) is_private (counted k)) named (listed me factor view facts is_private checked numbered)
+
+  count_privates : first ≡ length privates
+  count_privates =
+      ap length (failing_first fact_cmp is_public_fact up facts (facts_rise lifted all)) ∙ sym (length-map (take first facts) name)
+
+  behind : filter is_public_fact facts ≡ drop first facts
+  behind = passing_behind fact_cmp is_public_fact up facts (facts_rise lifted all)
+
+  lists_publics : sorted_once texts ≡ public_texts (counted k)
+  lists_publics =
+      let named = map (λ (f : GroundFact). signed_text (name f)) (drop first facts) in
+      let public_ones = filter is_public (counted k) in
+      same_in_order texts (map signed_text public_ones)
+      (λ t found.
+      let from = from_map (λ (f : GroundFact). signed_text (name f)) (drop first facts) t found in
+      let f = from.0 in
+      let taken = taken_passes is_public_fact facts f (subst (λ fs. Contains fs f) (sym behind) from.1) in
+      let here : Contains (counted k) (name f) =
+      subst (λ xs. Contains xs (name f)) (counted_stand me factor view checked)
+      (contains_map name (counted_at lifted all) f ((facts_are_counted lifted all f).0 taken.0)) in
+      subst (Contains (map signed_text public_ones)) from.2
+      (contains_map signed_text public_ones (name f) (taken_from_passes is_public (counted k) (name f) here (public_told f taken.0 ∙ taken.1))))
+      (λ t found.
+      let from = from_map signed_text public_ones t found in
+      let taken = taken_passes is_public (counted k) from.0 from.1 in
+      let of = from_map name (counted_at lifted all) from.0 (subst (λ xs. Contains xs from.0) (sym (counted_stand me factor view checked)) taken.0) in
+      let f = of.0 in
+      let here = (facts_are_counted lifted all f).1 of.1 in
+      let passes : f.is_public ≡ true = sym (public_told f here) ∙ ap is_public of.2 ∙ taken.1 in
+      let there : Contains (drop first facts) f = subst (λ fs. Contains fs f) behind (taken_from_passes is_public_fact facts f here passes) in
+      subst (Contains named) (ap signed_text of.2 ∙ from.2) (contains_map (λ (g : GroundFact). signed_text (name g)) (drop first facts) f there))
+
+  -- ---- some of its facts
+
+  private_ones : (xs : List GroundFact) → ((x : GroundFact) → Contains xs x → Contains facts x)
+      → rising (private_numbers (places_of (fact_names factor) facts) (numbers_of facts xs)) ≡ places_in privates (map name xs)
+  private_ones xs each = first_places facts number have first name same_signed told xs each
+
+  public_ones : (xs : List GroundFact) → ((x : GroundFact) → Contains xs x → Contains facts x)
+      → rising (public_numbers (places_of (fact_names factor) facts) (numbers_of facts xs)) ≡ public_places_in (sorted_once texts) (map name xs)
+  public_ones xs each = later_places facts number have first name signed_text is_public (sorted_once texts) have_texts tells_later xs each
+
+  starts : rising (private_numbers (places_of (fact_names factor) facts) (numbers_where 0 (is_initial lifted) facts))
+      ≡ numbers_where 0 (holds (setting_of me factor view).start) privates
+  starts =
+      first_passing facts first name (is_initial lifted) (holds (setting_of me factor view).start)
+      (λ f found. by_sign f.is_complement _ _ (same_start me factor view (atom_of f) checked (parts_of factor checked.no_fault) (of_factor f found).range))
+    where
+      by_sign : (complement a b : Bool) → a ≡ b → (if complement then not a else a) ≡ (if not complement then b else not b)
+      by_sign true a b h = ap not h
+      by_sign false a b h = h
+
+  goals_counted : (x : GroundFact) → Contains (goal_facts lifted) x → Contains facts x
+  goals_counted x found =
+      (facts_are_counted lifted all x).1 (Contains-append_right (flat_map (of_action lifted touched) all) (goal_facts lifted) x found)
+
+  goals_named : map name (goal_facts lifted) ≡ named_goals me factor
+  goals_named = goals_stand me factor view (parts_of factor checked.no_fault)
+
+  -- ---- its actions
+
+  touched_counted : (b : ActionBinding) → Contains all b → (x : GroundFact) → Contains (of_action lifted touched b) x → Contains facts x
+  touched_counted b there x found =
+      (facts_are_counted lifted all x).1
+      (Contains-append_left (flat_map (of_action lifted touched) all) (goal_facts lifted) x (contains_flat_map (of_action lifted touched) all b x there found))
+
+  part_touched : (part : LiftedFactor → LiftedAction → List ℕ → List GroundFact)
+      → ((a : LiftedAction) (objects : List ℕ) (x : GroundFact) → Contains (part lifted a objects) x → Contains (touched lifted a objects) x)
+      → (b : ActionBinding) → Contains all b → (x : GroundFact) → Contains (of_action lifted part b) x → Contains facts x
+  part_touched part within b there x found = touched_counted b there x (by (slice_get lifted.actions b.action) found)
+    where
+      by : (o : Option LiftedAction) → Contains (option_map_or (λ (a : LiftedAction). part lifted a b.objects) o []) x
+          → Contains (option_map_or (λ (a : LiftedAction). touched lifted a b.objects) o []) x
+      by None h = absurd (no_member x h)
+      by (Some a) h = within a b.objects x h
+
+  needed_counted : (b : ActionBinding) → Contains all b → (x : GroundFact) → Contains (of_action lifted needed b) x → Contains facts x
+  needed_counted b there =
+      part_touched needed
+      (λ a objects x found. Contains-append_left (needed lifted a objects ++ added lifted a objects) (deleted lifted a objects) x
+      (Contains-append_left (needed lifted a objects) (added lifted a objects) x found)) b there
+
+  added_counted : (b : ActionBinding) → Contains all b → (x : GroundFact) → Contains (of_action lifted added b) x → Contains facts x
+  added_counted b there =
+      part_touched added
+      (λ a objects x found. Contains-append_left (needed lifted a objects ++ added lifted a objects) (deleted lifted a objects) x
+      (Contains-append_right (needed lifted a objects) (added lifted a objects) x found)) b there
+
+  deleted_counted : (b : ActionBinding) → Contains all b → (x : GroundFact) → Contains (of_action lifted deleted b) x → Contains facts x
+  deleted_counted b there =
+      part_touched deleted
+      (λ a objects x found. Contains-append_right (needed lifted a objects ++ added lifted a objects) (deleted lifted a objects) x found) b there
+
+  one_act : (b : ActionBinding) → Contains all b
+      → act_at (places_of (fact_names factor) facts) (ground_action lifted facts b) ≡ act_of privates (sorted_once texts) (named_instance me factor lifted b)
+  one_act b there =
+      let pre_pub = public_ones (of_action lifted needed b) (needed_counted b there) in
+      let pre_priv = private_ones (of_action lifted needed b) (needed_counted b there) in
+      let add_pub = public_ones (of_action lifted added b) (added_counted b there) in
+      let add_priv = private_ones (of_action lifted added b) (added_counted b there) in
+      let del_pub = public_ones (of_action lifted deleted b) (deleted_counted b there) in
+      let del_priv = private_ones (of_action lifted deleted b) (deleted_counted b there) in
+      λ i. record {
+        pre_pub = pre_pub i;
+        pre_priv = pre_priv i;
+        add_pub = add_pub i;
+        add_priv = add_priv i;
+        del_pub = del_pub i;
+        del_priv = del_priv i;
+        cost = b.cost;
+      }
+
+  abbrev by_name : List GroundedInstance
+  by_name = instances_by_name me factor (setting_of me factor view)
+
+  acts : map (act_at (places_of (fact_names factor) facts)) (map (ground_action lifted facts) all) ≡ map (act_of privates (sorted_once texts)) by_name
+  acts =
+      map-map (act_at (places_of (fact_names factor) facts)) (ground_action lifted facts) all
+      ∙ map_on (λ b. act_at (places_of (fact_names factor) facts) (ground_action lifted facts b))
+      (λ b. act_of privates (sorted_once texts) (named_instance me factor lifted b)) all one_act
+      ∙ sym (map-map (act_of privates (sorted_once texts)) (named_instance me factor lifted) all)
+      ∙ ap (map (act_of privates (sorted_once texts))) (instances_stand me factor view checked)
+
+  steps : map (step_of me factor) (map binding_at (map (ground_action lifted facts) all)) ≡ map (λ (i : GroundedInstance). i.step) by_name
+  steps =
+      ap (map (step_of me factor)) (map-map binding_at (ground_action lifted facts) all)
+      ∙ map-map (step_of me factor) (λ b. binding_at (ground_action lifted facts b)) all
+      ∙ sym (map-map (λ (i : GroundedInstance). i.step) (named_instance me factor lifted) all)
+      ∙ ap (map (λ (i : GroundedInstance). i.step)) (instances_stand me factor view checked)
+
+  goal_pub_is : rising (public_numbers (places_of (fact_names factor) facts) (numbers_of facts (goal_facts lifted)))
+      ≡ public_places_in (sorted_once texts) (named_goals me factor)
+  goal_pub_is = public_ones (goal_facts lifted) goals_counted ∙ ap (public_places_in (sorted_once texts)) goals_named
+
+  goal_priv_is : rising (private_numbers (places_of (fact_names factor) facts) (numbers_of facts (goal_facts lifted)))
+      ≡ places_in privates (named_goals me factor)
+  goal_priv_is = private_ones (goal_facts lifted) goals_counted ∙ ap (places_in privates) goals_named
+
+  abbrev made : Ground
+  made = ground_at me (fact_names factor) (ground_factor lifted all)
+
+  -- it is the grounded factor by names
+  pub is_grounded : IsGrounded k made
+  is_grounded = record {
+    me = refl;
+    private_facts = privates;
+    listed = lists_privates;
+    privates = count_privates;
+    publics = lists_publics;
+    start = starts;
+    goal_pub = goal_pub_is;
+    goal_priv = goal_priv_is;
+    acts = acts;
+    steps = steps;
+  }
+
+  -- ---- its limits
+
+  below : {X : Type 0} (test : X → Bool) (table : List X) → AllLess (length table) (numbers_where 0 test table)
+  below test table = all_members (λ n. n < length table) (numbers_where 0 test table) (places_below test table)
+
+  fits : (i : GroundedInstance) → i.cost ≤ 16000000 → ActFits (length (sorted_once texts)) first (act_of privates (sorted_once texts) i)
+  fits i cheap = record {
+    pre_pub = below _ (sorted_once texts);
+    pre_priv = subst (λ n. AllLess n (places_in privates i.pre)) (sym count_privates) (below _ privates);
+    add_pub = below _ (sorted_once texts);
+    add_priv = subst (λ n. AllLess n (places_in privates i.add)) (sym count_privates) (below _ privates);
+    del_pub = below _ (sorted_once texts);
+    del_priv = subst (λ n. AllLess n (places_in privates i.del)) (sym count_privates) (below _ privates);
+    cost = cheap;
+  }
+
+  abbrev IsCheap : GroundedInstance → Type 0
+  IsCheap i = i.cost ≤ 16000000
+
+  all_cheap : All IsCheap by_name
+  all_cheap =
+      subst (All IsCheap) (instances_stand me factor view checked)
+      (All-map IsCheap (named_instance me factor lifted) all (instances_cost_little lifted (small_costs factor view checked)))
+
+  pub keeps_limits : length all ≤ 200000 → length facts ≤ 65535 → KeepsLimits made
+  keeps_limits few_acts few = record {
+    facts =
+        let short = count_in_order texts in
+        let spelled : length texts ≡ length facts - first = length-map (drop first facts) (text_at (fact_names factor)) ∙ length-drop first facts in
+        let parts = length-filter_both is_public_fact (λ f. not f.is_public) (λ f. refl) facts in
+        omega (arith, short, spelled, parts);
+    start = subst (λ n. AllLess n made.start) (sym count_privates) (subst (AllLess (length privates)) (sym starts) (below _ privates));
+    goal_pub = subst (AllLess (length (sorted_once texts))) (sym goal_pub_is) (below _ (sorted_once texts));
+    goal_priv = subst (λ n. AllLess n made.goal_priv) (sym count_privates) (subst (AllLess (length privates)) (sym goal_priv_is) (below _ privates));
+    number_of_acts = subst (λ n. n ≤ 200000) (sym (length-map (map (ground_action lifted facts) all) (act_at (places_of (fact_names factor) facts)) ∙ length-map all (ground_action lifted facts))) few_acts;
+    acts = subst (All (ActFits (length (sorted_once texts)) first)) (sym acts)
+        (All-map (ActFits (length (sorted_once texts)) first) (act_of privates (sorted_once texts)) by_name (λ j d less. fits (get_or by_name j d) (all_cheap j d less)));
+  }

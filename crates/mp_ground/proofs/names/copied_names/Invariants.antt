@@ -1,0 +1,6 @@
+use Rattle.std.proofs.Common.{◌≡◌, map, take}
+use Rattle.mp_names.specs.Numbers.{name_at}
+use Rattle.mp_ground.proofs.names.copied_names.Given as goal
+
+abbrev pub invariant-loop-number : goal.invariant-loop-number
+invariant-loop-number l = l.list ≡ map (name_at l.names) (take l.number-index l.numbers)

@@ -1,0 +1,13 @@
+use Rattle.std.proofs.Common.{ℕ, List, [], map, Option, sym, ap, ◌∙◌}
+use Rattle.std.specs.Option.{option_map, unwrap_or}
+use Rattle.std.proofs.lemmas.Option.{slice_get-map, unwrap_or-slice_get}
+use Rattle.mp_factor.specs.declared.schema_values.Schema.{Schema}
+use Rattle.mp_ground.proofs.stepping.action_name.Goals as goal
+
+pub returns-in-None : goal.returns-in-None
+returns-in-None c =
+    let schemas = c.args.schemas.now in
+    c.new.ensures
+    ∙ ap (λ (o : Option Schema). unwrap_or (option_map (λ (s : Schema). s.word.name) o) []) c.in-None.ensures
+    ∙ ap (λ (o : Option (List ℕ)). unwrap_or o []) (sym (slice_get-map (λ (s : Schema). s.word.name) schemas c.args.action))
+    ∙ unwrap_or-slice_get (map (λ (s : Schema). s.word.name) schemas) c.args.action []

@@ -1,0 +1,9 @@
+use Rattle.std.proofs.Common.{◌≡◌, ◌≤◌, take}
+use Rattle.mp_ground.specs.Numbered.{count_private}
+use Rattle.mp_ground.proofs.texts.count_private.Given as goal
+
+abbrev pub invariant-loop-fact : goal.invariant-loop-fact
+invariant-loop-fact l = record {
+  counted : l.count ≡ count_private (take l.fact-index l.facts);
+  few : l.count ≤ l.fact-index;
+}

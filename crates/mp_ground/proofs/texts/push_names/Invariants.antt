@@ -1,0 +1,9 @@
+use Rattle.std.proofs.Common.{◌≡◌, ◌++◌, map, take}
+use Rattle.mp_sexp.specs.Bytes.{folded}
+use Rattle.mp_names.specs.Numbers.{name_at}
+use Rattle.mp_views.specs.Lines.{spaced}
+use Rattle.mp_ground.proofs.texts.push_names.Given as goal
+
+abbrev pub invariant-loop-number : goal.invariant-loop-number
+invariant-loop-number l =
+    folded l.text.items ≡ folded l.fn.text.items ++ spaced (map (name_at l.names) (take l.number-index l.numbers))

@@ -1,0 +1,6 @@
+use Rattle.std.proofs.Common.{◌≡◌, map, take}
+use Rattle.mp_ground.specs.Numbered.{text_at}
+use Rattle.mp_ground.proofs.texts.texts_of.Given as goal
+
+abbrev pub invariant-loop-fact : goal.invariant-loop-fact
+invariant-loop-fact l = l.texts ≡ map (text_at l.names) (take l.fact-index l.facts)

@@ -1,0 +1,89 @@
+//! Grounding the factor of an agent.
+
+ghost use Rattle.std.specs.Prelude.{◌≡◌, ◌≤◌, length, IfOk, IfErr};
+ghost use Rattle.mp_factor.specs.declared.factor.Factor.{Factor};
+ghost use Rattle.mp_lifted.specs.declared.view.OpenView.{OpenView as View};
+ghost use Rattle.mp_lifted.specs.Factors.{lifted_factor};
+ghost use Rattle.mp_instances.specs.Costs.{HasSmallCosts};
+ghost use Rattle.mp_instances.specs.Counts.{tries};
+ghost use Rattle.mp_instances.specs.Instances.{instances as instances_of};
+ghost use Rattle.mp_ground_facts.specs.Ground.{ground_factor as ground_factor_of};
+ghost use Rattle.mp_ground.specs.Grounded.{IsGrounded};
+ghost use Rattle.mp_ground.specs.Limits.{IsRefusedBy, IsWithin, KeepsLimits};
+
+use crate::grounded::Ground;
+use crate::names::fact_names;
+use crate::refusal::GroundRefusal;
+use crate::turning::turned;
+use mp_atoms::ActionBindingList;
+use mp_ground_facts::{FactRefusal, GroundFactor, ground_factor};
+use mp_grounder::laws::checked_factor_is_checked;
+use mp_instances::{InstanceRefusal, instances};
+use mp_lifted::{LiftedFactor, OpenView, lift};
+use mp_sets::Agent;
+use mp_typing::CheckedFactor;
+use std::alloc::Global;
+
+/// The instances of an agent's factor.
+fn all_instances(
+    alloc: Global,
+    me: Agent,
+    lifted: &LiftedFactor,
+) -> Result<ActionBindingList, GroundRefusal>
+    requires { HasSmallCosts lifted.now }
+    ensures given { IfOk result (λ list. list ≡ instances_of lifted.now) }
+    ensures within { IfOk result (λ list. (tries lifted.now ≤ 50000000) × (length list ≤ 200000)) }
+    ensures refused { (factor : Factor) (view : View) → lifted.now ≡ lifted_factor factor view
+        → IfErr result (IsRefusedBy (record { me = me; factor = factor; view = view })) }
+{
+    match instances(alloc, lifted) {
+        Ok(list) => Ok(list),
+        Err(InstanceRefusal::TooManyTries) => Err(GroundRefusal::TooManyTries(me)),
+        Err(InstanceRefusal::TooManyActions(n)) => Err(GroundRefusal::TooManyActions(me, n)),
+        Err(InstanceRefusal::OutOfMemory) => Err(GroundRefusal::OutOfMemory),
+    }
+}
+
+/// The factor of an agent in numbers, grounded to its instances.
+fn numbered(
+    alloc: Global,
+    me: Agent,
+    lifted: &LiftedFactor,
+    list: ActionBindingList,
+) -> Result<GroundFactor, GroundRefusal>
+    requires tries { tries lifted.now ≤ 50000000 }
+    requires all { list ≡ instances_of lifted.now }
+    requires few { length list ≤ 200000 }
+    ensures given { IfOk result (λ made. made ≡ ground_factor_of lifted.now (instances_of lifted.now)) }
+    ensures within { IfOk result (λ made. length made.facts ≤ 65535) }
+    ensures refused { (factor : Factor) (view : View) → lifted.now ≡ lifted_factor factor view
+        → IfErr result (IsRefusedBy (record { me = me; factor = factor; view = view })) }
+{
+    match ground_factor(alloc, lifted, list) {
+        Ok(made) => Ok(made),
+        Err(FactRefusal::TooManyFacts(n)) => Err(GroundRefusal::TooManyFacts(me, n)),
+        Err(FactRefusal::OutOfMemory) => Err(GroundRefusal::OutOfMemory),
+    }
+}
+
+/// Grounds the factor of an agent that has seen this of all agents. Refuses where more than 50,000,000 bindings are tried,
+/// then where there are more than 200,000 actions, then where there are more than 65,535 facts and complements, and for
+/// want of memory.
+pub fn ground(
+    alloc: Global,
+    me: Agent,
+    factor: &CheckedFactor,
+    known: &OpenView,
+) -> Result<Ground, GroundRefusal>
+    ensures given { IfOk result (IsGrounded (record { me = me; factor = factor.now; view = known.now })) }
+    ensures limits { IfOk result KeepsLimits }
+    ensures within { IfOk result (λ g. IsWithin (record { me = me; factor = factor.now; view = known.now })) }
+    ensures refused { IfErr result (IsRefusedBy (record { me = me; factor = factor.now; view = known.now })) }
+{
+    checked_factor_is_checked(factor);
+    let lifted = lift(alloc, factor, known)?;
+    let list = all_instances(alloc, me, &lifted)?;
+    let numbered = numbered(alloc, me, &lifted, list)?;
+    let names = fact_names(alloc, factor.factor())?;
+    Ok(turned(alloc, me, &names, &numbered)?)
+}
