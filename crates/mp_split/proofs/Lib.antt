@@ -1,0 +1,24 @@
+-- what holds of each item of a list
+pub mod Each
+-- the numbers of texts are their places in a table that is in the order of bytes
+pub mod Numbering
+-- rising numbers of own texts, and the places of these texts in a table that has them all
+pub mod Renumbering
+-- numbers as the code finds them, and places of marks
+pub mod TableNumbers
+-- what holds of the items of a list holds of those in order
+pub mod InOrder
+-- a list that is made of what is taken from another one
+pub mod Taking
+-- what an agent shows: texts in their order, parts of its actions
+pub mod Showing
+-- what the agents of a team show together: the table of public facts, the parts of all actions
+pub mod Together
+-- the task of one agent: own actions by the team's numbers, its limits
+pub mod OneTask
+-- the grounded factors of the first agents of a team, one more and all
+pub mod FirstAgents
+-- the tasks of a team from its table and from what they have in common
+pub mod Whole
+-- the tasks that are made of a team's grounded factors are those of the team
+pub mod AllTasks

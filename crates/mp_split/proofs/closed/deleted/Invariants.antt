@@ -1,0 +1,7 @@
+use Rattle.std.proofs.Common.{◌≡◌, not, take}
+use Rattle.std.specs.Prelude.{filter}
+use Rattle.mp_split.specs.Closed.{is_number_in, texts_at}
+use Rattle.mp_split.proofs.closed.deleted.Given as goal
+
+abbrev pub invariant-loop-delete : goal.invariant-loop-delete
+invariant-loop-delete l = l.texts ≡ texts_at l.table (filter (λ n. not (is_number_in l.add n)) (take l.delete-index l.del))

@@ -1,0 +1,5 @@
+use Rattle.std.proofs.Common.{◌≡◌, map, take}
+use Rattle.mp_split.proofs.common.flags_of.Given as goal
+
+abbrev pub invariant-loop-view : goal.invariant-loop-view
+invariant-loop-view l = l.met ≡ map (λ v. v.met) (take l.view-index l.views)

@@ -1,0 +1,6 @@
+use Rattle.std.proofs.Common.{◌≡◌, take}
+use Rattle.mp_split.specs.Common.{of_others}
+use Rattle.mp_split.proofs.task.others_of.Given as goal
+
+abbrev pub invariant-loop-part : goal.invariant-loop-part
+invariant-loop-part l = l.out ≡ of_others l.me (take l.part-index l.parts)

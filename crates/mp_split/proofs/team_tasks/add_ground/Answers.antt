@@ -1,0 +1,21 @@
+use Rattle.std.proofs.Common.{arith, ◌≡◌, ◌+◌, length, subst, sym}
+use Rattle.mp_ground.specs.Grounded.{IsGrounded, Known}
+use Rattle.mp_ground.specs.Limits.{IsWithin}
+use Rattle.mp_split.specs.Begun.{AreBegun}
+use Rattle.mp_split.proofs.FirstAgents.{one_more, same_known}
+use Rattle.mp_split.proofs.team_tasks.add_ground.Goals as goal
+
+pub returns-clause-begun : goal.returns-clause-begun
+returns-clause-begun c = λ team shown at begun.
+    let grounds = c.args.grounds.now.items in
+    let g = c.in_ok-made.made in
+    let factor = c.args.factor.now in
+    let number : c.agent_at-me.result ≡ length grounds + 1 =
+    let me = c.agent_at-me.ensures in
+    let count = c.len.ensures in
+    let kept = c.args.grounds.now.ok.0 in
+    omega arith in
+    let same = same_known c.agent_at-me.result team (length grounds) factor c.args.known.now number shown in
+    subst (AreBegun team) (sym c.in_ok-keep.ensures)
+    (one_more team grounds factor begun at g (subst (λ (k : Known). IsGrounded k g) same c.in_ok-made.ensures.given)
+    c.in_ok-made.ensures.limits (subst IsWithin same c.in_ok-made.ensures.within))

@@ -1,0 +1,6 @@
+use Rattle.std.proofs.Common.{◌≡◌, map, take}
+use Rattle.mp_split.specs.Closed.{closed_view}
+use Rattle.mp_split.proofs.team_tasks.closed_views.Given as goal
+
+abbrev pub invariant-loop-ground : goal.invariant-loop-ground
+invariant-loop-ground l = l.views.items ≡ map closed_view (take l.ground-index l.grounds)

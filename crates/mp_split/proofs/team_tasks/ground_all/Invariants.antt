@@ -1,0 +1,9 @@
+use Rattle.std.proofs.Common.{◌≡◌, length}
+use Rattle.mp_split.specs.Begun.{AreBegun}
+use Rattle.mp_split.proofs.team_tasks.ground_all.Given as goal
+
+abbrev pub invariant-loop-factor : goal.invariant-loop-factor
+invariant-loop-factor l = record {
+  count : length l.grounds.items ≡ l.factor-index;
+  begun : AreBegun l.factors l.grounds.items;
+}

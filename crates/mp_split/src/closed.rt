@@ -1,0 +1,158 @@
+//! What an agent shows of its factor after grounding.
+
+ghost use Rattle.std.specs.Prelude.{◌≡◌, ◌++◌, ◌∷◌, [], not, map, filter, slice_index_or, IfOk, OnOk};
+ghost use Rattle.mp_task.specs.Public.{is_public as is_public_act};
+ghost use Rattle.mp_ground.specs.Limits.{KeepsLimits};
+ghost use Rattle.mp_split.specs.Closed.{texts_at as texts_of, is_number_in, part_of as part_of_act, is_met as are_met, closed_view as view_of};
+
+use mp_ground::Ground;
+use mp_lifted::FactTexts;
+use mp_list::{Copied, List, OutOfMemory};
+use mp_sets::Bits;
+use mp_sexp::Name;
+use mp_task::Act;
+use mp_views::{Part, View, sorted_parts};
+use std::alloc::Global;
+
+/// A copy of the text at a place of a table, and the empty text past its end.
+fn text_at(alloc: Global, table: &[Name], place: u32) -> Result<Name, OutOfMemory>
+    ensures { IfOk result (λ text. text ≡ slice_index_or table.now place []) }
+{
+    match table.get(place as usize) {
+        Some(text) => text.copy(),
+        None => Ok(Name::new(alloc)),
+    }
+}
+
+/// The texts at some places of a table.
+fn texts_at(alloc: Global, table: &[Name], places: &[u32]) -> Result<FactTexts, OutOfMemory>
+    ensures { IfOk result (λ texts. texts ≡ texts_of table.now places.now) }
+{
+    let mut texts = List::with_capacity(alloc, places.len())?;
+    for place in places {
+        texts.push(text_at(alloc, table, *place)?)?;
+    }
+    Ok(texts)
+}
+
+/// Whether a number is one of these.
+fn is_one_of(number: u32, numbers: &[u32]) -> bool
+    ensures { result ≡ is_number_in numbers.now number }
+{
+    for other in numbers {
+        if *other == number {
+            return true;
+        }
+    }
+    false
+}
+
+/// Adds the text of a delete, where it is no add.
+fn add_delete(
+    alloc: Global,
+    texts: &mut FactTexts,
+    table: &[Name],
+    add: &[u32],
+    delete: u32,
+) -> Result<(), OutOfMemory>
+    ensures { OnOk result (texts.new ≡ texts.old
+        ++ texts_of table.now (filter (λ n. not (is_number_in add.now n)) (delete ∷ []))) }
+{
+    if !is_one_of(delete, add) {
+        texts.push(text_at(alloc, table, delete)?)?;
+    }
+    Ok(())
+}
+
+/// The texts of the deletes that are no adds.
+fn deleted(
+    alloc: Global,
+    table: &[Name],
+    add: &[u32],
+    del: &[u32],
+) -> Result<FactTexts, OutOfMemory>
+    ensures { IfOk result (λ texts. texts
+        ≡ texts_of table.now (filter (λ n. not (is_number_in add.now n)) del.now)) }
+{
+    let mut texts = List::new(alloc);
+    for delete in del {
+        add_delete(alloc, &mut texts, table, add, *delete)?;
+    }
+    Ok(texts)
+}
+
+/// The public part of an action.
+fn part_of(alloc: Global, table: &[Name], act: &Act) -> Result<Part, OutOfMemory>
+    ensures { IfOk result (λ part. part ≡ part_of_act table.now act.now) }
+{
+    let add = act.add_pub.as_slice();
+    Ok(Part {
+        cost: act.cost,
+        pre: texts_at(alloc, table, act.pre_pub.as_slice())?,
+        add: texts_at(alloc, table, add)?,
+        del: deleted(alloc, table, add, act.del_pub.as_slice())?,
+    })
+}
+
+/// Whether an action has a public precondition, add or delete.
+fn is_public(act: &Act) -> bool
+    ensures { result ≡ is_public_act act.now }
+{
+    act.pre_pub.len() > 0 || act.add_pub.len() > 0 || act.del_pub.len() > 0
+}
+
+/// Adds the public part of an action, where it is public.
+fn add_part(
+    alloc: Global,
+    parts: &mut Vec<Part>,
+    table: &[Name],
+    act: &Act,
+) -> Result<(), OutOfMemory>
+    ensures { OnOk result (parts.new.items
+        ≡ parts.old.items ++ map (part_of_act table.now) (filter is_public_act (act.now ∷ []))) }
+{
+    if is_public(act) {
+        parts.push(part_of(alloc, table, act)?)?;
+    }
+    Ok(())
+}
+
+/// The public parts of the public actions, as they come.
+fn parts_of(alloc: Global, table: &[Name], acts: &[Act]) -> Result<Vec<Part>, OutOfMemory>
+    ensures { IfOk result (λ parts. parts.items
+        ≡ map (part_of_act table.now) (filter is_public_act acts.now)) }
+{
+    let mut parts = Vec::new(alloc);
+    for act in acts {
+        add_part(alloc, &mut parts, table, act)?;
+    }
+    Ok(parts)
+}
+
+/// Whether the private goals hold at the start.
+fn is_met(alloc: Global, ground: &Ground) -> Result<bool, OutOfMemory>
+    requires { KeepsLimits ground.now }
+    ensures { IfOk result (λ met. met ≡ are_met ground.now) }
+{
+    let start = Bits::from_list(alloc, ground.privates, &ground.start)?;
+    Ok(start.holds(&ground.goal_priv))
+}
+
+/// What an agent shows after grounding: its public facts and goals, whether its private goals hold at the start, and
+/// the public parts of its public actions. Refuses only for want of memory.
+pub fn closed_view(alloc: Global, ground: &Ground) -> Result<View, OutOfMemory>
+    requires { KeepsLimits ground.now }
+    ensures { IfOk result (λ v. v ≡ view_of ground.now) }
+{
+    let table = ground.publics.as_slice();
+    let parts = parts_of(alloc, table, ground.acts.as_slice())?;
+    let met = is_met(alloc, ground)?;
+    let goals = texts_at(alloc, table, ground.goal_pub.as_slice())?;
+    let acts = sorted_parts(alloc, parts)?;
+    Ok(View {
+        facts: ground.publics.copy()?,
+        goals,
+        met,
+        acts,
+    })
+}

@@ -1,0 +1,172 @@
+//! The tasks of a team from its grounded factors and from what the tasks have in common.
+
+ghost use Rattle.std.specs.Prelude.{◌≡◌, ◌++◌, ◌∷◌, ◌==◌, ◌≤◌, [], not, length, map, filter, All, IfOk, OnOk};
+ghost use Rattle.mp_task.specs.Limits.{ActFits, IsWithinLimits};
+ghost use Rattle.mp_split.specs.Common.{IsOfTeam, act_at, of_others, task_from, task_with};
+
+use crate::common::Common;
+use crate::numbers::{numbers_at, numbers_of};
+use crate::team::{StepsList, Tasks, Views};
+use mp_ground::Ground;
+use mp_list::{Copied, List, OutOfMemory};
+use mp_names::NameTable;
+use mp_sets::{Agent, FactList};
+use mp_task::{Act, ActList, Far, FarList, Task, TaskList};
+use std::alloc::Global;
+
+/// An own action, with the numbers at its places for its public facts. What `scratch` has is lost.
+fn act_of(
+    alloc: Global,
+    scratch: &mut Vec<u32>,
+    numbers: &FactList,
+    privates: u32,
+    act: &Act,
+) -> Result<Act, OutOfMemory>
+    requires { ActFits (length numbers.now) privates act.now }
+    ensures { IfOk result (λ made. made ≡ act_at numbers.now act.now) }
+{
+    let pre_pub = numbers_at(alloc, scratch, numbers, &act.pre_pub)?;
+    let add_pub = numbers_at(alloc, scratch, numbers, &act.add_pub)?;
+    let del_pub = numbers_at(alloc, scratch, numbers, &act.del_pub)?;
+    Ok(Act {
+        pre_pub,
+        pre_priv: act.pre_priv.copy()?,
+        add_pub,
+        add_priv: act.add_priv.copy()?,
+        del_pub,
+        del_priv: act.del_priv.copy()?,
+        cost: act.cost,
+    })
+}
+
+/// Own actions, with the numbers at their places for their public facts. What `scratch` has is lost.
+fn acts_of(
+    alloc: Global,
+    scratch: &mut Vec<u32>,
+    numbers: &FactList,
+    privates: u32,
+    acts: &[Act],
+) -> Result<ActList, OutOfMemory>
+    requires { All (ActFits (length numbers.now) privates) acts.now }
+    ensures { IfOk result (λ made. made ≡ map (act_at numbers.now) acts.now) }
+{
+    let mut made = List::with_capacity(alloc, acts.len())?;
+    for act in acts {
+        made.push(act_of(alloc, scratch, numbers, privates, act)?)?;
+    }
+    Ok(made)
+}
+
+/// Adds a copy of a part, where it is another agent's.
+fn add_other(out: &mut FarList, me: Agent, part: &Far) -> Result<(), OutOfMemory>
+    ensures { OnOk result (out.new ≡ out.old ++ of_others me (part.now ∷ [])) }
+{
+    if part.by != me {
+        out.push(part.copy()?)?;
+    }
+    Ok(())
+}
+
+/// The parts of other agents' actions.
+fn others_of(alloc: Global, me: Agent, parts: &[Far]) -> Result<FarList, OutOfMemory>
+    ensures { IfOk result (λ out. out ≡ of_others me parts.now) }
+{
+    let mut out = List::new(alloc);
+    for part in parts {
+        add_other(&mut out, me, part)?;
+    }
+    Ok(out)
+}
+
+/// The task with these own actions and parts of the others' actions.
+fn task_from_parts(
+    publics: u32,
+    common: &Common,
+    ground: &Ground,
+    acts: ActList,
+    far: FarList,
+) -> Result<Task, OutOfMemory>
+    requires agents { length common.now.met ≤ 16 }
+    requires within { IsWithinLimits (task_from publics common.now ground.now acts far) }
+    ensures { IfOk result (λ task. task ≡ task_from publics common.now ground.now acts far) }
+{
+    Ok(Task {
+        me: ground.me,
+        agents: common.met.len() as u16,
+        publics,
+        privates: ground.privates,
+        start_pub: common.start.copy()?,
+        start_priv: ground.start.copy()?,
+        goal_pub: common.goals.copy()?,
+        goal_priv: ground.goal_priv.copy()?,
+        acts,
+        far,
+        met: common.met.copy()?,
+    })
+}
+
+/// The task of an agent, where these are the public facts of the team.
+fn task_of(
+    alloc: Global,
+    table: &NameTable<'_>,
+    common: &Common,
+    ground: &Ground,
+) -> Result<Task, OutOfMemory>
+    requires { IsOfTeam table.now common.now ground.now }
+    ensures { IfOk result (λ task. task ≡ task_with table.now common.now ground.now) }
+{
+    let mut scratch = Vec::new(alloc);
+    let numbers = numbers_of(alloc, &mut scratch, table, ground.publics.as_slice())?;
+    let acts = acts_of(
+        alloc,
+        &mut scratch,
+        &numbers,
+        ground.privates,
+        ground.acts.as_slice(),
+    )?;
+    let far = others_of(alloc, ground.me, common.parts.as_slice())?;
+    task_from_parts(table.len() as u32, common, ground, acts, far)
+}
+
+/// Adds the task of an agent, and what its own actions stand for.
+fn add_task(
+    alloc: Global,
+    table: &NameTable<'_>,
+    common: &Common,
+    ground: Ground,
+    tasks: &mut TaskList,
+    steps: &mut StepsList,
+) -> Result<(), OutOfMemory>
+    requires { IsOfTeam table.now common.now ground }
+    ensures task { OnOk result (tasks.new ≡ tasks.old ++ task_with table.now common.now ground ∷ []) }
+    ensures steps { OnOk result (steps.new ≡ steps.old ++ ground.steps ∷ []) }
+{
+    tasks.push(task_of(alloc, table, common, &ground)?)?;
+    steps.push(ground.steps)?;
+    Ok(())
+}
+
+/// The tasks of a team that shows this.
+pub(crate) fn tasks_of(
+    alloc: Global,
+    table: &NameTable<'_>,
+    common: &Common,
+    grounds: Vec<Ground>,
+    views: Views,
+) -> Result<Tasks, OutOfMemory>
+    requires { All (IsOfTeam table.now common.now) grounds.items }
+    ensures tasks { IfOk result (λ t. t.tasks ≡ map (task_with table.now common.now) grounds.items) }
+    ensures steps { IfOk result (λ t. t.steps ≡ map (λ g. g.steps) grounds.items) }
+    ensures views { IfOk result (λ t. t.views ≡ views) }
+{
+    let mut tasks = List::with_capacity(alloc, grounds.len())?;
+    let mut steps = List::with_capacity(alloc, grounds.len())?;
+    for ground in grounds {
+        add_task(alloc, table, common, ground, &mut tasks, &mut steps)?;
+    }
+    Ok(Tasks {
+        tasks,
+        steps,
+        views,
+    })
+}
