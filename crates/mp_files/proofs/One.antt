@@ -1,0 +1,144 @@
+-- What the files of a team lead to is one thing alone.
+use Rattle.std.proofs.Common.{◌≡◌, ◌<◌, ◌≤◌, ◌⊎◌, inl, inr, ℕ, zero, suc, List, [], length, Option, Some, None, Result, Ok, Err, refl, sym, ap, ◌∙◌, subst, arith}
+use Rattle.std.specs.Prelude.{Contains}
+use Rattle.mp_factor.specs.Values.Files.{domain_value, problem_value}
+use Rattle.mp_factor.specs.Faults.Files.{domain_faults, problem_faults}
+use Rattle.mp_factor.specs.Faults.First.{IsFirst as IsFirstOf}
+use Rattle.mp_factor.specs.Fault.{Fault as ShapeFault}
+use Rattle.mp_factor.specs.declared.factor.Factor.{Factor}
+use Rattle.mp_factor.specs.declared.files.File.TheVariants as file
+use Rattle.mp_joint.specs.Fact.{Text}
+use Rattle.mp_outside.specs.Source.{Files}
+use Rattle.mp_sexp.specs.Fault.{ReadFault}
+use Rattle.mp_sexp.specs.Node.{Node}
+use Rattle.mp_sexp.specs.Spelling.{HasTree}
+use Rattle.mp_sexp.specs.declared.refusal.ReadRefusal.{ReadRefusal}
+use Rattle.mp_typing.specs.CheckFaults.{check_faults}
+use Rattle.mp_typing.specs.FirstFault.{IsFirst as IsFirstCheck}
+use Rattle.mp_typing.specs.declared.fault.Fault.{Fault as CheckFault}
+use Rattle.mp_files.specs.File.{Checks, Fetches, HasShape, Parts, SaysDomain, SaysProblem, Spells, check_refusal, file_of, longest_file, shape_refusal, text_refusal}
+use Rattle.mp_files.specs.Reading.{Each}
+use Rattle.mp_files.specs.Team.{FetchesTwo, HoldsTeam, IsFirst, ReadsTeam, ReadsTexts, Says, Two}
+use Rattle.mp_files.specs.declared.refusal.FileOf.{FileOf}
+use Rattle.mp_files.specs.declared.refusal.Refusal.{Refusal}
+use Rattle.mp_files.specs.declared.refusal.Refusal.TheVariants as why
+use Rattle.mp_files.proofs.Readings.{IsOne, as_err, ok_err, one_each, one_given, one_then}
+
+-- the laws that are used: one tree and one first fault of a text, not both, and one first fault of a tree and of a
+-- factor
+pub record Laws : Type 0 where
+  pub one_tree : (text : Text) (m n : Node) → HasTree text m → HasTree text n → m ≡ n
+  pub one_fault : (text : Text) (e f : ReadRefusal) → ReadFault text e → ReadFault text f → e ≡ f
+  pub not_both : (text : Text) (n : Node) (e : ReadRefusal) → HasTree text n → ReadFault text e → ⊥
+  pub one_first : (faults : List ShapeFault) (a b : ShapeFault) → IsFirstOf faults a → IsFirstOf faults b → a ≡ b
+  pub one_check : (faults : List CheckFault) (a b : CheckFault) → IsFirstCheck faults a → IsFirstCheck faults b → a ≡ b
+
+-- what is refused of a file, by what is found under its name
+fetched_none : (at : FileOf) (v : Result Text Refusal) → Fetches None at v → v ≡ Err (why.Read at)
+fetched_none at (Ok t) h = absurd (cc)
+fetched_none at (Err (why.Read other)) h = ap (λ a. Err (why.Read a)) h.0
+fetched_none at (Err (why.TooLarge other)) h = absurd h.1
+fetched_none at (Err (why.Fault other kind place)) h = absurd h
+fetched_none at (Err why.OutOfMemory) h = absurd h
+
+fetched_short : (text : Text) (at : FileOf) (v : Result Text Refusal) → length text ≤ longest_file → Fetches (Some text) at v → v ≡ Ok text
+fetched_short text at (Ok t) le h = cc
+fetched_short text at (Err (why.Read other)) le h = absurd (cc)
+fetched_short text at (Err (why.TooLarge other)) le h = absurd (omega (arith, le, h.1))
+fetched_short text at (Err (why.Fault other kind place)) le h = absurd h
+fetched_short text at (Err why.OutOfMemory) le h = absurd h
+
+fetched_long : (text : Text) (at : FileOf) (v : Result Text Refusal) → longest_file < length text → Fetches (Some text) at v → v ≡ Err (why.TooLarge at)
+fetched_long text at (Ok t) lt h =
+    let same : text ≡ t = cc in
+    let short : length text ≤ longest_file = subst (λ x. length x ≤ longest_file) (sym same) h.1 in
+    absurd (omega (arith, lt, short))
+fetched_long text at (Err (why.Read other)) lt h = absurd (cc)
+fetched_long text at (Err (why.TooLarge other)) lt h = ap (λ a. Err (why.TooLarge a)) h.0
+fetched_long text at (Err (why.Fault other kind place)) lt h = absurd h
+fetched_long text at (Err why.OutOfMemory) lt h = absurd h
+
+short_or_long : (n m : ℕ) → (n ≤ m) ⊎ (m < n)
+short_or_long zero m = inl (omega arith)
+short_or_long (suc n) zero = inr (omega arith)
+short_or_long (suc n) (suc m) =
+    elim (short_or_long n m) [
+      | inl le ↦ inl (omega (arith, le))
+      | inr lt ↦ inr (omega (arith, lt))
+    ]
+
+one_fetched : (found : Option Text) (at : FileOf) → IsOne (Fetches found at)
+one_fetched None at v w h k = fetched_none at v h ∙ sym (fetched_none at w k)
+one_fetched (Some text) at v w h k =
+    elim (short_or_long (length text) longest_file) [
+      | inl le ↦ fetched_short text at v le h ∙ sym (fetched_short text at w le k)
+      | inr lt ↦ fetched_long text at v lt h ∙ sym (fetched_long text at w lt k)
+    ]
+
+one_spelled : Laws → (at : FileOf) (text : Text) → IsOne (Spells at text)
+one_spelled laws at text (Ok m) (Ok n) h k = ap Ok (laws.one_tree text m n h k)
+one_spelled laws at text (Ok m) (Err r) h k = absurd (laws.not_both text m k.0 h k.1)
+one_spelled laws at text (Err r) (Ok n) h k = absurd (laws.not_both text n h.0 k h.1)
+one_spelled laws at text (Err r) (Err s) h k =
+    ap Err (h.2 ∙ ap (text_refusal at) (laws.one_fault text h.0 k.0 h.1 k.1) ∙ sym k.2)
+
+none_first : (faults : List ShapeFault) (first : ShapeFault) → faults ≡ [] → IsFirstOf faults first → ⊥
+none_first faults first none is =
+    let among : Contains [] first = subst (λ fs. Contains fs first) none is.among in
+    absurd (omega (arith, among.1))
+
+one_shape : {X : Type 0} → Laws → (at : FileOf) (faults : List ShapeFault) (value : X) → IsOne (HasShape at faults value)
+one_shape laws at faults value (Ok m) (Ok n) h k = ap Ok (h.0 ∙ sym k.0)
+one_shape laws at faults value (Ok m) (Err r) h k = absurd (none_first faults k.0 h.1 k.1)
+one_shape laws at faults value (Err r) (Ok n) h k = absurd (none_first faults h.0 k.1 h.1)
+one_shape laws at faults value (Err r) (Err s) h k =
+    ap Err (h.2 ∙ ap (shape_refusal at) (laws.one_first faults h.0 k.0 h.1 k.1) ∙ sym k.2)
+
+one_domain : Laws → (at : FileOf) (text : Text) → IsOne (SaysDomain at text)
+one_domain laws at text =
+    one_then (Spells at text) _ (one_spelled laws at text) (λ node. one_shape laws at (domain_faults node) (domain_value node))
+
+one_problem : Laws → (at : FileOf) (text : Text) → IsOne (SaysProblem at text)
+one_problem laws at text =
+    one_then (Spells at text) _ (one_spelled laws at text) (λ node. one_shape laws at (problem_faults node) (problem_value node))
+
+none_checked : (faults : List CheckFault) (first : CheckFault) → faults ≡ [] → IsFirstCheck faults first → ⊥
+none_checked faults first none is =
+    let among : Contains [] first = subst (λ fs. Contains fs first) none is.among in
+    absurd (omega (arith, among.1))
+
+one_check : Laws → (agent : ℕ) (parts : Parts) → IsOne (Checks agent parts)
+one_check laws agent parts (Ok a) (Ok b) h k = ap Ok (h.0 ∙ sym k.0)
+one_check laws agent parts (Ok a) (Err r) h k = absurd (none_checked (check_faults parts.domain parts.problem) k.0 h.1 k.1)
+one_check laws agent parts (Err r) (Ok b) h k = absurd (none_checked (check_faults parts.domain parts.problem) h.0 k.1 h.1)
+one_check laws agent parts (Err r) (Err s) h k =
+    ap Err (h.2 ∙ ap (check_refusal agent) (laws.one_check (check_faults parts.domain parts.problem) h.0 k.0 h.1 k.1) ∙ sym k.2)
+
+one_two : (files : Files) (agent : ℕ) (names : Two) → IsOne (FetchesTwo files agent names)
+one_two files agent names =
+    one_then (Fetches (files names.domain) (file_of agent file.Domain)) _ (one_fetched (files names.domain) (file_of agent file.Domain))
+    (λ domain. one_then (Fetches (files names.problem) (file_of agent file.Problem)) _ (one_fetched (files names.problem) (file_of agent file.Problem))
+    (λ problem. one_given {X = Two} (record { domain = domain; problem = problem })))
+
+one_said : Laws → (agent : ℕ) (texts : Two) → IsOne (Says agent texts)
+one_said laws agent texts =
+    one_then (SaysDomain (file_of agent file.Domain) texts.domain) _ (one_domain laws (file_of agent file.Domain) texts.domain)
+    (λ domain. one_then (SaysProblem (file_of agent file.Problem) texts.problem) _ (one_problem laws (file_of agent file.Problem) texts.problem)
+    (λ problem. one_given {X = Parts} (record { domain = domain; problem = problem })))
+
+one_of_texts : Laws → (texts : List Two) → IsOne (ReadsTexts texts)
+one_of_texts laws texts =
+    one_then (Each Says texts) _ (one_each Says (one_said laws) texts)
+    (λ parts. one_each Checks (one_check laws) parts)
+
+-- what the files of a team lead to is one thing alone
+pub one_read : Laws → (files : Files) (names : List Two) → IsOne (ReadsTeam files names)
+one_read laws files names =
+    one_then (Each (FetchesTwo files) names) ReadsTexts (one_each (FetchesTwo files) (one_two files) names) (one_of_texts laws)
+
+pub one_first : Laws → (files : Files) (names : List Two) (r s : Refusal) → IsFirst files names r → IsFirst files names s → r ≡ s
+one_first laws files names r s h k = as_err (Err r) (Err s) r s (one_read laws files names (Err r) (Err s) h k) refl refl
+
+-- where the files hold a team, no refusal is the first
+pub found_none : Laws → (files : Files) (names : List Two) (team : List Factor) (r : Refusal) → HoldsTeam files names team → IsFirst files names r → ⊥
+found_none laws files names team r h k = ok_err team r (one_read laws files names (Ok team) (Err r) h k)

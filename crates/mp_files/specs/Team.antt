@@ -1,0 +1,45 @@
+-- What the files of a team lead to, in the one order of refusals: each file, an agent's domain and then its problem, is
+-- looked for and measured; then each text is read and its shape looked at; then names, numbers of terms and declarations
+-- of each agent's factor are checked.
+use Rattle.std.specs.Prelude.{ℕ, List, Ok, Err}
+use Rattle.mp_factor.specs.declared.factor.Factor.{Factor}
+use Rattle.mp_factor.specs.declared.files.File.TheVariants as file
+use Rattle.mp_joint.specs.Fact.{Text}
+use Rattle.mp_outside.specs.Source.{Files}
+use Rattle.mp_files.specs.Reading.{Reading, Each, Gives, Then}
+use Rattle.mp_files.specs.File.{Checks, Fetches, Parts, SaysDomain, SaysProblem, file_of}
+use Rattle.mp_files.specs.declared.refusal.Refusal.{Refusal}
+
+-- something of an agent's domain, and of its problem
+pub record Two : Type 0 where
+  pub domain : Text
+  pub problem : Text
+
+-- the names of an agent's files lead to their texts
+abbrev pub FetchesTwo : Files → ℕ → Two → Reading Two
+FetchesTwo files agent names =
+    Then (Fetches (files names.domain) (file_of agent file.Domain))
+    (λ domain. Then (Fetches (files names.problem) (file_of agent file.Problem))
+    (λ problem. Gives (record { domain = domain; problem = problem })))
+
+-- an agent's texts lead to what they say
+abbrev pub Says : ℕ → Two → Reading Parts
+Says agent texts =
+    Then (SaysDomain (file_of agent file.Domain) texts.domain)
+    (λ domain. Then (SaysProblem (file_of agent file.Problem) texts.problem)
+    (λ problem. Gives (record { domain = domain; problem = problem })))
+
+-- the texts of a team lead to its factors
+abbrev pub ReadsTexts : List Two → Reading (List Factor)
+ReadsTexts texts = Then (Each Says texts) (λ parts. Each Checks parts)
+
+-- the files of these names lead to the factors of a team
+abbrev pub ReadsTeam : Files → List Two → Reading (List Factor)
+ReadsTeam files names = Then (Each (FetchesTwo files) names) ReadsTexts
+
+abbrev pub HoldsTeam : Files → List Two → List Factor → Type 0
+HoldsTeam files names team = ReadsTeam files names (Ok team)
+
+-- the first refusal of files, by what they hold
+abbrev pub IsFirst : Files → List Two → Refusal → Type 0
+IsFirst files names r = ReadsTeam files names (Err r)

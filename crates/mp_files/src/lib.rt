@@ -1,0 +1,16 @@
+//! The files of a team, read as the factors of its agents: an agent's domain and then its problem, one agent after
+//! another (`specs/`).
+#![tactic(auto)]
+
+mod appending;
+mod fetched;
+mod first;
+mod refusal;
+mod said;
+mod shapes;
+mod team;
+
+pub use fetched::AgentFiles;
+pub use first::one_first;
+pub use refusal::{Fault, FileOf, Refusal};
+pub use team::read_team;

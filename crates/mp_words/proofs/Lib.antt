@@ -1,0 +1,4 @@
+-- words one after another
+mod WordLemmas
+-- digits one after another
+mod NumberLemmas

@@ -1,0 +1,35 @@
+//! What the words of the command line ask for.
+
+/// The heuristic of the search.
+#[derive(Clone, Copy, Debug, PartialEq, Eq)]
+pub enum Choice {
+    /// Zero everywhere.
+    Blind,
+    /// hmax (Bonet and Geffner 2001).
+    Max,
+}
+
+/// An option that has a value.
+#[derive(Clone, Copy, Debug, PartialEq, Eq)]
+pub(crate) enum Valued {
+    Limit,
+    Heuristic,
+    Workers,
+}
+
+/// What accepted words ask for: a plan for the agents of these files.
+#[derive(Drop)]
+pub struct Request<'a> {
+    /// How many entries an agent may expand: 1 to 10,000,000.
+    pub limit: u64,
+    /// The heuristic of all agents.
+    pub heuristic: Choice,
+    /// How many workers there are: 1 to 16, where that is said.
+    pub workers: Option<u64>,
+    /// Whether all is done on one thread.
+    pub one: bool,
+    /// Whether each event is printed.
+    pub trace: bool,
+    /// The names of the files, an agent's domain and then its problem.
+    pub names: Vec<&'a str>,
+}

@@ -1,0 +1,12 @@
+//! The words of the command line: what they ask for.
+#![tactic(auto)]
+
+mod asked;
+mod numbers;
+mod read;
+mod request;
+mod threads;
+
+pub use asked::{Choice, Request};
+pub use request::read_request;
+pub use threads::alone;
