@@ -39,15 +39,15 @@ AreFittingBefore files names agent =
     → before < agent → slice_get names before ≡ Some other
     → IsFitting files other.domain × IsFitting files other.problem
 
--- Reading a file had a fault: the count rose, and where the source tells, the last fault came at this file, and the files
--- before it were found and fit.
+-- Reading a file had a fault: the count rose, and where the source tells, the last fault came at this file, and
+-- the files before it were found and fit.
 pub record HadFault (source : SeenSource) (names : List Two) (own : Two) (at : FileOf) : Type 0 where
   pub count : source.before < source.now
   pub place : FaultAt source.held source.fault_at (Some (name_in own at.file))
   pub others : IfSome source.held (λ files. AreFittingBefore files names at.agent × IsFittingBefore files own at.file)
 
--- A file of the names cannot be read: the source tells that it is not there, and that is the first refusal, or there was
--- a fault.
+-- A file of the names cannot be read: the source tells that it is not there, and that is the first refusal, or
+-- there was a fault.
 pub record CannotRead (source : SeenSource) (names : List Two) (at : FileOf) : Type 0 where
   pub own : Two
   pub named : slice_get names at.agent ≡ Some own
@@ -57,7 +57,8 @@ pub record CannotRead (source : SeenSource) (names : List Two) (at : FileOf) : T
 abbrev pub ComesFirst : SeenSource → List Two → Refusal → Type 0
 ComesFirst source names r = IfSome source.held (λ files. IsFirst files names r)
 
--- What a refusal rests on: on being the first one, where the source tells, but for faults of reading and want of memory.
+-- What a refusal rests on: on being the first one, where the source tells, but for faults of reading and want
+-- of memory.
 abbrev pub Rests : SeenSource → List Two → Refusal → Type 0
 Rests source names (why.Read at) = CannotRead source names at
 Rests source names (why.TooLarge at) = ComesFirst source names (why.TooLarge at)

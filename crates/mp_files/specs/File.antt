@@ -1,5 +1,5 @@
--- What a file leads to: its text, where it is there and not too long; what its text says, where that is well formed; and
--- the factor of two files, where nothing is wrong with its names.
+-- What a file leads to: its text, where it is there and not too long; what its text says, where that is well
+-- formed; and the factor of two files, where nothing is wrong with its names.
 use Rattle.std.specs.Prelude.{◌≡◌, ◌<◌, ◌≤◌, ℕ, List, [], length, Option, Some, None, Ok, Err, IsSomeAnd}
 use Rattle.mp_factor.specs.Faults.Files.{domain_faults, problem_faults}
 use Rattle.mp_factor.specs.Faults.First.{IsFirst as IsFirstOf}

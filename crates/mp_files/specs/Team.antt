@@ -1,6 +1,6 @@
--- What the files of a team lead to, in the one order of refusals: each file, an agent's domain and then its problem, is
--- looked for and measured; then each text is read and its shape looked at; then names, numbers of terms and declarations
--- of each agent's factor are checked.
+-- What the files of a team lead to, in the one order of refusals: each file, an agent's domain and then its
+-- problem, is looked for and measured; then each text is read and its shape looked at; then names, numbers of
+-- terms and declarations of each agent's factor are checked.
 use Rattle.std.specs.Prelude.{ℕ, List, Ok, Err}
 use Rattle.mp_factor.specs.declared.factor.Factor.{Factor}
 use Rattle.mp_factor.specs.declared.files.File.TheVariants as file

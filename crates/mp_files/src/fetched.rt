@@ -1,6 +1,7 @@
 //! The texts of the files of a team. All are fetched before one is looked at.
 
-ghost use Rattle.std.specs.Prelude.{◌≡◌, ◌+◌, ◌<◌, ◌≤◌, OnOk, IfOk, IfErr, IfSome, All, length, map, slice_get, Some, vec_len};
+ghost use Rattle.std.specs.Prelude.{◌≡◌, ◌+◌, ◌<◌, ◌≤◌};
+ghost use Rattle.std.specs.Prelude.{OnOk, IfOk, IfErr, IfSome, All, length, map, slice_get, Some, vec_len};
 ghost use Rattle.mp_files.specs.Cause.{AreFittingBefore, IsFittingBefore, IsOfReading, Rests, name_in, seen_source};
 ghost use Rattle.mp_files.specs.Fetched.{AreAllFetched, AreFetched, IsFetched, IsShort, IsTextOf, names_of, texts_of};
 ghost use Rattle.mp_files.specs.File.{longest_file};
@@ -54,7 +55,8 @@ fn text_of<S: Source>(
     requires own { IfSome (S.held source.old) (λ files. IsFittingBefore files (names_of names.now) file) }
     ensures text { IfOk result (λ text. IsTextOf (S.held source.old) (name_in (names_of names.now) file) text.items) }
     ensures short { IfOk result (λ text. vec_len text ≤ longest_file) }
-    ensures cause { IfErr result (Rests (seen_source S.held S.faults S.fault_at source.old source.new) (map names_of team.now)) }
+    ensures cause { IfErr result (Rests
+        (seen_source S.held S.faults S.fault_at source.old source.new) (map names_of team.now)) }
     ensures no_fault { IfOk result (λ _. S.faults source.new ≡ S.faults source.old) }
     ensures fault { IfErr result (λ r. S.faults source.old < S.faults source.new → IsOfReading r) }
     ensures held { S.held source.new ≡ S.held source.old }
@@ -80,7 +82,8 @@ fn texts_of_agent<S: Source>(
     requires before { IfSome (S.held source.old) (λ files. AreFittingBefore files (map names_of team.now) agent) }
     ensures texts { IfOk result (λ texts. IsFetched (S.held source.old) agent (names_of names.now) (texts_of texts)) }
     ensures short { IfOk result (λ texts. IsShort (texts_of texts)) }
-    ensures cause { IfErr result (Rests (seen_source S.held S.faults S.fault_at source.old source.new) (map names_of team.now)) }
+    ensures cause { IfErr result (Rests
+        (seen_source S.held S.faults S.fault_at source.old source.new) (map names_of team.now)) }
     ensures no_fault { IfOk result (λ _. S.faults source.new ≡ S.faults source.old) }
     ensures fault { IfErr result (λ r. S.faults source.old < S.faults source.new → IsOfReading r) }
     ensures held { S.held source.new ≡ S.held source.old }
@@ -101,10 +104,12 @@ fn fetch_next<S: Source>(
     requires there { slice_get team.now (length texts.old.items) ≡ Some names.now }
     requires before { AreFetched (S.held source.old) (map names_of team.now) (map texts_of texts.old.items) }
     requires short { All (λ t. IsShort (texts_of t)) texts.old.items }
-    ensures texts { OnOk result (AreFetched (S.held source.old) (map names_of team.now) (map texts_of texts.new.items)) }
+    ensures texts { OnOk result (AreFetched
+        (S.held source.old) (map names_of team.now) (map texts_of texts.new.items)) }
     ensures count { OnOk result (length texts.new.items ≡ length texts.old.items + 1) }
     ensures short { OnOk result (All (λ t. IsShort (texts_of t)) texts.new.items) }
-    ensures cause { IfErr result (Rests (seen_source S.held S.faults S.fault_at source.old source.new) (map names_of team.now)) }
+    ensures cause { IfErr result (Rests
+        (seen_source S.held S.faults S.fault_at source.old source.new) (map names_of team.now)) }
     ensures no_fault { OnOk result (S.faults source.new ≡ S.faults source.old) }
     ensures fault { IfErr result (λ r. S.faults source.old < S.faults source.new → IsOfReading r) }
     ensures held { S.held source.new ≡ S.held source.old }
@@ -119,10 +124,12 @@ pub(crate) fn team_texts<S: Source>(
     source: &mut S,
     team: &[AgentFiles<'_>],
 ) -> Result<Vec<AgentTexts>, Refusal>
-    ensures texts { IfOk result (λ texts. AreAllFetched (S.held source.old) (map names_of team.now) (map texts_of texts.items)) }
+    ensures texts { IfOk result (λ texts. AreAllFetched
+        (S.held source.old) (map names_of team.now) (map texts_of texts.items)) }
     ensures number { IfOk result (λ texts. length texts.items ≡ length team.now) }
     ensures short { IfOk result (λ texts. All (λ t. IsShort (texts_of t)) texts.items) }
-    ensures cause { IfErr result (Rests (seen_source S.held S.faults S.fault_at source.old source.new) (map names_of team.now)) }
+    ensures cause { IfErr result (Rests
+        (seen_source S.held S.faults S.fault_at source.old source.new) (map names_of team.now)) }
     ensures no_fault { IfOk result (λ _. S.faults source.new ≡ S.faults source.old) }
     ensures fault { IfErr result (λ r. S.faults source.old < S.faults source.new → IsOfReading r) }
     ensures held { S.held source.new ≡ S.held source.old }

@@ -34,7 +34,8 @@ fn with_problem(
     requires { vec_len problem ≤ longest_file }
     ensures said { IfOk result (λ parts. Then (SaysProblem (file_of_agent agent File.Problem) problem.items)
         (λ p. Gives (record { domain = domain; problem = p })) (Ok (parts_of parts))) }
-    ensures cause { IfErr result (Refuses {X = Parts} (Then (SaysProblem (file_of_agent agent File.Problem) problem.items)
+    ensures cause { IfErr result (Refuses {X = Parts} (Then
+        (SaysProblem (file_of_agent agent File.Problem) problem.items)
         (λ p. Gives (record { domain = domain; problem = p })))) }
 {
     let problem = problem_of_text(alloc, problem, file_of(agent, File::Problem))?;

@@ -5,7 +5,8 @@ ghost use Rattle.mp_factor.specs.Values.Files.{domain_value, problem_value};
 ghost use Rattle.mp_factor.specs.Faults.Files.{domain_faults, problem_faults};
 ghost use Rattle.mp_sexp.specs.Node.{node_of};
 ghost use Rattle.mp_sexp.specs.Spelling.{HasTree};
-ghost use Rattle.mp_files.specs.File.{Checks, HasShape, SaysDomain, SaysProblem, Spells, file_of as file_of_agent, longest_file, told_check, told_shape};
+ghost use Rattle.mp_files.specs.File.{Checks, HasShape, SaysDomain, SaysProblem, Spells, longest_file};
+ghost use Rattle.mp_files.specs.File.{file_of as file_of_agent, told_check, told_shape};
 ghost use Rattle.mp_files.specs.Reading.{Refuses};
 
 use crate::refusal::{Fault, FileOf, Refusal};
@@ -75,8 +76,10 @@ fn refusal_of_check(agent: usize, refusal: CheckRefusal) -> Refusal
 
 /// What a domain's tree says.
 fn said_domain(alloc: Global, tree: &Tree, file: FileOf) -> Result<Domain, Refusal>
-    ensures said { IfOk result (λ said. HasShape file (domain_faults (node_of tree.now)) (domain_value (node_of tree.now)) (Ok said)) }
-    ensures cause { IfErr result (Refuses (HasShape file (domain_faults (node_of tree.now)) (domain_value (node_of tree.now)))) }
+    ensures said { IfOk result (λ said. HasShape file
+        (domain_faults (node_of tree.now)) (domain_value (node_of tree.now)) (Ok said)) }
+    ensures cause { IfErr result (Refuses (HasShape file
+        (domain_faults (node_of tree.now)) (domain_value (node_of tree.now)))) }
 {
     match domain(alloc, tree) {
         Ok(said) => Ok(said),
@@ -86,8 +89,10 @@ fn said_domain(alloc: Global, tree: &Tree, file: FileOf) -> Result<Domain, Refus
 
 /// What a problem's tree says.
 fn said_problem(alloc: Global, tree: &Tree, file: FileOf) -> Result<Problem, Refusal>
-    ensures said { IfOk result (λ said. HasShape file (problem_faults (node_of tree.now)) (problem_value (node_of tree.now)) (Ok said)) }
-    ensures cause { IfErr result (Refuses (HasShape file (problem_faults (node_of tree.now)) (problem_value (node_of tree.now)))) }
+    ensures said { IfOk result (λ said. HasShape file
+        (problem_faults (node_of tree.now)) (problem_value (node_of tree.now)) (Ok said)) }
+    ensures cause { IfErr result (Refuses (HasShape file
+        (problem_faults (node_of tree.now)) (problem_value (node_of tree.now)))) }
 {
     match problem(alloc, tree) {
         Ok(said) => Ok(said),

@@ -26,16 +26,18 @@ fn factors_of_texts(alloc: Global, texts: Vec<AgentTexts>) -> Result<List<Checke
 
 /// The factors of the agents of a team, whose files have these names: each file is looked for and measured, an agent's
 /// domain and then its problem, one agent after another; then each text is read and its shape looked at; then each
-/// agent's factor is checked. The first of these that goes wrong is answered. Where the source's count of faults rose, a
-/// file cannot be read. Refuses also for want of memory.
+/// agent's factor is checked. The first of these that goes wrong is answered. Where the source's count of faults rose,
+/// a file cannot be read. Refuses also for want of memory.
 pub fn read_team<S: Source>(
     alloc: Global,
     source: &mut S,
     names: &[AgentFiles<'_>],
 ) -> Result<List<CheckedFactor>, Refusal>
-    ensures team { IfOk result (λ team. IfSome (S.held source.old) (λ files. HoldsTeam files (map names_of names.now) team)) }
+    ensures team { IfOk result (λ team. IfSome (S.held source.old)
+        (λ files. HoldsTeam files (map names_of names.now) team)) }
     ensures number { IfOk result (λ team. length team ≡ length names.now) }
-    ensures cause { IfErr result (Rests (seen_source S.held S.faults S.fault_at source.old source.new) (map names_of names.now)) }
+    ensures cause { IfErr result (Rests
+        (seen_source S.held S.faults S.fault_at source.old source.new) (map names_of names.now)) }
     ensures no_fault { IfOk result (λ _. S.faults source.new ≡ S.faults source.old) }
     ensures fault { IfErr result (λ r. S.faults source.old < S.faults source.new → IsOfReading r) }
 {

@@ -1,12 +1,12 @@
 -- An agent that is alone, with a heuristic that knows nothing, expands each state once at most, so that it is spent only where it may
 -- expand fewer entries than there are states.
-use Rattle.std.proofs.Common.{◌≡◌, ◌≢◌, ℕ, zero, suc, ◌+◌, ◌-◌, ◌<◌, ◌≤◌, ◌^◌, ◌⊎◌, Bool, true, false, ◌&&◌, List, [], ◌∷◌, ◌++◌, length, map, get_or, Option, Some, None, All, refl, sym, ap, subst, ◌∙◌, arith, inl, inr}
-use Rattle.std.specs.Prelude.{Contains, IfSome, Ok, ◌==◌, if◌then◌else◌, not, slice_get, slice_index_or}
+use Rattle.std.proofs.Common.{◌≡◌, ℕ, ◌+◌, ◌-◌, ◌<◌, ◌≤◌, ◌^◌, ◌⊎◌, Bool, true, false, List, [], ◌∷◌, ◌++◌, length, map, Option, Some, All, refl, sym, ap, subst, ◌∙◌, arith, inl, inr}
+use Rattle.std.specs.Prelude.{Contains, Ok, ◌==◌, if◌then◌else◌, not, slice_get, slice_index_or}
 use Rattle.std.specs.Option.{option_map_or}
-use Rattle.std.proofs.lemmas.Bool.{and_parts, cases_eq, cases_lt, eqb-false, eqb-true, false≢true}
+use Rattle.std.proofs.lemmas.Bool.{and_parts, cases_eq, cases_lt, eqb-true, false≢true}
 use Rattle.std.proofs.lemmas.List.{length-map}
 use Rattle.std.proofs.lemmas.Option.{get_or_from_slice_get, none-some, same_Some, slice_get_within}
-use Rattle.mp_list.proofs.Members.{contains_cases, contains_head, contains_tail, no_member}
+use Rattle.mp_list.proofs.Members.{contains_cases, no_member}
 use Rattle.mp_task.specs.Agree.{Agree}
 use Rattle.mp_task.specs.AgentTask.{AgentTask}
 use Rattle.mp_task.specs.Limits.{IsWithinLimits}
@@ -15,7 +15,7 @@ use Rattle.mp_messages.specs.declared.history.Event.TheVariants.{Expand, Take, S
 use Rattle.mp_store.specs.declared.entry.Entry.{Entry}
 use Rattle.mp_store.specs.declared.entry.Mark.TheVariants.{Expanded, Open}
 use Rattle.mp_store.specs.Laws.{IsSound}
-use Rattle.mp_store.specs.Record.{Record, is_open}
+use Rattle.mp_store.specs.Record.{is_open}
 use Rattle.mp_search.specs.AgentState.{AgentState, no_tag, same_state}
 use Rattle.mp_search.specs.Expansion.{expanded}
 use Rattle.mp_search.specs.Search.{SearchRecord, is_open_below, is_spent, may_expand}
@@ -27,7 +27,7 @@ use Rattle.mp_machine.specs.Outgoing.{Step}
 use Rattle.mp_machine.specs.Snapshots.{started}
 use Rattle.mp_world.specs.Events.{agent_of, run}
 use Rattle.mp_world.specs.Steps.{IsStepOf}
-use Rattle.mp_world.specs.World.{IsTeamWorld, World, agent_at, start_world}
+use Rattle.mp_world.specs.World.{IsTeamWorld, World, agent_at}
 use Rattle.mp_world.proofs.Agents.{agree_numbered, member_of, sender_of}
 use Rattle.mp_world.proofs.Mail.{agent_of_team}
 use Rattle.mp_world.proofs.Runs.{run_has, run_has_history, run_of_team}
