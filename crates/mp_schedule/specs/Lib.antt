@@ -10,3 +10,7 @@ pub mod Machines
 pub mod Steps
 -- whether an event happened, and parts of a schedule that go on
 pub mod GoingOn
+-- the machines of a team after a legal schedule
+pub mod Finished
+-- the laws of every run of a team
+pub mod Laws

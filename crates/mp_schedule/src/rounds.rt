@@ -5,10 +5,12 @@ ghost use Rattle.mp_messages.specs.declared.history.Event.TheVariants as events;
 ghost use Rattle.mp_machine.specs.Outgoing.{others};
 ghost use Rattle.mp_schedule.specs.GoingOn.{HappensIf, TakesAll};
 ghost use Rattle.mp_schedule.specs.Happening.{IsOfTeam};
+ghost use Rattle.mp_schedule.specs.Laws.{KeepsLaws};
 ghost use Rattle.mp_schedule.specs.TeamRun.{HasDone, IsSameTeam};
 ghost use Rattle.mp_search.specs.Concern.{one_if};
 ghost use Rattle.mp_world.specs.RoundRobin.{ForEach, IfItMay, IsRoundRobin, Round, Rounds, StartsIfFirst, Then, Turn};
 
+use crate::laws::runs_keep_laws;
 use crate::refusal::EventRefusal;
 use crate::team::World;
 use mp_list::OutOfMemory;
@@ -183,16 +185,20 @@ impl<H: Heuristic> World<H> {
     /// expands once if it may, and then agent 1 starts a snapshot if it may.
     ///
     /// It refuses only for want of memory, and after that each call does. The number of rounds is bounded: after
-    /// 2^64 - 1 of them it answers want of memory.
+    /// 2^64 - 1 of them it answers want of memory. The run keeps the laws of runs.
     pub fn round_robin(&mut self) -> Result<(), OutOfMemory>
         ensures again { self.old.failed ≡ true → IsErr result }
         ensures done { OnOk result (HasDone (IsRoundRobin H.value) self.old self.new) }
         ensures failed { OnErr result (self.new.failed ≡ true) }
+        ensures laws { OnOk result (KeepsLaws H.value self.new) }
     {
+        runs_keep_laws::<H>();
         if self.has_failed() {
             return Err(OutOfMemory);
         }
         let agents = self.agents();
-        self.rounds(agents)
+        self.rounds(agents)?;
+        self.comes_from_a_run();
+        Ok(())
     }
 }

@@ -1,12 +1,17 @@
 //! A team that runs on one thread.
 
-ghost use Rattle.std.specs.Prelude.{◌≡◌, ◌≤◌, length, map, true, false, All, Err, IfOk, OnOk};
+ghost use Rattle.std.specs.Prelude.{◌≡◌, ◌≤◌, ℕ, length, map, not, true, false, All, IfOk, OnOk};
+ghost use Rattle.std.specs.List.{list_all};
 ghost use Rattle.mp_machine.specs.AgentRecord.{is_going};
+ghost use Rattle.mp_messages.specs.declared.history.Event.TheVariants as events;
 ghost use Rattle.mp_schedule.specs.Happening.{IsAnswer, IsOfTeam};
+ghost use Rattle.mp_schedule.specs.Laws.{KeepsLaws};
 ghost use Rattle.mp_schedule.specs.Machines.{AreNew, IsFree, limit_of, tasks_of};
 ghost use Rattle.mp_schedule.specs.TeamRun.{IsRun, IsSameTeam, IsTeam, start_run};
+ghost use Rattle.mp_team_explored.specs.Expansions.{ExpandsOne};
 ghost use Rattle.mp_world.specs.RoundRobin.{is_over};
 
+use crate::laws::runs_keep_laws;
 use crate::mail::Mail;
 use crate::refusal::EventRefusal;
 use crate::steps::{happen, refusal_of};
@@ -56,14 +61,28 @@ fn is_going<H: Heuristic>(machine: &Machine<H>) -> bool
     }
 }
 
+/// Whether all agents have ended.
+pub(crate) fn have_ended<H: Heuristic>(machines: &[Machine<H>]) -> bool
+    ensures { result ≡ list_all (λ r. not (is_going r.ending)) (map (λ m. m.done) machines.now) }
+{
+    for machine in machines {
+        if is_going(machine) {
+            return false;
+        }
+    }
+    true
+}
+
 impl<H: Heuristic> World<H> {
     /// A team at the start. Its machines are new, 1 to 16 of them, their tasks agree and are within the limits, and
-    /// each may expand as many entries, at most 10,000,000. Refuses only for want of memory.
+    /// each may expand as many entries, at most 10,000,000. It keeps the laws of runs. Refuses only for want of memory.
     pub fn new(alloc: Global, machines: Vec<Machine<H>>) -> Result<World<H>, OutOfMemory>
         requires { AreNew H.value machines.items }
-        ensures { IfOk result (λ made. made
+        ensures made { IfOk result (λ made. made
             ≡ start_run H.value (limit_of machines.items) (tasks_of machines.items)) }
+        ensures laws { IfOk result (KeepsLaws H.value) }
     {
+        runs_keep_laws::<H>();
         let mail = Mail::new(alloc, machines.len())?;
         Ok(World {
             alloc,
@@ -79,10 +98,16 @@ impl<H: Heuristic> World<H> {
     /// It refuses with `NotNow` exactly where its agent may not do it, and otherwise with `Empty` exactly where there
     /// is no message that it could take; then nothing has changed. No agent finds its message to be a bad one. After
     /// want of memory it refuses each event so.
+    ///
+    /// As long as memory has not run out, the run keeps its laws. An expansion that happens is not wasted.
     pub fn event(&mut self, event: Event) -> Result<(), EventRefusal>
         requires { IsOfTeam (length self.old.tasks) event }
-        ensures { IsAnswer H.value self.old event result self.new }
+        ensures answer { IsAnswer H.value self.old event result self.new }
+        ensures laws { self.new.failed ≡ false → KeepsLaws H.value self.new }
+        ensures one { OnOk result ((agent : ℕ) → event ≡ events.Expand agent
+            → ExpandsOne self.old.world agent self.new.world) }
     {
+        runs_keep_laws::<H>();
         if self.failed {
             return Err(EventRefusal::OutOfMemory);
         }
@@ -112,12 +137,7 @@ impl<H: Heuristic> World<H> {
     pub fn over(&self) -> bool
         ensures { result ≡ is_over self.now.world }
     {
-        for machine in &self.machines {
-            if is_going(machine) {
-                return false;
-            }
-        }
-        true
+        have_ended(self.machines.as_slice())
     }
 
     /// The machines of the agents, agent 1 first. None has been stopped, unless memory ran out.
@@ -133,6 +153,14 @@ impl<H: Heuristic> World<H> {
         ensures { result.now ≡ self.now.log }
     {
         &self.log
+    }
+
+    /// The log, and nothing else of the team.
+    pub fn into_log(self) -> Log
+        ensures { result ≡ self.log }
+    {
+        let World { log, .. } = self;
+        log
     }
 
     /// How many agents there are.

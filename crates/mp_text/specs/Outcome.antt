@@ -7,9 +7,9 @@ use Rattle.mp_messages.specs.History.{schedule}
 use Rattle.mp_messages.specs.declared.history.Entry.{Entry}
 use Rattle.mp_messages.specs.declared.history.Entry.TheVariants.{Act, Put, Took}
 use Rattle.mp_trail.specs.declared.steps.Timed.{Timed}
-use Rattle.mp_uniform.specs.declared.answer.Answer.{Answer}
-use Rattle.mp_uniform.specs.declared.answer.Answer.TheVariants.{Nothing, Solved, Unsolvable, Undecided}
-use Rattle.mp_text.specs.declared.outcome.Outcome.{Outcome}
+use Rattle.mp_world.specs.declared.answer.Answer.{Answer}
+use Rattle.mp_world.specs.declared.answer.Answer.TheVariants.{Nothing, Solved, Unsolvable, Undecided}
+use Rattle.mp_world.specs.declared.outcome.Outcome.{Outcome}
 use Rattle.mp_text.specs.Lines.{Text, text_of_lines}
 
 -- `T: (NAME ARG ..)`: the time, and the name and each argument after a blank

@@ -10,7 +10,7 @@ mod trace;
 mod write;
 
 pub use laws::traces_are_read_again;
-pub use outcome::{Outcome, ShareList, outcome_text};
+pub use outcome::outcome_text;
 pub use schedule::{EventLine, EventLines, LineRefusal, read_schedule};
 pub use trace::trace_text;
 

@@ -11,20 +11,8 @@ use mp_joint::{Names, PlanStep};
 use mp_list::{List, OutOfMemory};
 use mp_messages::{Bytes, Entry, Log};
 use mp_trail::{Share, Timed};
-use mp_uniform::Answer;
+use mp_world::{Answer, Outcome};
 use std::alloc::Global;
-
-/// The share of a plan that each agent has, in the order of the agents.
-pub type ShareList = List<Share>;
-
-/// What a team of agents found.
-#[derive(Drop)]
-pub struct Outcome {
-    /// What is known of the problem.
-    pub answer: Answer,
-    /// The own actions of each agent, where the problem is solved.
-    pub shares: ShareList,
-}
 
 /// Appends a label and a number.
 fn push_labelled(text: &mut Bytes, label: &[u8], number: u128) -> Result<(), OutOfMemory>

@@ -1,13 +1,13 @@
 //! Schedules, traces and outcomes as a caller meets them.
 
-use crate::{EventLines, LineRefusal, Outcome, outcome_text, read_schedule, trace_text};
+use crate::{EventLines, LineRefusal, outcome_text, read_schedule, trace_text};
 use mp_joint::{Names, PlanStep};
 use mp_list::{List, OutOfMemory};
 use mp_messages::{Bytes, Entry, Kind, Log};
 use mp_sets::Agent;
 use mp_sexp::Name;
 use mp_trail::{Share, Timed};
-use mp_uniform::Answer;
+use mp_world::{Answer, Outcome};
 use std::alloc::Global;
 use std::test::Fail;
 

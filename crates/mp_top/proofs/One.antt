@@ -1,177 +1,129 @@
--- What the files of a request lead to is one thing alone.
-use Rattle.std.proofs.Common.{◌≡◌, ◌<◌, ◌≤◌, ◌⊎◌, inl, inr, ℕ, zero, suc, List, [], length, Option, Some, None, Result, Ok, Err, refl, sym, ap, ◌∙◌, subst, arith}
-use Rattle.std.specs.Prelude.{Bool, true, false, Contains}
-use Rattle.mp_factor.specs.FactorParts.{DomainParts, ProblemParts}
-use Rattle.mp_factor.specs.Values.Files.{domain_value, problem_value}
-use Rattle.mp_factor.specs.Faults.Files.{domain_faults, problem_faults}
-use Rattle.mp_factor.specs.Faults.First.{IsFirst as IsFirstOf}
-use Rattle.mp_factor.specs.Fault.{Fault as ShapeFault}
+-- The files of a team have at most one first refusal.
+use Rattle.std.proofs.Common.{◌≡◌, ◌<◌, ◌≤◌, ◌⊎◌, inl, inr, ℕ, zero, suc, List, Some, Ok, refl, sym, ap, ◌∙◌, subst, arith}
+use Rattle.std.specs.Prelude.{slice_get}
+use Rattle.std.proofs.lemmas.Option.{same_Some}
 use Rattle.mp_factor.specs.declared.factor.Factor.{Factor}
-use Rattle.mp_joint.specs.Fact.{Text}
-use Rattle.mp_outside.specs.Source.{Files}
-use Rattle.mp_sexp.specs.Fault.{ReadFault}
-use Rattle.mp_sexp.specs.Node.{Node}
-use Rattle.mp_sexp.specs.Spelling.{HasTree}
-use Rattle.mp_factor.specs.declared.files.File.{File}
-use Rattle.mp_factor.specs.declared.files.File.TheVariants as file
-use Rattle.mp_sexp.specs.declared.refusal.ReadRefusal.{ReadRefusal}
-use Rattle.mp_top.specs.Files.{Fetches, Spells, HasShape, SaysDomain, SaysProblem, Checks, HasPlainForm, MakesFactor, ReadsTexts, Reads, HoldsFactor, IsFirst, longest_file, text_refusal, shape_refusal, check_refusal}
-use Rattle.mp_plain.specs.PlainForm.{is_plain_domain, is_plain_problem}
-use Rattle.mp_typing.specs.CheckFaults.{check_faults}
-use Rattle.mp_typing.specs.FirstFault.{IsFirst as IsFirstCheck}
-use Rattle.mp_typing.specs.declared.fault.Fault.{Fault as CheckFault}
-use Rattle.mp_top.specs.Words.{Request}
+use Rattle.mp_files.specs.Team.{HoldsTeam, Two}
+use Rattle.mp_files.proofs.One.{Laws, one_read, one_first as one_of_files, found_none as none_of_files}
+use Rattle.mp_files.proofs.Readings.{same_ok}
+use Rattle.mp_ground.specs.Grounded.{Known}
+use Rattle.mp_ground.specs.Limits.{IsRefusedBy, IsWithin, actions, facts, tries}
+use Rattle.mp_ground.specs.declared.refusal.GroundRefusal.{GroundRefusal}
+use Rattle.mp_ground.specs.declared.refusal.GroundRefusal.TheVariants.{TooManyTries, TooManyActions, TooManyFacts, OutOfMemory}
+use Rattle.mp_outside.specs.Source.{Files as Held}
+use Rattle.mp_split.specs.Team.{IsFirstRefusal, known_at}
+use Rattle.mp_top.specs.First.{IsFirst, IsFirstSize}
 use Rattle.mp_top.specs.declared.refusal.Refusal.{Refusal}
-use Rattle.mp_top.specs.declared.refusal.Refusal.TheVariants as why
-use Rattle.mp_top.proofs.ReadingLemmas.{IsOne, one_then, ok_err, as_err}
+use Rattle.mp_top.specs.declared.refusal.Refusal.TheVariants.{Files, Sizes}
 
--- the laws that are used: one tree and one first fault of a text, not both, and one first fault of a tree and of a
--- factor
-pub record Laws : Type 0 where
-  pub one_tree : (text : Text) (m n : Node) → HasTree text m → HasTree text n → m ≡ n
-  pub one_fault : (text : Text) (e f : ReadRefusal) → ReadFault text e → ReadFault text f → e ≡ f
-  pub not_both : (text : Text) (n : Node) (e : ReadRefusal) → HasTree text n → ReadFault text e → ⊥
-  pub one_first : (faults : List ShapeFault) (a b : ShapeFault) → IsFirstOf faults a → IsFirstOf faults b → a ≡ b
-  pub one_check : (faults : List CheckFault) (a b : CheckFault) → IsFirstCheck faults a → IsFirstCheck faults b → a ≡ b
+-- a refusal for a size
+abbrev IsSize : GroundRefusal → Type 0
+IsSize (TooManyTries agent) = Unit {0}
+IsSize (TooManyActions agent n) = Unit {0}
+IsSize (TooManyFacts agent n) = Unit {0}
+IsSize OutOfMemory = ⊥
 
--- what is refused of a file, by what is found under its name
-fetched_none : (at : File) (v : Result Text Refusal) → Fetches None at v → v ≡ Err (why.Read at)
-fetched_none at (Ok t) h = absurd (cc)
-fetched_none at (Err (why.Read other)) h = ap (λ a. Err (why.Read a)) h.0
-fetched_none at (Err (why.TooLarge other)) h = absurd h.1
-fetched_none at (Err (why.Fault other kind place)) h = absurd h
-fetched_none at (Err (why.NotBuilt other)) h = absurd h
-fetched_none at (Err why.OutOfMemory) h = absurd h
+-- the factor of an agent that keeps the limits is not refused
+breaks : (k : Known) (r : GroundRefusal) → IsSize r → IsWithin k → IsRefusedBy k r → ⊥
+breaks k (TooManyTries agent) size within h = let least = within.tries in let more = h.1 in omega (arith, least, more)
+breaks k (TooManyActions agent n) size within h =
+    let least = within.actions in let more : 200000 < actions k = subst (λ m. 200000 < m) h.2 h.3 in omega (arith, least, more)
+breaks k (TooManyFacts agent n) size within h =
+    let least = within.facts in let more : 65535 < facts k = subst (λ m. 65535 < m) h.3 h.4 in omega (arith, least, more)
+breaks k OutOfMemory size within h = size
 
-fetched_short : (text : Text) (at : File) (v : Result Text Refusal) → length text ≤ longest_file → Fetches (Some text) at v → v ≡ Ok text
-fetched_short text at (Ok t) le h = cc
-fetched_short text at (Err (why.Read other)) le h = absurd (cc)
-fetched_short text at (Err (why.TooLarge other)) le h = absurd (omega (arith, le, h.1))
-fetched_short text at (Err (why.Fault other kind place)) le h = absurd h
-fetched_short text at (Err (why.NotBuilt other)) le h = absurd h
-fetched_short text at (Err why.OutOfMemory) le h = absurd h
+same_actions : (a b m n : ℕ) → a ≡ b → m ≡ n → TooManyActions a m ≡ TooManyActions b n
+same_actions a b m n e f = cc
 
-fetched_long : (text : Text) (at : File) (v : Result Text Refusal) → longest_file < length text → Fetches (Some text) at v → v ≡ Err (why.TooLarge at)
-fetched_long text at (Ok t) lt h =
-    let same : text ≡ t = cc in
-    let short : length text ≤ longest_file = subst (λ x. length x ≤ longest_file) (sym same) h.1 in
-    absurd (omega (arith, lt, short))
-fetched_long text at (Err (why.Read other)) lt h = absurd (cc)
-fetched_long text at (Err (why.TooLarge other)) lt h = ap (λ a. Err (why.TooLarge a)) h.0
-fetched_long text at (Err (why.Fault other kind place)) lt h = absurd h
-fetched_long text at (Err (why.NotBuilt other)) lt h = absurd h
-fetched_long text at (Err why.OutOfMemory) lt h = absurd h
+same_facts : (a b m n : ℕ) → a ≡ b → m ≡ n → TooManyFacts a m ≡ TooManyFacts b n
+same_facts a b m n e f = cc
 
-short_or_long : (n m : ℕ) → (n ≤ m) ⊎ (m < n)
-short_or_long zero m = inl (omega arith)
-short_or_long (suc n) zero = inr (omega arith)
-short_or_long (suc n) (suc m) =
-    elim (short_or_long n m) [
-      | inl le ↦ inl (omega (arith, le))
-      | inr lt ↦ inr (omega (arith, lt))
+not_more : (n most : ℕ) {A : Type 0} → n ≤ most → most < n → A
+not_more n most least more = absurd (omega (arith, least, more))
+
+-- an agent has one refusal for a size
+one_size : (k : Known) (r s : GroundRefusal) → IsSize r → IsSize s → IsRefusedBy k r → IsRefusedBy k s → r ≡ s
+one_size k (TooManyTries a) (TooManyTries b) p q h g = ap TooManyTries (h.0 ∙ sym g.0)
+one_size k (TooManyTries a) (TooManyActions b n) p q h g = not_more (tries k) 50000000 g.1 h.1
+one_size k (TooManyTries a) (TooManyFacts b n) p q h g = not_more (tries k) 50000000 g.1 h.1
+one_size k (TooManyActions a m) (TooManyTries b) p q h g = not_more (tries k) 50000000 h.1 g.1
+one_size k (TooManyActions a m) (TooManyActions b n) p q h g = same_actions a b m n (h.0 ∙ sym g.0) (h.2 ∙ sym g.2)
+one_size k (TooManyActions a m) (TooManyFacts b n) p q h g = not_more (actions k) 200000 g.2 (subst (λ i. 200000 < i) h.2 h.3)
+one_size k (TooManyFacts a m) (TooManyTries b) p q h g = not_more (tries k) 50000000 h.1 g.1
+one_size k (TooManyFacts a m) (TooManyActions b n) p q h g = not_more (actions k) 200000 h.2 (subst (λ i. 200000 < i) g.2 g.3)
+one_size k (TooManyFacts a m) (TooManyFacts b n) p q h g = same_facts a b m n (h.0 ∙ sym g.0) (h.3 ∙ sym g.3)
+one_size k OutOfMemory s p q h g = absurd p
+one_size k (TooManyTries a) OutOfMemory p q h g = absurd q
+one_size k (TooManyActions a m) OutOfMemory p q h g = absurd q
+one_size k (TooManyFacts a m) OutOfMemory p q h g = absurd q
+
+of_size : (team : List Factor) (r : GroundRefusal) → IsFirstSize team r → IsSize r × IsFirstRefusal team r
+of_size team (TooManyTries agent) h = (tt, h)
+of_size team (TooManyActions agent n) h = (tt, h)
+of_size team (TooManyFacts agent n) h = (tt, h)
+of_size team OutOfMemory h = absurd h
+
+in_order : (m n : ℕ) → (m < n) ⊎ ((n < m) ⊎ (m ≡ n))
+in_order zero zero = inr (inr refl)
+in_order zero (suc n) = inl (omega arith)
+in_order (suc m) zero = inr (inl (omega arith))
+in_order (suc m) (suc n) =
+    elim (in_order m n) [
+      | inl l ↦ inl (omega (arith, l))
+      | inr w ↦ elim w [
+        | inl l ↦ inr (inl (omega (arith, l)))
+        | inr e ↦ inr (inr (ap suc e))
+      ]
     ]
 
-one_fetched : (found : Option Text) (at : File) → IsOne (Fetches found at)
-one_fetched None at v w h k = fetched_none at v h ∙ sym (fetched_none at w k)
-one_fetched (Some text) at v w h k =
-    elim (short_or_long (length text) longest_file) [
-      | inl le ↦ fetched_short text at v le h ∙ sym (fetched_short text at w le k)
-      | inr lt ↦ fetched_long text at v lt h ∙ sym (fetched_long text at w lt k)
-    ]
+module _ (team : List Factor) where
+  not_earlier : (r s : GroundRefusal) (h : IsFirstRefusal team r) (g : IsFirstRefusal team s) → IsSize r → h.place < g.place → ⊥
+  not_earlier r s h g size less =
+      breaks (known_at team h.place h.factor) r size (g.earlier h.place h.factor less h.at) h.refused
 
-one_spelled : Laws → (at : File) (text : Text) → IsOne (Spells at text)
-one_spelled laws at text (Ok m) (Ok n) h k = ap Ok (laws.one_tree text m n h k)
-one_spelled laws at text (Ok m) (Err r) h k = absurd (laws.not_both text m k.0 h k.1)
-one_spelled laws at text (Err r) (Ok n) h k = absurd (laws.not_both text n h.0 k h.1)
-one_spelled laws at text (Err r) (Err s) h k =
-    ap Err (h.2 ∙ ap (text_refusal at) (laws.one_fault text h.0 k.0 h.1 k.1) ∙ sym k.2)
+  same_place : (r s : GroundRefusal) (h : IsFirstRefusal team r) (g : IsFirstRefusal team s) → IsSize r → IsSize s → h.place ≡ g.place → r ≡ s
+  same_place r s h g size other e =
+      let there : slice_get team h.place ≡ Some g.factor = subst (λ i. slice_get team i ≡ Some g.factor) (sym e) g.at in
+      let same : h.factor ≡ g.factor = same_Some h.factor g.factor (sym h.at ∙ there) in
+      let also : IsRefusedBy (known_at team h.place h.factor) s =
+      subst (λ f. IsRefusedBy (known_at team h.place f) s) (sym same) (subst (λ i. IsRefusedBy (known_at team i g.factor) s) (sym e) g.refused) in
+      one_size (known_at team h.place h.factor) r s size other h.refused also
 
-none_first : (faults : List ShapeFault) (first : ShapeFault) → faults ≡ [] → IsFirstOf faults first → ⊥
-none_first faults first none is =
-    let among : Contains [] first = subst (λ fs. Contains fs first) none is.among in
-    absurd (omega (arith, among.1))
+  one_refusal : (r s : GroundRefusal) → IsSize r → IsSize s → (h : IsFirstRefusal team r) (g : IsFirstRefusal team s) → r ≡ s
+  one_refusal r s size other h g =
+      elim (in_order h.place g.place) [
+        | inl l ↦ absurd (not_earlier r s h g size l)
+        | inr w ↦ elim w [
+          | inl l ↦ absurd (not_earlier s r g h other l)
+          | inr e ↦ same_place r s h g size other e
+        ]
+      ]
 
-one_shape : {X : Type 0} → Laws → (at : File) (faults : List ShapeFault) (value : X) → IsOne (HasShape at faults value)
-one_shape laws at faults value (Ok m) (Ok n) h k = ap Ok (h.0 ∙ sym k.0)
-one_shape laws at faults value (Ok m) (Err r) h k = absurd (none_first faults k.0 h.1 k.1)
-one_shape laws at faults value (Err r) (Ok n) h k = absurd (none_first faults h.0 k.1 h.1)
-one_shape laws at faults value (Err r) (Err s) h k =
-    ap Err (h.2 ∙ ap (shape_refusal at) (laws.one_first faults h.0 k.0 h.1 k.1) ∙ sym k.2)
+  one_first_size : (r s : GroundRefusal) → IsFirstSize team r → IsFirstSize team s → r ≡ s
+  one_first_size r s h g =
+      let p = of_size team r h in
+      let q = of_size team s g in
+      one_refusal r s p.0 q.0 p.1 q.1
 
-one_domain : Laws → (text : Text) → IsOne (SaysDomain text)
-one_domain laws text =
-    one_then (Spells file.Domain text) _ (one_spelled laws file.Domain text) (λ node. one_shape laws file.Domain (domain_faults node) (domain_value node))
+  no_size : (r : GroundRefusal) → ((place : ℕ) (factor : Factor) → slice_get team place ≡ Some factor → IsWithin (known_at team place factor)) → IsFirstSize team r → ⊥
+  no_size r within h =
+      let p = of_size team r h in
+      breaks (known_at team p.1.place p.1.factor) r p.0 (within p.1.place p.1.factor p.1.at) p.1.refused
 
-one_problem : Laws → (text : Text) → IsOne (SaysProblem text)
-one_problem laws text =
-    one_then (Spells file.Problem text) _ (one_spelled laws file.Problem text) (λ node. one_shape laws file.Problem (problem_faults node) (problem_value node))
+-- the files hold one team
+one_team : Laws → (files : Held) (agents : List Two) (team other : List Factor) → HoldsTeam files agents team → HoldsTeam files agents other → team ≡ other
+one_team laws files agents team other h g = same_ok team other (one_read laws files agents (Ok team) (Ok other) h g)
 
-none_checked : (faults : List CheckFault) (first : CheckFault) → faults ≡ [] → IsFirstCheck faults first → ⊥
-none_checked faults first none is =
-    let among : Contains [] first = subst (λ fs. Contains fs first) none is.among in
-    absurd (omega (arith, among.1))
+pub one_first : Laws → (files : Held) (agents : List Two) (r s : Refusal) → IsFirst files agents r → IsFirst files agents s → r ≡ s
+one_first laws files agents (Files r) (Files s) h g = ap Files (one_of_files laws files agents r s h g)
+one_first laws files agents (Files r) (Sizes s) h (team, holds, size) = absurd (none_of_files laws files agents team r holds h)
+one_first laws files agents (Sizes r) (Files s) (team, holds, size) g = absurd (none_of_files laws files agents team s holds g)
+one_first laws files agents (Sizes r) (Sizes s) (team, holds, size) (other, also, too) =
+    let same = one_team laws files agents team other holds also in
+    ap Sizes (one_first_size team r s size (subst (λ t. IsFirstSize t s) (sym same) too))
 
-one_check : Laws → (domain : DomainParts) (problem : ProblemParts) → IsOne (Checks domain problem)
-one_check laws domain problem (Ok a) (Ok b) h k = ap Ok (h.0 ∙ sym k.0)
-one_check laws domain problem (Ok a) (Err r) h k = absurd (none_checked (check_faults domain problem) k.0 h.1 k.1)
-one_check laws domain problem (Err r) (Ok b) h k = absurd (none_checked (check_faults domain problem) h.0 k.1 h.1)
-one_check laws domain problem (Err r) (Err s) h k =
-    ap Err (h.2 ∙ ap check_refusal (laws.one_check (check_faults domain problem) h.0 k.0 h.1 k.1) ∙ sym k.2)
-
--- what a factor's form leads to, by what the two tests answer
-plain_both : (f : Factor) (v : Result Factor Refusal) → is_plain_domain f.domain ≡ true → is_plain_problem f.problem ≡ true → HasPlainForm f v → v ≡ Ok f
-plain_both f (Ok g) d p h = ap Ok h.0
-plain_both f (Err (why.Read at)) d p h = absurd h
-plain_both f (Err (why.TooLarge at)) d p h = absurd h
-plain_both f (Err (why.Fault at kind place)) d p h = absurd h
-plain_both f (Err (why.NotBuilt file.Domain)) d p h = let impossible : ⊥ = cc in absurd impossible
-plain_both f (Err (why.NotBuilt file.Problem)) d p h = let no = h.1 in let impossible : ⊥ = cc in absurd impossible
-plain_both f (Err why.OutOfMemory) d p h = absurd h
-
-other_domain : (f : Factor) (v : Result Factor Refusal) → is_plain_domain f.domain ≡ false → HasPlainForm f v → v ≡ Err (why.NotBuilt file.Domain)
-other_domain f (Ok g) d h = let yes = h.1 in let impossible : ⊥ = cc in absurd impossible
-other_domain f (Err (why.Read at)) d h = absurd h
-other_domain f (Err (why.TooLarge at)) d h = absurd h
-other_domain f (Err (why.Fault at kind place)) d h = absurd h
-other_domain f (Err (why.NotBuilt file.Domain)) d h = refl
-other_domain f (Err (why.NotBuilt file.Problem)) d h = let yes = h.0 in let impossible : ⊥ = cc in absurd impossible
-other_domain f (Err why.OutOfMemory) d h = absurd h
-
-other_problem : (f : Factor) (v : Result Factor Refusal) → is_plain_domain f.domain ≡ true → is_plain_problem f.problem ≡ false → HasPlainForm f v → v ≡ Err (why.NotBuilt file.Problem)
-other_problem f (Ok g) d p h = let yes = h.2 in let impossible : ⊥ = cc in absurd impossible
-other_problem f (Err (why.Read at)) d p h = absurd h
-other_problem f (Err (why.TooLarge at)) d p h = absurd h
-other_problem f (Err (why.Fault at kind place)) d p h = absurd h
-other_problem f (Err (why.NotBuilt file.Domain)) d p h = let impossible : ⊥ = cc in absurd impossible
-other_problem f (Err (why.NotBuilt file.Problem)) d p h = refl
-other_problem f (Err why.OutOfMemory) d p h = absurd h
-
-form_by : (f : Factor) (a b : Bool) (v w : Result Factor Refusal) → is_plain_domain f.domain ≡ a → is_plain_problem f.problem ≡ b → HasPlainForm f v → HasPlainForm f w → v ≡ w
-form_by f false b v w d p h k = other_domain f v d h ∙ sym (other_domain f w d k)
-form_by f true true v w d p h k = plain_both f v d p h ∙ sym (plain_both f w d p k)
-form_by f true false v w d p h k = other_problem f v d p h ∙ sym (other_problem f w d p k)
-
-one_form : (f : Factor) → IsOne (HasPlainForm f)
-one_form f v w h k = form_by f (is_plain_domain f.domain) (is_plain_problem f.problem) v w refl refl h k
-
-one_factor : Laws → (domain : DomainParts) (problem : ProblemParts) → IsOne (MakesFactor domain problem)
-one_factor laws domain problem = one_then (Checks domain problem) HasPlainForm (one_check laws domain problem) one_form
-
-one_of_texts : Laws → (domain problem : Text) → IsOne (ReadsTexts domain problem)
-one_of_texts laws domain problem =
-    one_then (SaysDomain domain) _ (one_domain laws domain)
-    (λ d. one_then (SaysProblem problem) _ (one_problem laws problem) (λ p. one_factor laws d p))
-
--- what the files of a request lead to is one thing alone
-pub one_read : Laws → (files : Files) (request : Request) → IsOne (Reads files request)
-one_read laws files request =
-    one_then (Fetches (files request.domain) file.Domain) _ (one_fetched (files request.domain) file.Domain)
-    (λ domain. one_then (Fetches (files request.problem) file.Problem) _ (one_fetched (files request.problem) file.Problem)
-    (λ problem. one_of_texts laws domain problem))
-
-pub one_first : Laws → (files : Files) (request : Request) (r s : Refusal) → IsFirst files request r → IsFirst files request s → r ≡ s
-one_first laws files request r s h k = as_err (Err r) (Err s) r s (one_read laws files request (Err r) (Err s) h k) refl refl
-
--- where the files hold a factor, no refusal is the first
-pub found_none : Laws → (files : Files) (request : Request) (factor : Factor) (r : Refusal) → HoldsFactor files request factor → IsFirst files request r → ⊥
-found_none laws files request factor r h k = ok_err factor r (one_read laws files request (Ok factor) (Err r) h k)
+pub none_first : Laws → (files : Held) (agents : List Two) (team : List Factor) (r : Refusal) → HoldsTeam files agents team → ((place : ℕ) (factor : Factor) → slice_get team place ≡ Some factor → IsWithin (known_at team place factor)) → IsFirst files agents r → ⊥
+none_first laws files agents team (Files r) holds within h = none_of_files laws files agents team r holds h
+none_first laws files agents team (Sizes r) holds within (other, also, size) =
+    let same = one_team laws files agents team other holds also in
+    no_size team r within (subst (λ t. IsFirstSize t r) (sym same) size)

@@ -3,22 +3,9 @@ use Rattle.std.specs.Prelude.{◌≡◌, ℕ, List, Option}
 use Rattle.std.specs.Io.KnownBytes.{Appends}
 use Rattle.mp_joint.specs.Fact.{Text}
 use Rattle.mp_outside.specs.Sink.{AppendsBeginning}
-use Rattle.mp_outside.specs.Source.{Files}
+use Rattle.mp_files.specs.Cause.{SeenSource}
 use Rattle.mp_top.specs.declared.report.Report.{Report}
 use Rattle.mp_top.specs.declared.status.Status.{Status}
-
--- what a source holds, where it tells, how many faults it had before the call and has now, and at which name the last
--- one came, where it tells
-pub record SeenSource : Type 0 where
-  pub held : Option Files
-  pub before : ℕ
-  pub now : ℕ
-  pub fault_at : Option Text
-
-abbrev pub seen_source : {S : Type 0} → (S → Option Files) → (S → ℕ) → (S → Option Text)
-    → S → S → SeenSource
-seen_source held faults fault_at old new =
-    record { held = held old; before = faults old; now = faults new; fault_at = fault_at new }
 
 -- the bytes of a sink before the call and now, where it tells, and how many faults it had and has
 pub record SeenSink : Type 0 where

@@ -3,16 +3,19 @@ use Rattle.std.specs.Prelude.{◌≡◌, ◌<◌, ◌↔◌, ◌⊎◌, List, []
 use Rattle.std.specs.Io.KnownBytes.{Appends}
 use Rattle.mp_joint.specs.Fact.{Text}
 use Rattle.mp_outside.specs.Sink.{AppendsBeginning}
-use Rattle.mp_uniform.specs.declared.answer.Answer.{Answer}
-use Rattle.mp_uniform.specs.declared.answer.Answer.TheVariants as answer
-use Rattle.mp_factor.specs.declared.files.File.{File}
-use Rattle.mp_top.specs.Answered.{IsOutcome}
-use Rattle.mp_top.specs.Call.{Call, SeenSource, SeenSink, Says}
-use Rattle.mp_top.specs.Cause.{CannotRead, Rests}
-use Rattle.mp_top.specs.Files.{IsFirst}
-use Rattle.mp_top.specs.Refusal.{status_of, line_of, words_line, write_line}
+use Rattle.mp_world.specs.declared.answer.Answer.{Answer}
+use Rattle.mp_world.specs.declared.answer.Answer.TheVariants as answer
+use Rattle.mp_files.specs.Cause.{CannotRead, SeenSource}
+use Rattle.mp_files.specs.declared.refusal.FileOf.{FileOf}
+use Rattle.mp_words.specs.Requests.{Wanted}
+use Rattle.mp_top.specs.Asked.{agents_of}
+use Rattle.mp_top.specs.Call.{Call, SeenSink, Says}
+use Rattle.mp_top.specs.Cause.{Rests}
+use Rattle.mp_top.specs.First.{IsFirst}
+use Rattle.mp_top.specs.Outcome.{IsOutcome}
+use Rattle.mp_top.specs.Refusal.{status_of, line_of, memory_line, words_line, write_line}
 use Rattle.mp_top.specs.Report.{IsEmptyReport}
-use Rattle.mp_top.specs.Words.{Request, request_of}
+use Rattle.mp_top.specs.Words.{request_of}
 use Rattle.mp_top.specs.declared.refusal.Refusal.{Refusal}
 use Rattle.mp_top.specs.declared.report.Report.{Report}
 use Rattle.mp_top.specs.declared.status.Status.{Status}
@@ -25,22 +28,19 @@ answer_status (answer.Solved cost length) = status.Solved
 answer_status answer.Unsolvable = status.No
 answer_status answer.Undecided = status.Undecided
 
--- The text is the whole text of the request's outcome, with the report's answer and log. No view is kept for one
--- agent.
-abbrev pub IsOutcomeFor : Call → Request → Text → Type 0
-IsOutcomeFor call request text =
-    IsOutcome call.source.held request call.report.answer call.report.log text
-    × (call.report.views ≡ [])
+-- this is printed for the request, and the report is that of its outcome
+abbrev pub IsOutcomeFor : Call → Wanted → Text → Type 0
+IsOutcomeFor call request text = IsOutcome call.source.held request call.report text
 
 -- `out` gained the whole text of the outcome, whose answer the status tells
-abbrev pub PrintsAnswer : Call → Request → Type 0
+abbrev pub PrintsAnswer : Call → Wanted → Type 0
 PrintsAnswer call request =
     (text : Text) × IsOutcomeFor call request text
     × (answer_status call.report.answer ≡ call.status)
     × Appends call.out.old call.out.new text
 
 -- `out` gained a beginning of it
-abbrev pub PrintsBeginning : Call → Request → Type 0
+abbrev pub PrintsBeginning : Call → Wanted → Type 0
 PrintsBeginning call request =
     (text : Text) × IsOutcomeFor call request text × AppendsBeginning call.out.old call.out.new text
 
@@ -49,7 +49,7 @@ abbrev pub PrintsNothing : Call → Type 0
 PrintsNothing call = (call.out.new ≡ call.out.old) × (call.report ≡ call.before)
 
 -- what is printed about a request, by the status
-abbrev pub PrintsFor : Call → Request → Status → Type 0
+abbrev pub PrintsFor : Call → Wanted → Status → Type 0
 PrintsFor call request status.Solved = PrintsAnswer call request
 PrintsFor call request status.No = PrintsAnswer call request
 PrintsFor call request status.Undecided = PrintsAnswer call request
@@ -70,39 +70,43 @@ Prints call =
 
 -- a status of an answer
 abbrev pub IsAnswerStatus : Status → Type 0
-IsAnswerStatus ended = (ended ≡ status.Solved) ⊎ (ended ≡ status.No)
+IsAnswerStatus ended = (ended ≡ status.Solved) ⊎ (ended ≡ status.No) ⊎ (ended ≡ status.Undecided)
 
 -- The line that `err` is told about a request: nothing with an answer, the line of a failed write, or the line of a
 -- refusal that has its cause, with its status.
-abbrev pub IsLineFor : Call → Request → Text → Type 0
+abbrev pub IsLineFor : Call → Wanted → Text → Type 0
 IsLineFor call request line =
     (IsAnswerStatus call.status × (line ≡ []))
     ⊎ ((call.status ≡ status.Write) × (line ≡ write_line))
-    ⊎ ((r : Refusal) × (call.status ≡ status_of r) × (line ≡ line_of request r)
-    × Rests call.source request r)
+    ⊎ ((r : Refusal) × (call.status ≡ status_of r) × (line ≡ line_of (agents_of request.names) r)
+    × Rests call.source (agents_of request.names) r)
 
--- the same for words
+-- the line about words that are not accepted, unless memory ran out before that was known
+abbrev pub IsLineForWords : Call → Text → Type 0
+IsLineForWords call line =
+    ((call.status ≡ status.Words) × (line ≡ words_line)) ⊎ ((call.status ≡ status.Memory) × (line ≡ memory_line))
+
+-- the line about words
 abbrev pub IsLine : Call → Text → Type 0
-IsLine call line =
-    MatchOption (request_of call.words) ((call.status ≡ status.Words) × (line ≡ words_line))
-    (λ request. IsLineFor call request line)
+IsLine call line = MatchOption (request_of call.words) (IsLineForWords call line) (λ request. IsLineFor call request line)
 
 -- a file word of accepted words cannot be read
 abbrev pub CannotReadFile : Call → Type 0
 CannotReadFile call =
-    (request : Request) × (at : File) × (request_of call.words ≡ Some request)
-    × CannotRead call.source request at
+    (request : Wanted) × (at : FileOf) × (request_of call.words ≡ Some request)
+    × CannotRead call.source (agents_of request.names) at
 
 -- The first refusal comes, but for faults of reading and want of memory: where what the files hold has one, the status
 -- is that of it, and so is the line.
-abbrev pub TellsFirst : Call → Request → Type 0
+abbrev pub TellsFirst : Call → Wanted → Type 0
 TellsFirst call request =
-    IfSome call.source.held (λ files. (r : Refusal) → IsFirst files request r →
+    IfSome call.source.held (λ files. (r : Refusal) → IsFirst files (agents_of request.names) r →
     (call.status ≡ status.Read) ⊎ (call.status ≡ status.Memory)
-    ⊎ ((call.status ≡ status_of r) × Says call.err (line_of request r)))
+    ⊎ ((call.status ≡ status_of r) × Says call.err (line_of (agents_of request.names) r)))
 
 -- The promises of a call, by name:
--- words: which words are refused;
+-- words: only words that are not accepted are refused;
+-- refused: such words are, unless memory runs out before;
 -- read: `Read` comes only where a file cannot be read;
 -- read_faults: no fault of reading is passed over;
 -- write: `Write` comes exactly where `out` had a fault;
@@ -110,7 +114,8 @@ TellsFirst call request =
 -- line: the line on `err`, and what it rests on;
 -- first: the first refusal by the files comes.
 pub record Keeps (call : Call) : Type 0 where
-  pub words : (call.status ≡ status.Words) ↔ (request_of call.words ≡ None)
+  pub words : call.status ≡ status.Words → request_of call.words ≡ None
+  pub refused : request_of call.words ≡ None → (call.status ≡ status.Words) ⊎ (call.status ≡ status.Memory)
   pub read : call.status ≡ status.Read → CannotReadFile call
   pub read_faults : call.source.before < call.source.now → call.status ≡ status.Read
   pub write : (call.status ≡ status.Write) ↔ (call.out.before < call.out.now)

@@ -1,13 +1,24 @@
-pub mod Answered
-pub mod Call
-pub mod Cause
-pub mod Decision
-pub mod Files
-pub mod Keeps
-pub mod Leads
-pub mod Outcome
-pub mod Reading
-pub mod Refusal
-pub mod Report
-pub mod Status
+-- which words are accepted
 pub mod Words
+-- the names of the agents' files, and the heuristic
+pub mod Asked
+-- statuses as numbers
+pub mod Status
+-- why a call ends without an outcome, and the line that says so
+pub mod Refusal
+-- the first refusal by what files hold
+pub mod First
+-- what a call leaves to its caller
+pub mod Report
+-- what is seen of a call
+pub mod Call
+-- what a refusal rests on
+pub mod Cause
+-- the outcome of a team, before it is printed
+pub mod Decided
+-- what is printed for a team, and the report
+pub mod Outcome
+-- what each call keeps
+pub mod Keeps
+-- what telling a decision comes to
+pub mod Printed

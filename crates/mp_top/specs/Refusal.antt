@@ -1,33 +1,41 @@
 -- Why a call ends without an outcome: its status, and the line that says so.
-use Rattle.std.specs.Prelude.{[], ◌∷◌, ◌++◌, codes, decimal}
+use Rattle.std.specs.Prelude.{ℕ, List, [], ◌∷◌, ◌++◌, codes, decimal, slice_get}
+use Rattle.std.specs.Option.{option_map_or}
 use Rattle.mp_joint.specs.Fact.{Text}
-use Rattle.mp_factor.specs.declared.files.File.{File}
-use Rattle.mp_factor.specs.declared.files.File.TheVariants.{Domain, Problem}
 use Rattle.mp_sexp.specs.declared.tree.Place.{Place}
-use Rattle.mp_top.specs.Words.{Request}
-use Rattle.mp_top.specs.declared.refusal.Fault.{Fault}
-use Rattle.mp_top.specs.declared.refusal.Fault.TheVariants as fault
+use Rattle.mp_files.specs.Cause.{name_in}
+use Rattle.mp_files.specs.Team.{Two}
+use Rattle.mp_files.specs.declared.refusal.Fault.{Fault}
+use Rattle.mp_files.specs.declared.refusal.Fault.TheVariants as fault
+use Rattle.mp_files.specs.declared.refusal.FileOf.{FileOf}
+use Rattle.mp_files.specs.declared.refusal.Refusal.{Refusal as FilesRefusal}
+use Rattle.mp_files.specs.declared.refusal.Refusal.TheVariants as files
+use Rattle.mp_ground.specs.declared.refusal.GroundRefusal.{GroundRefusal}
+use Rattle.mp_ground.specs.declared.refusal.GroundRefusal.TheVariants as sizes
 use Rattle.mp_top.specs.declared.refusal.Refusal.{Refusal}
-use Rattle.mp_top.specs.declared.refusal.Refusal.TheVariants as why
+use Rattle.mp_top.specs.declared.refusal.Refusal.TheVariants.{Files, Sizes}
 use Rattle.mp_top.specs.declared.status.Status.{Status}
 use Rattle.mp_top.specs.declared.status.Status.TheVariants as status
-use Rattle.mp_top.specs.declared.words.Request.{Request as RequestOf}
 
--- what a request of the code asks for
-abbrev pub asked : RequestOf → Request
-asked request = record { domain = request.domain.now; problem = request.problem.now }
+abbrev pub status_of_files : FilesRefusal → Status
+status_of_files (files.Read at) = status.Read
+status_of_files (files.TooLarge at) = status.TooLarge
+status_of_files (files.Fault at kind place) = status.Refused
+status_of_files files.OutOfMemory = status.Memory
 
--- the file word of a request
-abbrev pub name_in : Request → File → Text
-name_in request Domain = request.domain
-name_in request Problem = request.problem
+abbrev pub status_of_sizes : GroundRefusal → Status
+status_of_sizes (sizes.TooManyTries agent) = status.TooLarge
+status_of_sizes (sizes.TooManyActions agent number) = status.TooLarge
+status_of_sizes (sizes.TooManyFacts agent number) = status.TooLarge
+status_of_sizes sizes.OutOfMemory = status.Memory
 
 abbrev pub status_of : Refusal → Status
-status_of (why.Read file) = status.Read
-status_of (why.TooLarge file) = status.TooLarge
-status_of (why.Fault file kind place) = status.Refused
-status_of (why.NotBuilt file) = status.Refused
-status_of why.OutOfMemory = status.Memory
+status_of (Files r) = status_of_files r
+status_of (Sizes r) = status_of_sizes r
+
+-- the word of the command line that names a file
+abbrev pub name_of : List Two → FileOf → Text
+name_of agents at = option_map_or (λ own. name_in own at.file) (slice_get agents at.agent) []
 
 -- the code and name of a fault
 abbrev pub text_of_fault : Fault → Text
@@ -70,8 +78,9 @@ fault_line name kind place =
     ++ (decimal place.column ++ (codes ": " ++ (text_of_fault kind
     ++ (word_of_fault kind ++ 10 ∷ []))))))))
 
-abbrev pub not_built_line : Text → Text
-not_built_line name = codes "maplan: " ++ (name ++ (codes ": not built" ++ 10 ∷ []))
+-- `maplan: agent I: ` and what is too large
+abbrev pub sizes_line : ℕ → Text → Text
+sizes_line agent what = codes "maplan: agent " ++ (decimal agent ++ (codes ": " ++ (what ++ 10 ∷ [])))
 
 abbrev pub write_line : Text
 write_line = codes "maplan: cannot write" ++ 10 ∷ []
@@ -79,9 +88,18 @@ write_line = codes "maplan: cannot write" ++ 10 ∷ []
 abbrev pub memory_line : Text
 memory_line = codes "maplan: out of memory" ++ 10 ∷ []
 
-abbrev pub line_of : Request → Refusal → Text
-line_of request (why.Read file) = read_line (name_in request file)
-line_of request (why.TooLarge file) = too_large_line (name_in request file)
-line_of request (why.Fault file kind place) = fault_line (name_in request file) kind place
-line_of request (why.NotBuilt file) = not_built_line (name_in request file)
-line_of request why.OutOfMemory = memory_line
+abbrev pub line_of_files : List Two → FilesRefusal → Text
+line_of_files agents (files.Read at) = read_line (name_of agents at)
+line_of_files agents (files.TooLarge at) = too_large_line (name_of agents at)
+line_of_files agents (files.Fault at kind place) = fault_line (name_of agents at) kind place
+line_of_files agents files.OutOfMemory = memory_line
+
+abbrev pub line_of_sizes : GroundRefusal → Text
+line_of_sizes (sizes.TooManyTries agent) = sizes_line agent (codes "G3 tries")
+line_of_sizes (sizes.TooManyActions agent number) = sizes_line agent (codes "G2 actions")
+line_of_sizes (sizes.TooManyFacts agent number) = sizes_line agent (codes "G1 facts")
+line_of_sizes sizes.OutOfMemory = memory_line
+
+abbrev pub line_of : List Two → Refusal → Text
+line_of agents (Files r) = line_of_files agents r
+line_of agents (Sizes r) = line_of_sizes r

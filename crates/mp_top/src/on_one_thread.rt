@@ -1,53 +1,30 @@
 //! The whole of the program on one thread.
 
-ghost use Rattle.std.specs.Prelude.{◌≡◌, ◌<◌, ℕ, List, Some, true, map, string_bytes, IfOk, IfErr};
-ghost use Rattle.mp_plain.specs.PlainForm.{IsRead};
-ghost use Rattle.mp_top.specs.Call.{Call, seen_source, seen_sink};
-ghost use Rattle.mp_top.specs.Cause.{Rests};
-ghost use Rattle.mp_top.specs.Decision.{Decides, DecidesFiles, Publishes};
+ghost use Rattle.std.specs.Prelude.{◌≡◌, ◌≤◌, ◌++◌, ◌∷◌, [], ℕ, List, Some, true, codes, length, map, string_bytes, if◌then◌else◌};
+ghost use Rattle.mp_files.specs.Cause.{seen_source};
+ghost use Rattle.mp_files.specs.Fetched.{names_of};
+ghost use Rattle.mp_top.specs.Asked.{KeepsLimits, agents_of};
+ghost use Rattle.mp_top.specs.Call.{Call, seen_sink};
+ghost use Rattle.mp_top.specs.Decided.{search_of};
 ghost use Rattle.mp_top.specs.Keeps.{Keeps, answer_status};
-ghost use Rattle.mp_top.specs.Refusal.{asked, status_of};
+ghost use Rattle.mp_top.specs.Printed.{Publishes};
 ghost use Rattle.mp_top.specs.Report.{IsEmptyReport};
-ghost use Rattle.mp_top.specs.Words.{request_of, is_alone};
+ghost use Rattle.mp_top.specs.Words.{request_of};
+ghost use Rattle.mp_words.specs.Reads.{wanted_by};
+ghost use Rattle.mp_words.specs.Requests.{Wanted, is_alone};
 
-use crate::answer::{Decision, answer_factor};
+use crate::asked::{asked, files_of};
+use crate::decision::{Decision, Search, decide};
 use crate::first::one_first;
-use crate::reads::plain_of_files;
-use crate::refusal::{Refusal, tell_words, tell_write};
+use crate::refusal::{Refusal, tell_memory, tell_words, tell_write};
 use crate::report::Report;
 use crate::status::Status;
-use crate::words::{Request, parse_words};
-use mp_outside::{Sink, Source, put};
-use mp_plain::PlainFactor;
-use mp_uniform::Answer;
+use mp_files::AgentFiles;
+use mp_outside::{Sink, Source, put_all};
+use mp_solve::Solution;
+use mp_words::Request;
+use mp_world::Answer;
 use std::alloc::Global;
-
-/// The answer to a plain factor.
-fn answered(alloc: Global, factor: &PlainFactor) -> Result<Decision, Refusal>
-    requires { IsRead factor.now }
-    ensures outcome { IfOk result (Decides factor.now) }
-    ensures memory { IfErr result (λ refusal. refusal ≡ Refusal.OutOfMemory) }
-{
-    match answer_factor(alloc, factor) {
-        Ok(decision) => Ok(decision),
-        Err(_) => Err(Refusal::OutOfMemory),
-    }
-}
-
-/// The answer to the problem of the two files.
-fn decide<S: Source>(
-    alloc: Global,
-    source: &mut S,
-    request: &Request<'_>,
-) -> Result<Decision, Refusal>
-    ensures outcome { IfOk result (DecidesFiles (S.held source.old) (asked request.now)) }
-    ensures cause { IfErr result (Rests (seen_source S.held S.faults S.fault_at source.old source.new) (asked request.now)) }
-    ensures no_fault { IfOk result (λ _. S.faults source.new ≡ S.faults source.old) }
-    ensures fault { IfErr result (λ r. S.faults source.old < S.faults source.new → status_of r ≡ Status.Read) }
-{
-    let factor = plain_of_files(alloc, source, request)?;
-    answered(alloc, &factor)
-}
 
 /// The status of a call that printed this answer.
 fn status_of_answer(answer: Answer) -> Status
@@ -61,24 +38,80 @@ fn status_of_answer(answer: Answer) -> Status
     }
 }
 
-/// Keeps the decision in the report and writes its text.
+/// The line between a trace and the outcome, where there is a trace.
+fn answer_line(trace: bool) -> &'static [u8]
+    ensures { result.now ≡ (if trace then codes "answer" ++ 10 ∷ [] else []) }
+{
+    if trace { b"answer\n" } else { b"" }
+}
+
+/// Keeps the decision in the report and writes its text, after that of the trace where this is asked for.
 fn publish<K: Sink, E: Sink>(
     decision: Decision,
+    trace: bool,
     out: &mut K,
     err: &mut E,
     report: &mut Report,
 ) -> Status
-    ensures report { (report.new.answer ≡ decision.answer) × (report.new.log ≡ decision.log) × (report.new.views ≡ report.old.views) }
-    ensures told { Publishes (seen_sink K.written K.faults out.old out.new) (seen_sink E.written E.faults err.old err.new) decision result }
+    ensures report { (report.new.answer ≡ decision.solution.answer) × (report.new.log ≡ decision.solution.log)
+        × (report.new.views ≡ decision.solution.views) }
+    ensures told { Publishes (seen_sink K.written K.faults out.old out.new) (seen_sink E.written E.faults err.old err.new) decision trace result }
 {
-    let Decision { answer, log, text } = decision;
-    report.answer = answer;
+    let Decision {
+        solution,
+        trace: events,
+    } = decision;
+    let Solution {
+        views,
+        log,
+        answer,
+        text,
+    } = solution;
+    report.views = views;
     report.log = log;
-    if put(out, text.as_slice()).is_err() {
+    report.answer = answer;
+    let texts = [events.as_slice(), answer_line(trace), text.as_slice()];
+    if put_all(out, &texts).is_err() {
         tell_write(err);
         return Status::Write;
     }
     status_of_answer(answer)
+}
+
+/// Answers a request for the agents with these files: the outcome on `out` and in the report, or the line of a refusal on
+/// `err`.
+fn answer_files<S: Source, K: Sink, E: Sink>(
+    alloc: Global,
+    search: Search,
+    files: &[AgentFiles<'_>],
+    source: &mut S,
+    out: &mut K,
+    err: &mut E,
+    report: &mut Report,
+) -> Status
+    requires from_1 { 1 ≤ search.limit }
+    requires limit { search.limit ≤ 10000000 }
+    requires some { 1 ≤ length files.now }
+    requires at_most { length files.now ≤ 16 }
+    ensures { (ws : List (List ℕ)) (w : Wanted) → request_of ws ≡ Some w → search ≡ search_of w
+        → map names_of files.now ≡ agents_of w.names → Keeps (record {
+          words = ws;
+          source = seen_source S.held S.faults S.fault_at source.old source.new;
+          out = seen_sink K.written K.faults out.old out.new;
+          err = seen_sink E.written E.faults err.old err.new;
+          before = report.old;
+          report = report.new;
+          status = result;
+        }) }
+{
+    one_first();
+    match decide(alloc, source, files, search) {
+        Ok(decision) => publish(decision, search.trace, out, err, report),
+        Err(refusal) => {
+            refusal.tell(files, err);
+            refusal.status()
+        }
+    }
 }
 
 /// Answers words that ask for this: the outcome on `out` and in the report, or the line of a refusal on `err`.
@@ -90,8 +123,8 @@ fn answer_request<S: Source, K: Sink, E: Sink>(
     err: &mut E,
     report: &mut Report,
 ) -> Status
-    requires { IsEmptyReport report.old }
-    ensures { (ws : List (List ℕ)) → request_of ws ≡ Some (asked request.now) → Keeps (record {
+    requires { KeepsLimits (wanted_by request.now) }
+    ensures { (ws : List (List ℕ)) → request_of ws ≡ Some (wanted_by request.now) → Keeps (record {
       words = ws;
       source = seen_source S.held S.faults S.fault_at source.old source.new;
       out = seen_sink K.written K.faults out.old out.new;
@@ -101,18 +134,22 @@ fn answer_request<S: Source, K: Sink, E: Sink>(
       status = result;
     }) }
 {
-    one_first();
-    match decide(alloc, source, request) {
-        Ok(decision) => publish(decision, out, err, report),
-        Err(refusal) => {
-            refusal.tell(request, err);
-            refusal.status()
+    let search = Search {
+        heuristic: request.heuristic,
+        limit: request.limit,
+        trace: request.trace,
+    };
+    match files_of(alloc, request.names.as_slice()) {
+        Ok(files) => answer_files(alloc, search, files.as_slice(), source, out, err, report),
+        Err(_) => {
+            tell_memory(err);
+            Status::Memory
         }
     }
 }
 
-/// Does all that the program does for words that need no second thread: reads the two files, searches, keeps
-/// what was found in the report and prints it, or tells `err` in one line why not. It always returns.
+/// Does all that the program does for words that need no second thread: reads the files of a team, lets its agents
+/// search, keeps what they found in the report and prints it, or tells `err` in one line why not. It always returns.
 ///
 /// The text is made as a whole before the first write, and the writing takes no memory.
 pub fn run_alone<S: Source, K: Sink, E: Sink>(
@@ -135,11 +172,15 @@ pub fn run_alone<S: Source, K: Sink, E: Sink>(
       status = result;
     }) }
 {
-    match parse_words(words) {
-        Some(request) => answer_request(alloc, &request, source, out, err, report),
-        None => {
+    match asked(alloc, words) {
+        Ok(Some(request)) => answer_request(alloc, &request, source, out, err, report),
+        Ok(None) => {
             tell_words(err);
             Status::Words
+        }
+        Err(_) => {
+            tell_memory(err);
+            Status::Memory
         }
     }
 }

@@ -1,7 +1,8 @@
 //! The top call, which may start threads.
 
 ghost use Rattle.std.specs.Prelude.{map, string_bytes};
-ghost use Rattle.mp_top.specs.Call.{Call, seen_source, seen_sink};
+ghost use Rattle.mp_files.specs.Cause.{seen_source};
+ghost use Rattle.mp_top.specs.Call.{Call, seen_sink};
 ghost use Rattle.mp_top.specs.Keeps.{Keeps};
 ghost use Rattle.mp_top.specs.Report.{IsEmptyReport};
 
@@ -9,8 +10,8 @@ use crate::on_one_thread::run_alone;
 use crate::refusal::tell_words;
 use crate::report::Report;
 use crate::status::Status;
-use crate::words::alone;
 use mp_outside::{Gate, Sink, Source};
+use mp_words::alone;
 use std::alloc::Global;
 use std::sync::Wait;
 use std::thread::Threads;

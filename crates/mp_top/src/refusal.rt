@@ -1,95 +1,166 @@
 //! Why a call ends without an outcome, and the line that says so.
 
-ghost use Rattle.std.specs.Prelude.{◌≡◌, ◌++◌, ◌∷◌, [], codes};
+ghost use Rattle.std.specs.Prelude.{◌≡◌, ◌++◌, ◌∷◌, [], codes, decimal, map};
 ghost use Rattle.std.specs.List.{flat_map};
+ghost use Rattle.mp_files.specs.Fetched.{names_of};
 ghost use Rattle.mp_top.specs.Call.{seen_sink, Says};
-ghost use Rattle.mp_top.specs.Refusal.{status_of, line_of, name_in, text_of_fault, word_of_fault, words_line, memory_line, write_line, fault_line, asked};
+ghost use Rattle.mp_top.specs.Refusal.{status_of, status_of_files, status_of_sizes, line_of, line_of_files, line_of_sizes};
+ghost use Rattle.mp_top.specs.Refusal.{name_of as name_of_file, text_of_fault, word_of_fault};
+ghost use Rattle.mp_top.specs.Refusal.{words_line, memory_line, write_line, fault_line, sizes_line};
 
 use crate::status::Status;
-use crate::words::Request;
 use itoa::Buffer;
 use mp_factor::File;
+use mp_files::{AgentFiles, Fault, FileOf, Refusal as FilesRefusal};
+use mp_ground::GroundRefusal;
+use mp_list::OutOfMemory;
 use mp_outside::{Sink, put_all};
-use mp_sexp::{Name, Place};
-
-/// What is wrong with a file.
-#[derive(Drop)]
-pub enum Fault {
-    /// A byte outside a comment is none of a text's bytes.
-    Char,
-    /// The text ends before its list is closed, or something else stands before the list.
-    Unbalanced,
-    /// A word or bracket follows the closed list.
-    Trailing,
-    /// A bracket is the 101st open one.
-    Deep,
-    /// A word or list has no place in the shape of the file, or lacks something.
-    Shape,
-    /// This word begins something that is not supported.
-    Unsupported(Name),
-    /// A parameter is the thirteenth of its action.
-    Parameters,
-    /// A number or an increase is no cost that is allowed.
-    Cost,
-    /// The problem belongs to the domain of this name, which is another one.
-    WrongDomain(Name),
-    /// This name is used and not declared.
-    Unknown(Name),
-    /// What has this name is applied to another number of terms than declared.
-    Arity(Name),
-    /// This name is declared a second time.
-    Twice(Name),
-}
-
-impl Fault {
-    /// Its code and name.
-    fn text(&self) -> &'static [u8]
-        ensures { result.now ≡ text_of_fault self.now }
-    {
-        match self {
-            Fault::Char => b"F1 char",
-            Fault::Unbalanced => b"F2 unbalanced",
-            Fault::Trailing => b"F3 trailing",
-            Fault::Deep => b"F11 deep",
-            Fault::Shape => b"F4 shape",
-            Fault::Unsupported(_) => b"F5 unsupported ",
-            Fault::Parameters => b"F5 unsupported parameters",
-            Fault::Cost => b"F9 cost",
-            Fault::WrongDomain(_) => b"F10 domain ",
-            Fault::Unknown(_) => b"F6 unknown ",
-            Fault::Arity(_) => b"F7 arity ",
-            Fault::Twice(_) => b"F8 twice ",
-        }
-    }
-
-    /// The word of the file that it names behind that.
-    fn word(&self) -> &[u8]
-        ensures { result.now ≡ word_of_fault self.now }
-    {
-        match self {
-            Fault::Unsupported(word) => word.as_slice(),
-            Fault::WrongDomain(word) => word.as_slice(),
-            Fault::Unknown(word) => word.as_slice(),
-            Fault::Arity(word) => word.as_slice(),
-            Fault::Twice(word) => word.as_slice(),
-            _ => b"",
-        }
-    }
-}
+use mp_sets::Agent;
+use mp_sexp::Place;
 
 /// Why a call of accepted words ends without an outcome, before anything is written.
 #[derive(Drop)]
 pub enum Refusal {
-    /// The file is not held, or reading it failed.
-    Read(File),
-    /// The file has more than 4,194,304 bytes.
-    TooLarge(File),
-    /// The file has a fault, the first one at this place.
-    Fault(File, Fault, Place),
-    /// The file is not of the form that is built so far.
-    NotBuilt(File),
-    /// No memory was left.
-    OutOfMemory,
+    /// The files of the team are refused.
+    Files(FilesRefusal),
+    /// The factor of an agent is not grounded, since it is too large.
+    Sizes(GroundRefusal),
+}
+
+impl From<OutOfMemory> for Refusal {
+    ghost use Rattle.std.specs.Prelude.{◌≡◌};
+    ghost use Rattle.mp_files.specs.declared.refusal.Refusal.TheVariants as files;
+    ghost use Rattle.mp_top.specs.declared.refusal.Refusal.TheVariants as refusals;
+
+    ghost from_gives = { λ _ e. e ≡ refusals.Files files.OutOfMemory };
+
+    fn from(_e: OutOfMemory) -> Refusal {
+        Refusal::Files(FilesRefusal::OutOfMemory)
+    }
+}
+
+/// The code and name of a fault.
+fn text_of(fault: &Fault) -> &'static [u8]
+    ensures { result.now ≡ text_of_fault fault.now }
+{
+    match fault {
+        Fault::Char => b"F1 char",
+        Fault::Unbalanced => b"F2 unbalanced",
+        Fault::Trailing => b"F3 trailing",
+        Fault::Deep => b"F11 deep",
+        Fault::Shape => b"F4 shape",
+        Fault::Unsupported(_) => b"F5 unsupported ",
+        Fault::Parameters => b"F5 unsupported parameters",
+        Fault::Cost => b"F9 cost",
+        Fault::WrongDomain(_) => b"F10 domain ",
+        Fault::Unknown(_) => b"F6 unknown ",
+        Fault::Arity(_) => b"F7 arity ",
+        Fault::Twice(_) => b"F8 twice ",
+    }
+}
+
+/// The word of the file that a fault names behind that.
+fn word_of(fault: &Fault) -> &[u8]
+    ensures { result.now ≡ word_of_fault fault.now }
+{
+    match fault {
+        Fault::Unsupported(word) => word.as_slice(),
+        Fault::WrongDomain(word) => word.as_slice(),
+        Fault::Unknown(word) => word.as_slice(),
+        Fault::Arity(word) => word.as_slice(),
+        Fault::Twice(word) => word.as_slice(),
+        _ => b"",
+    }
+}
+
+/// The word of the command line that names a file.
+fn name_of<'a>(files: &[AgentFiles<'a>], at: FileOf) -> &'a str
+    ensures { result.now ≡ name_of_file (map names_of files.now) at }
+{
+    let Some(own) = files.get(at.agent) else {
+        return "";
+    };
+    match at.file {
+        File::Domain => own.domain,
+        File::Problem => own.problem,
+    }
+}
+
+/// The status of a call whose files are refused.
+fn status_of_files_refused(refusal: &FilesRefusal) -> Status
+    ensures { result ≡ status_of_files refusal.now }
+{
+    match refusal {
+        FilesRefusal::Read(_) => Status::Read,
+        FilesRefusal::TooLarge(_) => Status::TooLarge,
+        FilesRefusal::Fault(_, _, _) => Status::Refused,
+        FilesRefusal::OutOfMemory => Status::Memory,
+    }
+}
+
+/// The status of a call with an agent whose factor is not grounded.
+fn status_of_sizes_refused(refusal: &GroundRefusal) -> Status
+    ensures { result ≡ status_of_sizes refusal.now }
+{
+    match refusal {
+        GroundRefusal::TooManyTries(_) => Status::TooLarge,
+        GroundRefusal::TooManyActions(_, _) => Status::TooLarge,
+        GroundRefusal::TooManyFacts(_, _) => Status::TooLarge,
+        GroundRefusal::OutOfMemory => Status::Memory,
+    }
+}
+
+/// Writes the line for files that are refused.
+fn tell_files<E: Sink>(files: &[AgentFiles<'_>], refusal: &FilesRefusal, err: &mut E)
+    ensures { Says (seen_sink E.written E.faults err.old err.new) (line_of_files (map names_of files.now) refusal.now) }
+{
+    match refusal {
+        FilesRefusal::Read(at) => {
+            say(
+                err,
+                &[
+                    b"maplan: cannot read ",
+                    name_of(files, *at).as_bytes(),
+                    b"\n",
+                ],
+            )
+        }
+        FilesRefusal::TooLarge(at) => {
+            say(
+                err,
+                &[
+                    b"maplan: ",
+                    name_of(files, *at).as_bytes(),
+                    b": too large\n",
+                ],
+            )
+        }
+        FilesRefusal::Fault(at, fault, place) => {
+            tell_fault(err, name_of(files, *at).as_bytes(), fault, *place)
+        }
+        FilesRefusal::OutOfMemory => tell_memory(err),
+    }
+}
+
+/// Writes the line for an agent's factor that is too large.
+fn tell_size<E: Sink>(err: &mut E, agent: Agent, what: &[u8])
+    ensures { Says (seen_sink E.written E.faults err.old err.new) (sizes_line agent what.now) }
+{
+    let mut number = Buffer::new();
+    let number = number.format(agent.number()).as_bytes();
+    say(err, &[b"maplan: agent ", number, b": ", what, b"\n"])
+}
+
+/// Writes the line for an agent whose factor is not grounded.
+fn tell_sizes<E: Sink>(refusal: &GroundRefusal, err: &mut E)
+    ensures { Says (seen_sink E.written E.faults err.old err.new) (line_of_sizes refusal.now) }
+{
+    match refusal {
+        GroundRefusal::TooManyTries(agent) => tell_size(err, *agent, b"G3 tries"),
+        GroundRefusal::TooManyActions(agent, _) => tell_size(err, *agent, b"G2 actions"),
+        GroundRefusal::TooManyFacts(agent, _) => tell_size(err, *agent, b"G1 facts"),
+        GroundRefusal::OutOfMemory => tell_memory(err),
+    }
 }
 
 impl Refusal {
@@ -98,53 +169,18 @@ impl Refusal {
         ensures { result ≡ status_of self.now }
     {
         match self {
-            Refusal::Read(_) => Status::Read,
-            Refusal::TooLarge(_) => Status::TooLarge,
-            Refusal::Fault(_, _, _) => Status::Refused,
-            Refusal::NotBuilt(_) => Status::Refused,
-            Refusal::OutOfMemory => Status::Memory,
+            Refusal::Files(refusal) => status_of_files_refused(refusal),
+            Refusal::Sizes(refusal) => status_of_sizes_refused(refusal),
         }
     }
 
     /// Writes the line that says so, without taking memory. A fault of the sink changes nothing else.
-    pub(crate) fn tell<E: Sink>(&self, request: &Request<'_>, err: &mut E)
-        ensures { Says (seen_sink E.written E.faults err.old err.new) (line_of (asked request.now) self.now) }
+    pub(crate) fn tell<E: Sink>(&self, files: &[AgentFiles<'_>], err: &mut E)
+        ensures { Says (seen_sink E.written E.faults err.old err.new) (line_of (map names_of files.now) self.now) }
     {
         match self {
-            Refusal::Read(file) => {
-                say(
-                    err,
-                    &[
-                        b"maplan: cannot read ",
-                        request.name(*file).as_bytes(),
-                        b"\n",
-                    ],
-                )
-            }
-            Refusal::TooLarge(file) => {
-                say(
-                    err,
-                    &[
-                        b"maplan: ",
-                        request.name(*file).as_bytes(),
-                        b": too large\n",
-                    ],
-                )
-            }
-            Refusal::Fault(file, fault, place) => {
-                tell_fault(err, request.name(*file).as_bytes(), fault, *place)
-            }
-            Refusal::NotBuilt(file) => {
-                say(
-                    err,
-                    &[
-                        b"maplan: ",
-                        request.name(*file).as_bytes(),
-                        b": not built\n",
-                    ],
-                )
-            }
-            Refusal::OutOfMemory => tell_memory(err),
+            Refusal::Files(refusal) => tell_files(files, refusal, err),
+            Refusal::Sizes(refusal) => tell_sizes(refusal, err),
         }
     }
 }
@@ -178,7 +214,7 @@ fn tell_fault<E: Sink>(err: &mut E, name: &[u8], fault: &Fault, place: Place)
     let mut column = Buffer::new();
     let line = line.format(place.line).as_bytes();
     let column = column.format(place.column).as_bytes();
-    say_fault(err, name, line, column, fault.text(), fault.word());
+    say_fault(err, name, line, column, text_of(fault), word_of(fault));
 }
 
 /// Writes a name, a line and a column, and what is wrong there.

@@ -4,12 +4,11 @@ ghost use Rattle.mp_top.specs.Report.{IsEmptyReport};
 
 use mp_list::List;
 use mp_messages::{Log, Views};
-use mp_uniform::Answer;
+use mp_world::Answer;
 use std::alloc::Global;
 
-/// What was found, and how: what each agent sees of the problem, as the bytes that it could show the others, the
-/// log of what the agents did, and the answer. It is empty, with the answer `Nothing`, where a call ends without
-/// an outcome.
+/// What was found, and how: what each agent showed the others, as bytes, the log of what the agents did, and the answer.
+/// It is empty, with the answer `Nothing`, where a call ends without an outcome.
 #[derive(Drop)]
 pub struct Report {
     pub views: Views,

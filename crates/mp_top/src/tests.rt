@@ -5,14 +5,11 @@ ghost use Rattle.std.specs.Prelude.{◌<◌};
 
 use super::*;
 use mp_list::List;
-use mp_messages::{Entry, Kind};
 use mp_outside::{MemSink, MemSource, NamedText};
-use mp_sets::Agent;
-use mp_uniform::Answer;
 use std::alloc::Global;
 use std::test::Fail;
 
-const FILES: [(&str, &[u8]); 5] = [
+const FILES: [(&str, &[u8]); 6] = [
     (
         "lamp-d",
         b"(define (domain lamp) (:predicates (on)) (:action press :parameters () :precondition () :effect (on)))",
@@ -27,27 +24,47 @@ const FILES: [(&str, &[u8]); 5] = [
         b"(define (domain x) (:predicates (p)) (:action a :parameters () :precondition (or (p)) :effect (p)))",
     ),
     (
-        "cheap-p",
-        b"(define (problem m) (:domain lamp) (:metric minimize (total-cost)))",
+        "tidy-d",
+        b"(define (domain t) (:predicates (:private (done)))  (:action tidy :parameters () :effect (done)))",
+    ),
+    (
+        "tidy-p",
+        b"(define (problem q) (:domain t) (:init) (:goal (done)))",
     ),
 ];
 
 const LAMP: [&str; 6] = ["solve", "--one", "--h", "blind", "lamp-d", "lamp-p"];
 
+const TRACE: [&str; 7] = [
+    "solve", "--one", "--h", "blind", "--trace", "lamp-d", "lamp-p",
+];
+
+const TIDY: [&str; 8] = [
+    "solve", "--one", "--h", "blind", "tidy-d", "tidy-p", "tidy-d", "tidy-p",
+];
+
 const DARK: [&str; 6] = ["solve", "--one", "--h", "blind", "dark-d", "lamp-p"];
 
-const ABSENT: [&str; 6] = ["solve", "--one", "--h", "blind", "or-d", "none"];
+const ABSENT: [&str; 4] = ["solve", "--one", "or-d", "none"];
 
-const FAULTY: [&str; 6] = ["solve", "--one", "--h", "blind", "or-d", "lamp-p"];
+const FAULTY: [&str; 4] = ["solve", "--one", "or-d", "lamp-p"];
 
-const OTHER: [&str; 6] = ["solve", "--one", "--h", "blind", "lamp-d", "cheap-p"];
+const NO_LIMIT: [&str; 6] = ["solve", "--one", "--limit", "0", "lamp-d", "lamp-p"];
 
 /// The outcome of the lamp.
 const PRESSED: &[u8] = b"cost 1\nlength 1\nagent 1\n1: (press)\nevents 2 messages 0 bytes 0\n";
 
-const NO_DOMAIN: &[u8] = b"maplan: cannot read lamp-d\n";
+/// The same behind its trace.
+const TRACED: &[u8] =
+    b"expand 1\nstart\nanswer\ncost 1\nlength 1\nagent 1\n1: (press)\nevents 2 messages 0 bytes 0\n";
 
-const NO_PROBLEM: &[u8] = b"maplan: cannot read lamp-p\n";
+/// The outcome of two agents that tidy.
+const TIDIED: &[u8] =
+    b"cost 2\nlength 2\nagent 1\n2: (tidy)\nagent 2\n1: (tidy)\nevents 18 messages 10 bytes 214\n";
+
+const UNSOLVABLE: &[u8] = b"unsolvable\nevents 2 messages 0 bytes 0\n";
+
+const NO_WORDS: &[u8] = b"maplan: words\n";
 
 const NO_WRITE: &[u8] = b"maplan: cannot write\n";
 
@@ -63,17 +80,13 @@ type Trial = (
     &'static [u8],
 );
 
-const TRIALS: [Trial; 17] = [
-    (&[], [0, 0, 0], 3, 0, b"", b"maplan: words\n"),
+const TRIALS: [Trial; 13] = [
+    (&[], [0, 0, 0], 3, 0, b"", NO_WORDS),
+    (&NO_LIMIT, [0, 0, 0], 3, 0, b"", NO_WORDS),
     (&LAMP, [0, 0, 0], 0, 2, PRESSED, b""),
-    (
-        &DARK,
-        [0, 0, 0],
-        1,
-        2,
-        b"unsolvable\nevents 2 messages 0 bytes 0\n",
-        b"",
-    ),
+    (&TRACE, [0, 0, 0], 0, 2, TRACED, b""),
+    (&TIDY, [0, 0, 0], 0, 28, TIDIED, b""),
+    (&DARK, [0, 0, 0], 1, 2, UNSOLVABLE, b""),
     (&ABSENT, [0, 0, 0], 4, 0, b"", b"maplan: cannot read none\n"),
     (
         &FAULTY,
@@ -83,31 +96,10 @@ const TRIALS: [Trial; 17] = [
         b"",
         b"maplan: or-d:1:79: F5 unsupported or\n",
     ),
-    (
-        &OTHER,
-        [0, 0, 0],
-        5,
-        0,
-        b"",
-        b"maplan: cheap-p: not built\n",
-    ),
-    (&LAMP, [1, 0, 0], 4, 0, b"", NO_DOMAIN),
-    (&LAMP, [2, 0, 0], 4, 0, b"", NO_DOMAIN),
-    (&LAMP, [3, 0, 0], 4, 0, b"", NO_DOMAIN),
-    (&LAMP, [4, 0, 0], 4, 0, b"", NO_PROBLEM),
-    (&LAMP, [5, 0, 0], 4, 0, b"", NO_PROBLEM),
-    (&LAMP, [6, 0, 0], 4, 0, b"", NO_PROBLEM),
+    (&LAMP, [3, 0, 0], 4, 0, b"", b"maplan: cannot read lamp-d\n"),
+    (&LAMP, [4, 0, 0], 4, 0, b"", b"maplan: cannot read lamp-p\n"),
     (&LAMP, [0, 1, 0], 7, 2, b"", NO_WRITE),
     (&LAMP, [0, 2, 0], 7, 2, b"cost 1\nl", NO_WRITE),
-    (
-        &LAMP,
-        [0, 8, 0],
-        7,
-        2,
-        b"cost 1\nlength 1\nagent 1\n1: (press)\nevents 2 messages 0 b",
-        NO_WRITE,
-    ),
-    (&[], [0, 0, 1], 3, 0, b"", b""),
     (&[], [0, 0, 2], 3, 0, b"", b"mapla"),
 ];
 
@@ -136,21 +128,21 @@ fn owned(alloc: Global, words: &[&str]) -> Result<Vec<String>, Fail> {
     Ok(owned)
 }
 
-/// Calls `run_alone` with these words.
+/// Calls `run_alone` with these words: the code of the status, and the number of entries of the log.
 fn answer(
     alloc: Global,
     words: &[&str],
     source: &mut MemSource,
     out: &mut MemSink,
     err: &mut MemSink,
-) -> Result<(Status, Report), Fail> {
+) -> Result<(u8, usize), Fail> {
     let words = owned(alloc, words)?;
     if !alone(words.as_slice()) {
         return Err(Fail::from("not for one thread alone"));
     }
     let mut report = Report::new(alloc);
     let status = run_alone(alloc, words.as_slice(), source, out, err, &mut report);
-    Ok((status, report))
+    Ok((status.code(), report.log.len()))
 }
 
 /// Whether a call comes out as its row says.
@@ -159,9 +151,8 @@ fn comes_out(alloc: Global, trial: &Trial) -> Result<bool, Fail> {
     let mut files = source(alloc, read)?;
     let mut out = sink(alloc, 8, write)?;
     let mut err = sink(alloc, 5, told)?;
-    let (status, report) = answer(alloc, words, &mut files, &mut out, &mut err)?;
-    let is_told = status.code() == code && report.log.len() == entries;
-    Ok(is_told && out.bytes() == text && err.bytes() == line)
+    let ended = answer(alloc, words, &mut files, &mut out, &mut err)?;
+    Ok(ended == (code, entries) && out.bytes() == text && err.bytes() == line)
 }
 
 #[test]
@@ -173,32 +164,10 @@ fn calls(rt: HostRuntime) -> Result<(), Fail> {
     Ok(())
 }
 
-/// Whether the report of the lamp has an expansion, a start and the answer.
-fn reports_the_lamp(alloc: Global) -> Result<bool, Fail> {
-    let mut files = source(alloc, 0)?;
-    let mut out = sink(alloc, 8, 0)?;
-    let mut err = sink(alloc, 5, 0)?;
-    let (_, report) = answer(alloc, &LAMP, &mut files, &mut out, &mut err)?;
-    let solved = Answer::Solved { cost: 1, length: 1 };
-    let is_log = match report.log.as_slice() {
-        [Entry::Act(a, Kind::Expand), Entry::Act(b, Kind::Start)] => {
-            *a == Agent::first() && *b == Agent::first()
-        }
-        _ => false,
-    };
-    Ok(is_log && report.answer == solved && report.views.len() == 0)
-}
-
-#[test]
-fn the_report_of_the_lamp(rt: HostRuntime) -> Result<(), Fail> {
-    assert!(rt; reports_the_lamp(rt.alloc())?);
-    Ok(())
-}
-
 #[test]
 fn an_empty_file_of_the_system(rt: HostRuntime) -> Result<(), Fail> {
     let alloc = rt.alloc();
-    let words = ["solve", "--one", "--h", "blind", "/dev/null", "/dev/null"];
+    let words = ["solve", "--one", "/dev/null", "/dev/null"];
     let words = owned(alloc, &words)?;
     let mut out = sink(alloc, 1000, 0)?;
     let mut err = sink(alloc, 1000, 0)?;

@@ -1,5 +1,5 @@
 -- What a team answers.
-use Rattle.std.specs.Prelude.{ℕ, Option, Some, None, if◌then◌else◌}
+use Rattle.std.specs.Prelude.{ℕ, Option, Some, None, map, if◌then◌else◌}
 use Rattle.std.specs.Option.{option_map_or}
 use Rattle.mp_snapshot.specs.declared.verdict.Verdict.{Verdict}
 use Rattle.mp_snapshot.specs.declared.verdict.Verdict.TheVariants.{Proved, NoPlan, Spent, Continue}
@@ -8,6 +8,7 @@ use Rattle.mp_machine.specs.declared.event.Ending.TheVariants as endings
 use Rattle.mp_machine.specs.AgentRecord.{given_verdict}
 use Rattle.mp_world.specs.declared.answer.Answer.{Answer}
 use Rattle.mp_world.specs.declared.answer.Answer.TheVariants as answers
+use Rattle.mp_world.specs.declared.outcome.Outcome.{Outcome}
 use Rattle.mp_world.specs.RoundRobin.{is_over}
 use Rattle.mp_world.specs.World.{World, agent_at}
 
@@ -32,3 +33,7 @@ answer_of w =
     if is_over w
     then option_map_or (λ r. answer_by r.ending (given_verdict r)) (agent_at w 1) answers.Nothing
     else answers.Nothing
+
+-- What a team found: its answer, and the share of each agent.
+abbrev pub outcome_of : World → Outcome
+outcome_of w = record { answer = answer_of w; shares = map (λ r. r.share) w.agents }

@@ -1,4 +1,4 @@
-use Rattle.mp_top.proofs.One.{one_first, found_none}
+use Rattle.mp_top.proofs.One.{one_first, none_first}
 use Rattle.mp_top.proofs.first.one_first.Goals as goal
 
 pub returns-clause-one : goal.returns-clause-one
@@ -7,4 +7,4 @@ returns-clause-one c =
 
 pub returns-clause-none : goal.returns-clause-none
 returns-clause-none c =
-    found_none (record { one_tree = c.tree_or_fault.ensures.one_tree; one_fault = c.tree_or_fault.ensures.one_fault; not_both = c.tree_or_fault.ensures.not_both; one_first = c.first_fault_is_one.ensures; one_check = c.first_fault_is_one-2.ensures })
+    none_first (record { one_tree = c.tree_or_fault.ensures.one_tree; one_fault = c.tree_or_fault.ensures.one_fault; not_both = c.tree_or_fault.ensures.not_both; one_first = c.first_fault_is_one.ensures; one_check = c.first_fault_is_one-2.ensures })

@@ -1,14 +1,17 @@
-use Rattle.std.proofs.Common.{refl, ◌∙◌}
-use Rattle.mp_top.specs.Refusal.{asked}
-use Rattle.mp_top.proofs.Kept.{kept_outcome, kept_refusal}
+use Rattle.std.proofs.Common.{◌≡◌, ◌∙◌, ap, map, refl}
+use Rattle.mp_files.specs.Fetched.{names_of}
+use Rattle.mp_words.specs.Reads.{wanted_by}
+use Rattle.mp_top.specs.Asked.{agents_of}
+use Rattle.mp_top.proofs.Kept.{kept_memory}
 use Rattle.mp_top.proofs.on_one_thread.answer_request.Goals as goal
 
 pub returns-in-Ok : goal.returns-in-Ok
 returns-in-Ok g c ws asks =
-    kept_outcome c.one_first.ensures.none _ (asked c.args.request.now) c.in-Ok.decision asks c.in-Ok.ensures.outcome
-    (record { answer = c.publish.ensures.report.0; log = c.publish.ensures.report.1; views = c.publish.ensures.report.2 ∙ c.requires.0 }) c.in-Ok.ensures.no_fault c.publish.ensures.told
+    let w = wanted_by c.args.request.now in
+    let names : map names_of c.as_slice-in-Ok.result.now ≡ agents_of w.names =
+    ap (map names_of) c.as_slice-in-Ok.ensures.value ∙ c.in-Ok.ensures
+    ∙ ap (λ ns. agents_of (map (λ name. name.now) ns)) c.as_slice.ensures.value in
+    c.answer_files.ensures ws w asks refl names
 
 pub returns-in-Err : goal.returns-in-Err
-returns-in-Err g c ws asks =
-    kept_refusal c.one_first.ensures.one _ (asked c.args.request.now) c.in-Err.refusal asks c.in-Err.ensures.cause c.in-Err.ensures.fault
-    c.status.ensures (record { out = refl; no_fault = refl; report = refl }) c.tell.ensures
+returns-in-Err g c ws asks = kept_memory _ refl refl (record { out = refl; no_fault = refl; report = refl }) c.tell_memory.ensures

@@ -3,9 +3,12 @@ use Rattle.std.specs.Prelude.{None, Ok}
 use Rattle.std.proofs.lemmas.Option.{none-some}
 use Rattle.mp_messages.specs.History.{schedule as schedule_of}
 use Rattle.mp_schedule.specs.Happening.{IsAnswer, refusal_of}
+use Rattle.mp_schedule.specs.Laws.{KeepsLaws}
 use Rattle.mp_schedule.specs.Machines.{limit_of, tasks_of, team_run, world_of}
 use Rattle.mp_schedule.specs.TeamRun.{TeamRun}
+use Rattle.mp_team_explored.specs.Expansions.{ExpandsOne}
 use Rattle.mp_schedule.proofs.Answering.{answer_ok, fails, goes_on, nothing_against}
+use Rattle.mp_schedule.proofs.Keeping.{expanded, kept}
 use Rattle.mp_schedule.proofs.team.World.event.Goals as goal
 
 pub invariant_of-self : goal.invariant_of-self
@@ -24,8 +27,23 @@ invariant_of-self-in-Err g c =
     c.if-self.false
     c.happen.ensures.tasks c.happen.ensures.limit c.self.invariant
 
-pub returns-in-Ok : goal.returns-in-Ok
-returns-in-Ok g c =
+pub happen-requires-clause-legal : goal.happen-requires-clause-legal
+happen-requires-clause-legal g c =
+    let s = c.self.inside in
+    let none : refusal_of (world_of s.machines.items s.mail) c.args.event ≡ None =
+    ap (λ ms. refusal_of (world_of ms s.mail) c.args.event) (sym c.deref.ensures.value)
+    ∙ sym c.refusal_of.ensures ∙ c.in_default.is in
+    nothing_against (world_of s.machines.items s.mail) c.args.event none
+
+pub returns-in-Some-clause-laws : goal.returns-in-Some-clause-laws
+returns-in-Some-clause-laws g c = λ works.
+    let s = c.self.inside in
+    subst (KeepsLaws g.H.Heuristic.value) c.self.view_is
+    (kept g.H.Heuristic.value s.machines.items s.mail s.log s.failed c.self.invariant c.if-self.false
+    c.runs_keep_laws.ensures.laws)
+
+pub returns-in-Ok-clause-answer : goal.returns-in-Ok-clause-answer
+returns-in-Ok-clause-answer g c =
     let s = c.self.inside in
     let h = c.happen.new in
     let none : refusal_of (world_of s.machines.items s.mail) c.args.event ≡ None =
@@ -36,6 +54,24 @@ returns-in-Ok g c =
     (answer_ok g.H.Heuristic.value s.machines.items h.machines.items s.mail h.mail s.log h.log c.args.event
     s.failed c.if-self.false
     c.in-Ok.ensures.tasks c.in-Ok.ensures.limit c.in-Ok.ensures.done none)
+
+pub returns-in-Ok-clause-laws : goal.returns-in-Ok-clause-laws
+returns-in-Ok-clause-laws g c = λ works.
+    let s = c.self.inside in
+    let h = c.happen.new in
+    kept g.H.Heuristic.value h.machines.items h.mail h.log s.failed
+    (goes_on g.H.Heuristic.value s.machines.items h.machines.items s.mail h.mail s.log h.log c.args.event s.failed
+    c.if-self.false
+    c.in-Ok.ensures.tasks c.in-Ok.ensures.limit c.in-Ok.ensures.done c.self.invariant) works
+    c.runs_keep_laws.ensures.laws
+
+pub returns-in-Ok-clause-one : goal.returns-in-Ok-clause-one
+returns-in-Ok-clause-one g c = λ agent is.
+    let s = c.self.inside in
+    let h = c.happen.new in
+    subst (λ (r : TeamRun). ExpandsOne r.world agent (world_of h.machines.items h.mail)) c.self.view_is
+    (expanded g.H.Heuristic.value s.machines.items s.mail s.log s.failed c.self.invariant c.if-self.false
+    c.runs_keep_laws.ensures.one h.machines.items h.mail h.log c.args.event c.in-Ok.ensures.done agent is)
 
 pub unreachable-requires : goal.unreachable-requires
 unreachable-requires g c =

@@ -1,4 +1,5 @@
-use Rattle.std.proofs.Common.{◌∙◌, ap, replicate, []}
+use Rattle.std.proofs.Common.{◌∙◌, ap, refl, replicate, []}
+use Rattle.mp_schedule.proofs.Keeping.{kept}
 use Rattle.mp_schedule.proofs.Starts.{is_run, starts}
 use Rattle.mp_schedule.proofs.team.World.new.Goals as goal
 
@@ -8,8 +9,16 @@ invariant_of-result g c =
     (c.in_ok-mail.ensures ∙ ap (λ n. replicate n (replicate n [])) (c.len.ensures
     ∙ c.args.machines.ok.0)) c.new-2.ensures
 
-pub returns : goal.returns
-returns g c =
+pub returns-clause-made : goal.returns-clause-made
+returns-clause-made g c =
     starts g.H.Heuristic.value c.args.machines.items c.in_ok-mail.mail c.new-2.result c.requires
     (c.in_ok-mail.ensures ∙ ap (λ n. replicate n (replicate n [])) (c.len.ensures
     ∙ c.args.machines.ok.0)) c.new-2.ensures
+
+pub returns-clause-laws : goal.returns-clause-laws
+returns-clause-laws g c =
+    let ms = c.args.machines.items in
+    let value = g.H.Heuristic.value in
+    kept value ms c.in_ok-mail.mail c.new-2.result _ (is_run value ms c.in_ok-mail.mail c.new-2.result c.requires
+    (c.in_ok-mail.ensures ∙ ap (λ n. replicate n (replicate n [])) (c.len.ensures
+    ∙ c.args.machines.ok.0)) c.new-2.ensures) refl c.runs_keep_laws.ensures.laws

@@ -1,0 +1,7 @@
+//! The text of what a team found, by the names of its files.
+#![tactic(auto)]
+
+mod named;
+mod text;
+
+pub use text::named_text;

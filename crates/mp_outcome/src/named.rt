@@ -1,0 +1,82 @@
+//! The steps of a plan by names, and its shares with numbers that stand for these.
+
+ghost use Rattle.std.specs.Prelude.{◌≡◌, ◌++◌, ◌∷◌, [], List as ListOf, map, IfOk, OnOk};
+ghost use Rattle.mp_grounder.specs.Named.{step_of};
+ghost use Rattle.mp_outcome.specs.Renumbered.{IsRenumbered};
+ghost use Rattle.mp_trail.specs.declared.steps.Timed.{Timed as TimedOf};
+
+use mp_atoms::ActionBinding;
+use mp_ground::step_name;
+use mp_joint::Names;
+use mp_list::{List, OutOfMemory};
+use mp_sets::Agent;
+use mp_trail::{Share, Timed};
+use mp_typing::CheckedFactor;
+use std::alloc::Global;
+
+/// The steps of an agent's share of a plan by names, and the share with their places as numbers. So only the steps of
+/// the plan get names, and not all that an agent could take.
+#[derive(Drop)]
+pub(crate) struct Named {
+    pub(crate) names: Names,
+    pub(crate) share: Share,
+}
+
+impl Named {
+    /// Nothing yet.
+    pub(crate) fn new(alloc: Global) -> Named
+        ensures names { result.names ≡ [] }
+        ensures share { result.share ≡ [] }
+    {
+        Named {
+            names: List::new(alloc),
+            share: List::new(alloc),
+        }
+    }
+
+    /// Adds an action of the agent at its time, where its number stands for a step. That there are more steps than
+    /// numbers of 32 bits is taken for want of memory.
+    fn add(
+        &mut self,
+        alloc: Global,
+        factor: &CheckedFactor,
+        me: Agent,
+        steps: &[ActionBinding],
+        timed: Timed,
+    ) -> Result<(), OutOfMemory>
+        ensures { (share : ListOf TimedOf)
+            → IsRenumbered (map (step_of me factor.now) steps.now) share self.old.names self.old.share
+            → OnOk result (IsRenumbered (map (step_of me factor.now) steps.now) (share ++ timed ∷ [])
+            self.new.names self.new.share) }
+    {
+        let Some(step) = steps.get(timed.action as usize) else {
+            return Ok(());
+        };
+        let Ok(action) = u32::try_from(self.names.len()) else {
+            return Err(OutOfMemory);
+        };
+        self.names.push(step_name(alloc, factor, me, step)?)?;
+        self.share.push(Timed {
+            time: timed.time,
+            action,
+        })
+    }
+}
+
+/// An agent's share of a plan by names. Refuses only for want of memory.
+pub(crate) fn named_share(
+    alloc: Global,
+    factor: &CheckedFactor,
+    me: Agent,
+    steps: &[ActionBinding],
+    share: &[Timed],
+) -> Result<Named, OutOfMemory>
+    ensures { IfOk result (λ named. IsRenumbered (map (step_of me factor.now) steps.now) share.now
+        named.names named.share) }
+{
+    let mut named = Named::new(alloc);
+    for timed in share {
+        named.add(alloc, factor, me, steps, *timed)?;
+    }
+    Ok(named)
+}

@@ -1,4 +1,0 @@
-pub mod Numbered
-pub mod PlainForm
-pub mod PlainAnswer
-pub mod PlainContribution

@@ -1,0 +1,59 @@
+-- The answer of a team is right for its files.
+use Rattle.std.proofs.Common.{arith, ◌≡◌, ◌≤◌, ℕ, ◌∷◌, List, [], length, All, Option, Some, true, ap, ◌∙◌}
+use Rattle.std.specs.Prelude.{Contains}
+use Rattle.mp_sets.specs.Numbers.{Numbers}
+use Rattle.mp_factor.specs.declared.factor.Factor.{Factor}
+use Rattle.mp_joint.specs.declared.plan.PlanStep.{PlanStep}
+use Rattle.mp_list.proofs.Members.{contains_head}
+use Rattle.mp_task.specs.Agree.{Agree}
+use Rattle.mp_task.specs.AgentTask.{AgentTask}
+use Rattle.mp_task.specs.Limits.{IsWithinLimits}
+use Rattle.mp_messages.specs.declared.history.Entry.{Entry}
+use Rattle.mp_messages.specs.declared.history.Event.{Event}
+use Rattle.mp_world.specs.Answers.{answer_of, outcome_of}
+use Rattle.mp_world.specs.Events.{run}
+use Rattle.mp_world.specs.RoundRobin.{is_over}
+use Rattle.mp_world.specs.World.{World}
+use Rattle.mp_world.proofs.Runs.{run_of_team}
+use Rattle.mp_world.proofs.Stepping.{team_size}
+use Rattle.mp_grounder.specs.Checked.{IsChecked}
+use Rattle.mp_split.specs.Team.{AreTasksOf}
+use Rattle.mp_split.specs.declared.team.Tasks.{Tasks}
+use Rattle.mp_stands.proofs.Files.{files_stand}
+use Rattle.mp_team_explored.proofs.SoundWorlds.{IsHeuristic}
+use Rattle.mp_team_verdicts.proofs.Answers.{answer_right}
+use Rattle.mp_text.specs.Outcome.{outcome_text}
+use Rattle.mp_outcome.specs.Names.{names_of}
+use Rattle.mp_solutions.specs.PlanText.{answer_text, plan_lines}
+use Rattle.mp_solutions.specs.Right.{IsRight}
+use Rattle.mp_solutions.proofs.Answers.{right_for_files}
+use Rattle.mp_solutions.proofs.Names.{names_are, steps_are_own}
+use Rattle.mp_solutions.proofs.PlanTexts.{texts_agree}
+
+-- a list with an item has a first one
+some_task : (tasks : List AgentTask) → 1 ≤ length tasks → (t : AgentTask) × Contains tasks t
+some_task [] some = absurd (omega (arith, some))
+some_task (t ∷ ts) some = (t, contains_head t ts)
+
+pub answer_for_files : (value : AgentTask → Numbers → Numbers → Option ℕ) (limit : ℕ) (team : List Factor) (t : Tasks)
+    → All IsChecked team → 1 ≤ length team → AreTasksOf team t → All IsWithinLimits t.tasks → limit ≤ 10000000
+    → (Agree t.tasks → IsHeuristic value t.tasks)
+    → (schedule : List Event) (last : World) → run value limit t.tasks schedule ≡ Some last → is_over last ≡ true
+    → (plan : List PlanStep)
+    × IsRight value limit team t.tasks schedule last (answer_of last) plan
+    × ((log : List Entry) → outcome_text (outcome_of last) (names_of team t.steps) log ≡ answer_text (length team) (answer_of last) plan log)
+answer_for_files value limit team t all some are limits most heuristic schedule last ran finished =
+    let found = files_stand team t all are in
+    let numbering = found.0 in
+    let stands = found.2 in
+    let one_each = stands.one_each in
+    let member = some_task t.tasks (omega (arith, one_each, some)) in
+    let right = answer_right value limit t.tasks stands.agree limits most (heuristic stands.agree) member.0 member.1 schedule last ran finished in
+    let size : length last.agents ≡ length team = team_size t.tasks last (run_of_team value limit t.tasks schedule last ran) ∙ one_each in
+    right_for_files value limit team t.tasks schedule last numbering stands (names_of team t.steps)
+    (λ numbers plan shares named.
+    texts_agree (names_of team t.steps) numbers plan numbering last shares named
+    (λ place less. names_are team t are numbering found.1 place (omega (arith, less, size)))
+    (λ agent low high. steps_are_own team t are numbering found.1 agent low (omega (arith, high, size)))
+    ∙ ap (λ (n : ℕ). plan_lines n plan) size)
+    (answer_of last) right

@@ -1,0 +1,7 @@
+-- the text of a plan is that of the agents' shares; what the agents' actions stand for, agent by agent; plans by names;
+-- answers for files; all together
+pub mod PlanTexts
+pub mod Names
+pub mod Plans
+pub mod Answers
+pub mod Files

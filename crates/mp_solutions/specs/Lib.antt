@@ -1,0 +1,6 @@
+-- the text of an answer with its plan
+pub mod PlanText
+-- when an answer is right for a team's files
+pub mod Right
+-- what a team finds
+pub mod Solution

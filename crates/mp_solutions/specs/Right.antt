@@ -1,0 +1,51 @@
+-- When an answer of a team is right for its files.
+use Rattle.std.specs.Prelude.{◌≡◌, ℕ, ◌≤◌, List, length, Option}
+use Rattle.mp_factor.specs.declared.factor.Factor.{Factor}
+use Rattle.mp_sets.specs.Numbers.{Numbers}
+use Rattle.mp_joint.specs.declared.plan.PlanStep.{PlanStep}
+use Rattle.mp_joint.specs.FactorContribution.{team_of}
+use Rattle.mp_joint.specs.Plan.{Solves, cost as cost_of}
+use Rattle.mp_task.specs.AgentTask.{AgentTask}
+use Rattle.mp_messages.specs.declared.history.Event.{Event}
+use Rattle.mp_world.specs.declared.answer.Answer.{Answer}
+use Rattle.mp_world.specs.declared.answer.Answer.TheVariants.{Nothing, Solved, Unsolvable, Undecided}
+use Rattle.mp_world.specs.World.{World}
+use Rattle.mp_team_verdicts.specs.Right.{IsLeftUndecided as IsTeamLeftUndecided}
+
+-- each plan that solves the united problem of these files costs at least so much
+abbrev pub CostsAtLeast : List Factor → ℕ → Type 0
+CostsAtLeast team least = (plan : List PlanStep) → Solves (team_of team) plan → least ≤ cost_of (team_of team) plan
+
+-- no plan solves it
+abbrev pub IsUnsolvable : List Factor → Type 0
+IsUnsolvable team = (plan : List PlanStep) → Solves (team_of team) plan → ⊥
+
+-- a plan of so many steps solves it at a cost, and no plan that solves costs less
+pub record IsCheapest (team : List Factor) (cost steps : ℕ) (plan : List PlanStep) : Type 0 where
+  pub solves : Solves (team_of team) plan
+  pub cost_is : cost_of (team_of team) plan ≡ cost
+  pub steps_are : length plan ≡ steps
+  pub least : CostsAtLeast team cost
+
+module _
+    (value : AgentTask → Numbers → Numbers → Option ℕ)
+    (limit : ℕ)
+    (team : List Factor)
+    (tasks : List AgentTask)
+    (schedule : List Event)
+    (last : World)
+  where
+    -- The search for a plan is left undecided: an agent is at its limit, as for the tasks, and each plan that solves
+    -- costs at least what its least open entry did.
+    pub record IsLeftUndecided : Type 0 where
+      pub left : IsTeamLeftUndecided value limit tasks schedule last
+      pub least : CostsAtLeast team left.undecided.at_limit.least
+
+    -- An answer is right for the files that these tasks stand for, after a schedule that has led to this world: a plan is
+    -- a cheapest one, there is none where it says so, and the search is left undecided where it says so. It is not right
+    -- that there is no answer.
+    abbrev pub IsRight : Answer → List PlanStep → Type 0
+    IsRight Nothing plan = ⊥
+    IsRight (Solved cost steps) plan = IsCheapest team cost steps plan
+    IsRight Unsolvable plan = IsUnsolvable team
+    IsRight Undecided plan = IsLeftUndecided

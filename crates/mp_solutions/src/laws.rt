@@ -1,0 +1,35 @@
+//! The answers of a team are right for its files. The law is the contract of a function that does nothing.
+
+ghost use Rattle.std.specs.Prelude.{◌≡◌, ◌≤◌, ℕ, true, length, List, Some, All};
+ghost use Rattle.mp_factor.specs.declared.factor.Factor.{Factor};
+ghost use Rattle.mp_grounder.specs.Checked.{IsChecked};
+ghost use Rattle.mp_joint.specs.declared.plan.PlanStep.{PlanStep};
+ghost use Rattle.mp_messages.specs.declared.history.Entry.{Entry};
+ghost use Rattle.mp_messages.specs.declared.history.Event.{Event};
+ghost use Rattle.mp_task.specs.Limits.{IsWithinLimits};
+ghost use Rattle.mp_world.specs.Answers.{answer_of, outcome_of};
+ghost use Rattle.mp_world.specs.Events.{run};
+ghost use Rattle.mp_world.specs.RoundRobin.{is_over};
+ghost use Rattle.mp_world.specs.World.{World};
+ghost use Rattle.mp_split.specs.Team.{AreTasksOf};
+ghost use Rattle.mp_split.specs.declared.team.Tasks.{Tasks};
+ghost use Rattle.mp_text.specs.Outcome.{outcome_text};
+ghost use Rattle.mp_outcome.specs.Names.{names_of};
+ghost use Rattle.mp_solutions.specs.PlanText.{answer_text};
+ghost use Rattle.mp_solutions.specs.Right.{IsRight};
+
+use mp_task::Heuristic;
+
+/// Once all agents of a team with the tasks of some files have ended after a legal schedule, the answer is right for
+/// the united problem of the files, by a plan whose text is that of the agents' shares, by the names that their actions
+/// stand for.
+pub fn answers_are_right_for_files<H: Heuristic>()
+    ensures { (team : List Factor) (tasks : Tasks) (limit : ℕ) (schedule : List Event) (last : World)
+        → All IsChecked team → 1 ≤ length team → AreTasksOf team tasks
+        → All IsWithinLimits tasks.tasks → limit ≤ 10000000
+        → run H.value limit tasks.tasks schedule ≡ Some last → is_over last ≡ true
+        → (plan : List PlanStep)
+        × IsRight H.value limit team tasks.tasks schedule last (answer_of last) plan
+        × ((log : List Entry) → outcome_text (outcome_of last) (names_of team tasks.steps) log
+        ≡ answer_text (length team) (answer_of last) plan log) }
+{}

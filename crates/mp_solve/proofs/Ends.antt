@@ -1,0 +1,66 @@
+-- New machines for the tasks of a team, and their turns until all have ended.
+use Rattle.std.proofs.Common.{◌≡◌, ◌≤◌, ℕ, false, List, [], ◌∷◌, ◌++◌, length, All, Option, refl}
+use Rattle.std.proofs.Common.{sym, ap, subst, ◌∙◌, arith}
+use Rattle.std.specs.Prelude.{slice_index_or}
+use Rattle.std.proofs.lemmas.List.{length-map}
+use Rattle.std.proofs.lemmas.List.Elements.{All-map}
+use Rattle.mp_sets.specs.Numbers.{Numbers}
+use Rattle.mp_task.specs.Agree.{Agree}
+use Rattle.mp_task.specs.AgentTask.{AgentTask}
+use Rattle.mp_task.specs.Limits.{IsWithinLimits}
+use Rattle.mp_machine.specs.Machine.{AgentMachine}
+use Rattle.mp_world.specs.RoundRobin.{IsRoundRobin}
+use Rattle.mp_world.specs.World.{start_world}
+use Rattle.mp_schedule.specs.Machines.{AreNew, limit_of, new_machine, tasks_of}
+use Rattle.mp_schedule.specs.TeamRun.{HasDone, IsRun, IsTeam, TeamRun, start_run}
+use Rattle.mp_solve.specs.Ended.{HasEnded}
+use Rattle.mp_solve.specs.Machines.{new_machines}
+
+module _ (value : AgentTask → Numbers → Numbers → Option ℕ) (limit : ℕ) where
+  new_tasks : (ts : List AgentTask) → tasks_of (new_machines value limit ts) ≡ ts
+  new_tasks [] = refl
+  new_tasks (t ∷ ts) = ap (λ us. t ∷ us) (new_tasks ts)
+
+  new_limit : (ts : List AgentTask) → 1 ≤ length ts → limit_of (new_machines value limit ts) ≡ limit
+  new_limit [] some = absurd (omega arith)
+  new_limit (t ∷ ts) some = refl
+
+  module _ (ts : List AgentTask) (some : 1 ≤ length ts) (ms : List AgentMachine)
+      (are : ms ≡ new_machines value limit ts)
+    where
+      -- they may run
+      pub are_new : length ts ≤ 16 → limit ≤ 10000000 → Agree ts → All IsWithinLimits ts → AreNew value ms
+      are_new few few_entries agree within =
+          let made = new_machines value limit ts in
+          let size : length made ≡ length ts = length-map ts (new_machine value limit) in
+          subst (AreNew value) (sym are) (record {
+            new = All-map (λ m. m ≡ new_machine value (limit_of made) m.done.task) (new_machine value limit) ts
+                (λ k d inside. ap (λ n. new_machine value n (slice_index_or ts k d)) (sym (new_limit ts some)));
+            agree = subst Agree (sym (new_tasks ts)) agree;
+            within = subst (All IsWithinLimits) (sym (new_tasks ts)) within;
+            few_entries = subst (λ n. n ≤ 10000000) (sym (new_limit ts some)) few_entries;
+            from_1 = subst (λ n. 1 ≤ n) (sym size) some;
+            at_most = subst (λ n. n ≤ 16) (sym size) few;
+          })
+
+      -- from the start they have taken turns until all have ended
+      pub has_ended : (old new : TeamRun) → old ≡ start_run value (limit_of ms) (tasks_of ms)
+          → HasDone (IsRoundRobin value) old new → IsTeam new → (new.failed ≡ false → IsRun value new)
+          → HasEnded value limit ts new
+      has_ended old new start done team runs =
+          let tasks : tasks_of ms ≡ ts = ap tasks_of are ∙ new_tasks ts in
+          let limits : limit_of ms ≡ limit = ap limit_of are ∙ new_limit ts some in
+          let begun : old ≡ start_run value limit ts = start ∙ (λ i. start_run value (limits i) (tasks i)) in
+          let free : new.failed ≡ false = done.kept ∙ ap (λ (r : TeamRun). r.failed) begun in
+          let events : new.schedule ≡ done.events =
+          done.appended ∙ ap (λ (r : TeamRun). r.schedule ++ done.events) begun in
+          record {
+            tasks_are = done.same.tasks ∙ ap (λ (r : TeamRun). r.tasks) begun;
+            limit_is = done.same.limit ∙ ap (λ (r : TeamRun). r.limit) begun;
+            team = team;
+            free = free;
+            run = runs free;
+            round_robin = subst (λ es. IsRoundRobin value (start_world value limit ts) es new.world) (sym events)
+                (subst (λ w. IsRoundRobin value w done.events new.world) (ap (λ (r : TeamRun). r.world) begun)
+                done.done);
+          }

@@ -1,0 +1,21 @@
+-- A team whose agents have ended.
+use Rattle.std.specs.Prelude.{◌≡◌, ℕ, false, List, Option}
+use Rattle.mp_sets.specs.Numbers.{Numbers}
+use Rattle.mp_task.specs.AgentTask.{AgentTask}
+use Rattle.mp_world.specs.RoundRobin.{IsRoundRobin}
+use Rattle.mp_world.specs.World.{start_world}
+use Rattle.mp_schedule.specs.TeamRun.{IsRun, IsTeam, TeamRun}
+
+-- the agents with these tasks have taken turns from the start until all have ended
+pub record HasEnded
+    (value : AgentTask → Numbers → Numbers → Option ℕ)
+    (limit : ℕ)
+    (tasks : List AgentTask)
+    (r : TeamRun)
+    : Type 0 where
+  pub tasks_are : r.tasks ≡ tasks
+  pub limit_is : r.limit ≡ limit
+  pub team : IsTeam r
+  pub free : r.failed ≡ false
+  pub run : IsRun value r
+  pub round_robin : IsRoundRobin value (start_world value limit tasks) r.schedule r.world

@@ -1,0 +1,82 @@
+//! The machines of a team, and their turns.
+
+ghost use Rattle.std.specs.Prelude.{◌≡◌, ◌≤◌, length, All, IfOk};
+ghost use Rattle.mp_schedule.specs.Machines.{new_machine};
+ghost use Rattle.mp_solve.specs.Ended.{HasEnded};
+ghost use Rattle.mp_solve.specs.Machines.{new_machines};
+ghost use Rattle.mp_task.specs.Agree.{Agree};
+ghost use Rattle.mp_task.specs.Limits.{IsWithinLimits};
+
+use mp_list::{Copied, OutOfMemory};
+use mp_machine::Machine;
+use mp_schedule::World;
+use mp_task::{Heuristic, Task};
+use std::alloc::Global;
+
+/// A new machine for a task.
+fn machine_of<H: Heuristic>(
+    alloc: Global,
+    task: &Task,
+    limit: u64,
+) -> Result<Machine<H>, OutOfMemory>
+    requires from_1 { 1 ≤ limit }
+    requires limit { limit ≤ 10000000 }
+    ensures { IfOk result (λ made. made ≡ new_machine H.value limit task.now) }
+{
+    let heuristic = H::make(alloc, task)?;
+    Machine::new(alloc, task.copy()?, heuristic, limit)
+}
+
+/// A new machine for each task.
+fn machines_of<H: Heuristic>(
+    alloc: Global,
+    tasks: &[Task],
+    limit: u64,
+) -> Result<Vec<Machine<H>>, OutOfMemory>
+    requires from_1 { 1 ≤ limit }
+    requires limit { limit ≤ 10000000 }
+    ensures { IfOk result (λ machines. machines.items ≡ new_machines H.value limit tasks.now) }
+{
+    let mut machines = Vec::with_capacity(alloc, tasks.len())?;
+    for task in tasks {
+        machines.push(machine_of(alloc, task, limit)?)?;
+    }
+    Ok(machines)
+}
+
+/// A task is within the limits of the program.
+fn is_within_limits(task: &Task)
+    ensures { IsWithinLimits task.now }
+{
+    let _ = &task.met;
+}
+
+/// All tasks are within the limits of the program.
+fn are_within_limits(tasks: &[Task])
+    ensures { All IsWithinLimits tasks.now }
+{
+    for task in tasks {
+        is_within_limits(task);
+    }
+}
+
+/// The agents with these tasks take turns until all have ended. Refuses only for want of memory.
+pub(crate) fn ended<H: Heuristic>(
+    alloc: Global,
+    tasks: &[Task],
+    limit: u64,
+) -> Result<World<H>, OutOfMemory>
+    requires from_1 { 1 ≤ limit }
+    requires limit { limit ≤ 10000000 }
+    requires agree { Agree tasks.now }
+    requires some { 1 ≤ length tasks.now }
+    requires at_most { length tasks.now ≤ 16 }
+    ensures { IfOk result (HasEnded H.value limit tasks.now) }
+{
+    are_within_limits(tasks);
+    let machines = machines_of(alloc, tasks, limit)?;
+    let mut world = World::new(alloc, machines)?;
+    world.round_robin()?;
+    world.comes_from_a_run();
+    Ok(world)
+}

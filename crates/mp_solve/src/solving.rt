@@ -1,0 +1,79 @@
+//! What the agents of a team find.
+
+ghost use Rattle.std.specs.Prelude.{◌≡◌, ◌≤◌, ℕ, length, Some, slice_get, All, IfOk, IfErr, OnOk};
+ghost use Rattle.mp_factor.specs.declared.factor.Factor.{Factor};
+ghost use Rattle.mp_ground.specs.Limits.{IsWithin};
+ghost use Rattle.mp_grounder.specs.Checked.{IsChecked};
+ghost use Rattle.mp_solutions.specs.Solution.{IsSolution};
+ghost use Rattle.mp_split.specs.Team.{AreTasksOf, IsFirstRefusal, known_at};
+
+use crate::machines::ended;
+use crate::told::told;
+use mp_ground::GroundRefusal;
+use mp_grounder::laws::checked_factor_is_checked;
+use mp_list::OutOfMemory;
+use mp_solutions::{Solution, answers_are_right_for_files};
+use mp_split::{Tasks, tasks};
+use mp_stands::laws::tasks_stand_for_files;
+use mp_task::Heuristic;
+use mp_typing::CheckedFactor;
+use std::alloc::Global;
+
+/// All factors have passed the checks.
+fn are_checked(factors: &[CheckedFactor])
+    ensures { All IsChecked factors.now }
+{
+    for factor in factors {
+        checked_factor_is_checked(factor);
+    }
+}
+
+/// What the agents with these tasks find.
+fn solved<H: Heuristic>(
+    alloc: Global,
+    factors: &[CheckedFactor],
+    given: Tasks,
+    limit: u64,
+) -> Result<Solution, OutOfMemory>
+    requires from_1 { 1 ≤ limit }
+    requires limit { limit ≤ 10000000 }
+    requires some { 1 ≤ length factors.now }
+    requires at_most { length factors.now ≤ 16 }
+    requires tasks { AreTasksOf factors.now given }
+    ensures { IfOk result (IsSolution H.value limit factors.now) }
+{
+    let Tasks {
+        tasks,
+        steps,
+        views,
+    } = given;
+    are_checked(factors);
+    tasks_stand_for_files();
+    answers_are_right_for_files::<H>();
+    let world = ended::<H>(alloc, tasks.as_slice(), limit)?;
+    drop(tasks);
+    told(alloc, factors, steps.as_slice(), views, world)
+}
+
+/// What the agents of a team find, each of which expands at most `limit` entries, from 1 to 10,000,000: their factors are
+/// grounded, each gets its task, and they take turns until all have ended. There are 1 to 16 agents.
+///
+/// It refuses where a factor is not grounded, as the first of the agents with such a factor does, and for want of memory.
+#[tactic(auto, using(mp_split::proofs::FirstAgents::no_memory))]
+pub fn solve<H: Heuristic>(
+    alloc: Global,
+    factors: &[CheckedFactor],
+    limit: u64,
+) -> Result<Solution, GroundRefusal>
+    requires from_1 { 1 ≤ limit }
+    requires limit { limit ≤ 10000000 }
+    requires some { 1 ≤ length factors.now }
+    requires at_most { length factors.now ≤ 16 }
+    ensures solution { IfOk result (IsSolution H.value limit factors.now) }
+    ensures within { OnOk result ((place : ℕ) (factor : Factor) → slice_get factors.now place ≡ Some factor
+        → IsWithin (known_at factors.now place factor)) }
+    ensures refused { IfErr result (IsFirstRefusal factors.now) }
+{
+    let given = tasks(alloc, factors)?;
+    Ok(solved::<H>(alloc, factors, given, limit)?)
+}

@@ -1,8 +1,0 @@
-use Rattle.std.proofs.Common.{◌≡◌, ◌++◌, ◌∷◌, take}
-use Rattle.std.specs.List.{flat_map}
-use Rattle.mp_top.proofs.outcome.push_arguments.Given as goal
-
--- the text has grown by the arguments so far
-abbrev pub invariant-loop-arg : goal.invariant-loop-arg
-invariant-loop-arg l =
-    l.text.items ≡ l.fn.text.items ++ flat_map (λ arg. 32 ∷ arg) (take l.arg-index l.arg-items)
