@@ -1,7 +1,10 @@
--- the order of costs; values of facts; that rounds come to an end; the laws of the heuristic
+-- rows, users and operators in arrays; the projected problem; numbers and the queue; counts of open preconditions; what is
+-- found
 pub mod RowLemmas
+pub mod TimesLemmas
 pub mod UserLemmas
 pub mod ZippedLemmas
 pub mod ProjectedLemmas
 pub mod SearchLemmas
+pub mod CountLemmas
 pub mod Found

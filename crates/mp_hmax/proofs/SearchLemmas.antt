@@ -1,13 +1,11 @@
 -- Numbers and the queue in the search.
-use Rattle.std.proofs.Common.{◌≡◌, ◌≢◌, ℕ, zero, suc, ◌+◌, ◌<◌, ◌≤◌, Bool, true, false, cond, eqb, max, Option, Some, None, option_map, List, [], ◌∷◌, length, get_or, All, Contains, refl, sym, ap, ◌∙◌, subst, ⊎_elim, get_or-set_same, get_or-set_other, arith}
+use Rattle.std.proofs.Common.{◌≡◌, ◌≢◌, ℕ, zero, suc, ◌+◌, ◌<◌, ◌≤◌, true, cond, max, Option, Some, None, option_map, List, [], ◌∷◌, length, get_or, All, Contains, refl, sym, ap, ◌∙◌, subst, ⊎_elim, get_or-set_same, get_or-set_other, arith}
 use Rattle.std.proofs.Math.ListN.{set as set_at}
-use Rattle.std.proofs.lemmas.Bool.{both_ways, cases_eq, eq-eqb, eqb-true, lt-ltb, le-ltb, cases_lt}
+use Rattle.std.proofs.lemmas.Bool.{cases_eq, lt-ltb, le-ltb, cases_lt}
 use Rattle.std.proofs.lemmas.List.{length-set}
 use Rattle.std.proofs.lemmas.List.Elements.{All-cons, All-head, All-tail, Contains-append_right, Contains-append_left, Contains-append_cases}
 use Rattle.std.proofs.lemmas.List.Sums.{sum_by-set}
 use Rattle.std.proofs.lemmas.List.Sorted.{All-permutation, Contains-permutation, length_permutation}
-use Rattle.std.proofs.lemmas.List.Folds.{Any-from_list_any, list_any_at}
-use Rattle.std.specs.List.{list_any}
 use Rattle.std.specs.List.Sorted.{IsPermutation}
 use Rattle.mp_task.specs.Strips.{Operator}
 use Rattle.mp_hmax.specs.Estimates.{AtMost, greater}
@@ -25,7 +23,7 @@ greater-assoc (Some l) None c = refl
 greater-assoc (Some l) (Some m) None = refl
 greater-assoc (Some l) (Some m) (Some n) = let e : max (max l m) n ≡ max l (max m n) = omega arith in ap Some e
 
-greater-none : (a : Option ℕ) → greater a None ≡ None
+pub greater-none : (a : Option ℕ) → greater a None ≡ None
 greater-none None = refl
 greater-none (Some m) = refl
 
@@ -210,28 +208,9 @@ pub served_popped : (os : List Operator) (numbers : List ℕ) (queue rest : List
 served_popped os numbers queue rest cost x k popped other served quiet =
     served (λ i e lt. popped_quiet numbers queue rest cost x _ popped (other i e lt) (quiet i e lt))
 
--- each operator is served where those with the entry's fact as a precondition have been
-pub served_now : (os : List Operator) (numbers : List ℕ) (queue rest : List Key) (new : List ℕ) (after : List Key) (cost x k : ℕ) → IsPermutation queue (key cost x ∷ rest) → HaveFallen numbers rest new after → IsServed os numbers queue k → (Contains (operator_at os k).pre x → IsServed os new after k) → IsServed os new after k
-served_now os numbers queue rest new after cost x k popped fallen before users =
-    by (list_any (λ y. eqb y x) (operator_at os k).pre) refl
-  where
-    found : list_any (λ y. eqb y x) (operator_at os k).pre ≡ true → Contains (operator_at os k).pre x
-    found e =
-        let some = Any-from_list_any (λ y. eqb y x) (operator_at os k).pre e in
-        let is : some.1 ≡ x = eqb-true some.1 x some.4 in
-        subst (Contains (operator_at os k).pre) is (some.0, some.2, some.3)
-
-    by : (b : Bool) → list_any (λ y. eqb y x) (operator_at os k).pre ≡ b → IsServed os new after k
-    by true e = users (found e)
-    by false e =
-        served_kept os numbers rest new after k fallen
-        (served_popped os numbers queue rest cost x k popped
-        (λ i d lt is _. both_ways _ e (list_any_at (λ y. eqb y x) (operator_at os k).pre i d lt (eq-eqb _ x is)))
-        before)
-
 -- before a search
 
-none_at : (numbers : List ℕ) → All (λ n. n ≡ unknown) numbers → (x : ℕ) → number_at numbers x ≡ unknown
+pub none_at : (numbers : List ℕ) → All (λ n. n ≡ unknown) numbers → (x : ℕ) → number_at numbers x ≡ unknown
 none_at [] h x = refl
 none_at (n ∷ numbers) h zero = All-head (λ n. n ≡ unknown) n numbers h
 none_at (n ∷ numbers) h (suc x) = none_at numbers (All-tail (λ n. n ≡ unknown) n numbers h) x

@@ -1,16 +1,17 @@
 -- Numbers of operators in the lists of their preconditions.
-use Rattle.std.proofs.Common.{◌≡◌, ℕ, ◌+◌, ◌<◌, List, [], ◌∷◌, ◌++◌, length, get_or, take, All, Contains, refl, sym, ◌∙◌, subst, ⊎_elim, get_or-set_same, get_or-set_other, arith}
+use Rattle.std.proofs.Common.{◌≡◌, ◌≢◌, ℕ, ◌+◌, ◌<◌, ◌≤◌, List, [], ◌∷◌, ◌++◌, length, get_or, take, All, refl, sym, ap, ◌∙◌, subst, ⊎_elim, get_or-set_same, get_or-set_other, arith}
 use Rattle.std.proofs.Math.ListN.{set as set_at}
 use Rattle.std.proofs.lemmas.Bool.{cases_eq}
 use Rattle.std.proofs.lemmas.List.{take_more, length-set, get_or_default}
-use Rattle.std.proofs.lemmas.List.Elements.{All-set, All-push, All-get_or, Contains-push, Contains-push_cases, Contains-append_left}
-use Rattle.mp_hmax.specs.Users.{AreUsers, Takes}
+use Rattle.std.proofs.lemmas.List.Elements.{All-set, All-push, All-get_or}
+use Rattle.mp_hmax.specs.Users.{AreUsers, Takes, times}
+use Rattle.mp_hmax.proofs.TimesLemmas.{times-append, times_same, times_other}
 
 pub takes_none : (old : List (List ℕ)) (places : List ℕ) (n : ℕ) → Takes old (take 0 places) n old
 takes_none old places n = record {
   as_many = refl;
-  kept = λ x k h. h;
-  taken = λ x h. absurd (omega (arith, h.1));
+  kept = λ x k. omega arith;
+  taken = λ x. omega arith;
   bounded = λ m lt h. h;
 }
 
@@ -21,22 +22,52 @@ module _ (old new : List (List ℕ)) (places : List ℕ) (n i x : ℕ) (so_far :
   now : List (List ℕ)
   now = set_at new x grown
 
-  still : (y k : ℕ) → Contains (get_or new y []) k → Contains (get_or now y []) k
+  changed : get_or now x [] ≡ grown
   unfolding now grown
-  still y k h = ⊎_elim
-      (λ e. subst (λ z. Contains (get_or (set_at new x (get_or new x [] ++ n ∷ [])) z []) k) (sym e) (subst (λ l. Contains l k) (sym (get_or-set_same new x (get_or new x [] ++ n ∷ []) [] inside)) (Contains-append_left (get_or new x []) (n ∷ []) k (subst (λ z. Contains (get_or new z []) k) e h))))
-      (λ ne. subst (λ l. Contains l k) (sym (get_or-set_other new x y (get_or new x [] ++ n ∷ []) [] ne)) h)
+  changed = get_or-set_same new x (get_or new x [] ++ n ∷ []) [] inside
+
+  unchanged : (y : ℕ) → y ≢ x → get_or now y [] ≡ get_or new y []
+  unfolding now grown
+  unchanged y ne = get_or-set_other new x y (get_or new x [] ++ n ∷ []) [] ne
+
+  more_at : (k : ℕ) → times k (get_or now x []) ≡ times k (get_or new x []) + times k (n ∷ [])
+  unfolding now grown
+  more_at k = ap (times k) changed ∙ times-append k (get_or new x []) (n ∷ [])
+
+  still : (y k : ℕ) → times k (get_or new y []) ≤ times k (get_or now y [])
+  still y k = ⊎_elim
+      (λ e. subst (λ z. times k (get_or new z []) ≤ times k (get_or now z [])) (sym e) (let m = more_at k in omega arith))
+      (λ ne. let same = ap (times k) (unchanged y ne) in omega arith)
+      (cases_eq y x)
+
+  place : (y : ℕ) → times y (take (i + 1) places) ≡ times y (take i places) + times y (x ∷ [])
+  place y =
+      ap (times y) (take_more places i 0 within ∙ (λ j. take i places ++ sym is j ∷ []))
+      ∙ times-append y (take i places) (x ∷ [])
+
+  taken_at : (y : ℕ) → times n (get_or old y []) + times y (take (i + 1) places) ≤ times n (get_or now y [])
+  taken_at y = ⊎_elim
+      (λ e.
+      let before = so_far.taken y in
+      let here = place y in
+      let once : times y (x ∷ []) ≡ 1 = subst (λ z. times z (x ∷ []) ≡ 1) (sym e) (times_same x) in
+      let new_one = times_same n in
+      let grows : times n (get_or now y []) ≡ times n (get_or new y []) + times n (n ∷ []) = subst (λ z. times n (get_or now z []) ≡ times n (get_or new z []) + times n (n ∷ [])) (sym e) (more_at n) in
+      omega arith)
+      (λ ne.
+      let before = so_far.taken y in
+      let here = place y in
+      let never = times_other y x ne in
+      let same = ap (times n) (unchanged y ne) in
+      omega arith)
       (cases_eq y x)
 
   pub takes_more : Takes old (take (i + 1) places) n (set_at new x (get_or new x [] ++ n ∷ []))
   unfolding now grown
   takes_more = record {
     as_many = length-set new x (get_or new x [] ++ n ∷ []) ∙ so_far.as_many;
-    kept = λ y k h. still y k (so_far.kept y k h);
-    taken = λ y h. ⊎_elim
-        (λ before. still y n (so_far.taken y before))
-        (λ e. subst (λ z. Contains (get_or (set_at new x (get_or new x [] ++ n ∷ [])) z []) n) e (subst (λ l. Contains l n) (sym (get_or-set_same new x (get_or new x [] ++ n ∷ []) [] inside)) (Contains-push (get_or new x []) n)))
-        (Contains-push_cases (take i places) x y (subst (λ l. Contains l y) (take_more places i 0 within ∙ (λ j. take i places ++ sym is j ∷ [])) h));
+    kept = λ y k. let before = so_far.kept y k in let now_too = still y k in omega arith;
+    taken = taken_at;
     bounded = λ m lt all. All-set (All (λ k. k < m)) new x (get_or new x [] ++ n ∷ [])
         (All-push (λ k. k < m) (get_or new x []) n (All-get_or (All (λ k. k < m)) new x [] inside (so_far.bounded m lt all)) lt)
         (so_far.bounded m lt all);
@@ -52,22 +83,22 @@ module _ (old new : List (List ℕ)) (places : List ℕ) (n i x : ℕ) (so_far :
 pub record Noted (size : ℕ) (rows : List (List ℕ)) (n : ℕ) (lists : List (List ℕ)) : Type 0 where
   pub sized : length lists ≡ size
   pub rows_alone : All (All (λ k. k < length rows)) lists
-  pub all : (k x : ℕ) → k < n → Contains (get_or rows k []) x → Contains (get_or lists x []) k
+  pub all : (k x : ℕ) → k < n → times x (get_or rows k []) ≤ times k (get_or lists x [])
 
 pub noted_none : (size : ℕ) (rows lists : List (List ℕ)) → length lists ≡ size → All (λ l. l ≡ []) lists → Noted size rows 0 lists
 noted_none size rows lists sized none = record {
   sized = sized;
   rows_alone = λ i d h. subst (All (λ k. k < length rows)) (sym (none i d h)) (λ j e lt. absurd (omega arith));
-  all = λ k x lt h. absurd (omega arith);
+  all = λ k x lt. absurd (omega arith);
 }
 
 pub noted_more : (size : ℕ) (rows lists new : List (List ℕ)) (n : ℕ) → Noted size rows n lists → n < length rows → Takes lists (get_or rows n []) n new → Noted size rows (n + 1) new
 noted_more size rows lists new n noted within takes = record {
   sized = takes.as_many ∙ noted.sized;
   rows_alone = takes.bounded (length rows) within noted.rows_alone;
-  all = λ k x lt h. ⊎_elim
-      (λ e. subst (Contains (get_or new x [])) (sym e) (takes.taken x (subst (λ j. Contains (get_or rows j []) x) e h)))
-      (λ ne. takes.kept x k (noted.all k x (omega arith) h))
+  all = λ k x lt. ⊎_elim
+      (λ e. subst (λ j. times x (get_or rows j []) ≤ times j (get_or new x [])) (sym e) (let here = takes.taken x in omega arith))
+      (λ ne. let before = noted.all k x (omega arith) in let kept = takes.kept x k in omega arith)
       (cases_eq k n);
 }
 
@@ -75,5 +106,5 @@ pub noted_all : (size : ℕ) (rows lists : List (List ℕ)) (n : ℕ) → n ≡ 
 noted_all size rows lists n e noted = record {
   sized = noted.sized;
   rows_alone = noted.rows_alone;
-  all = λ k x lt h. noted.all k x (omega arith) h;
+  all = λ k x lt. noted.all k x (omega arith);
 }

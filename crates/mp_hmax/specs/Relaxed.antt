@@ -1,8 +1,9 @@
 -- The delete relaxation of an agent's projected problem (Bonet and Geffner): nothing becomes false.
-use Rattle.std.specs.Prelude.{◌≡◌, ℕ, ◌+◌, ◌<◌, List, [], ◌∷◌, length, map, slice_index_or, Contains}
+use Rattle.std.specs.Prelude.{◌≡◌, ℕ, ◌+◌, ◌<◌, ◌≤◌, List, [], ◌∷◌, length, map, slice_index_or, Contains}
 use Rattle.mp_task.specs.AgentTask.{AgentTask}
 use Rattle.mp_task.specs.Projected.{projected}
 use Rattle.mp_task.specs.Strips.{Operator}
+use Rattle.mp_hmax.specs.Users.{times}
 
 pub record RelaxedProblem : Type 0 where
   pub publics : ℕ
@@ -32,13 +33,12 @@ zipped (pre ∷ pres) (add ∷ adds) (cost ∷ costs) =
     record { pre = pre; add = add; del = []; cost = cost } ∷ zipped pres adds costs
 zipped _ _ _ = []
 
--- a list of numbers of operators has each operator that has a fact as a precondition
+-- a list of numbers of operators has each operator as often as a fact stands in its preconditions
 abbrev pub HasUsers : List Operator → ℕ → List ℕ → Type 0
 HasUsers operators x users =
     (k : ℕ)
     → k < length operators
-    → Contains (operator_at operators k).pre x
-    → Contains users k
+    → times x (operator_at operators k).pre ≤ times k users
 
 -- a list of numbers of operators has each operator without preconditions
 abbrev pub HasFree : List Operator → List ℕ → Type 0

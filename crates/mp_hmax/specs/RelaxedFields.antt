@@ -2,7 +2,7 @@
 use Rattle.std.specs.Prelude.{◌≡◌, ◌<◌, length, All}
 use Rattle.mp_hmax.specs.declared.relaxed.Relaxed.TheInside.{Inside}
 use Rattle.mp_hmax.specs.Relaxed.{RelaxedProblem, zipped}
-use Rattle.mp_hmax.specs.Users.{AreUsers, AreFree}
+use Rattle.mp_hmax.specs.Users.{AreUsers, AreFree, AreCounts}
 
 abbrev pub relaxed_problem : Inside → RelaxedProblem
 relaxed_problem r = record {
@@ -21,3 +21,4 @@ pub record IsSound (r : Inside) : Type 0 where
   pub goals_below : All (λ x. x < r.facts) r.goals.items
   pub users_right : AreUsers r.facts r.pres r.users
   pub free_right : AreFree r.pres r.free.items
+  pub counts_right : AreCounts r.pres r.counts.items

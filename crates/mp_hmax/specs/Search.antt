@@ -1,10 +1,12 @@
--- What a search for the values of facts has: a number for each fact, and a queue of facts whose number has changed.
-use Rattle.std.specs.Prelude.{◌≡◌, ℕ, ◌+◌, ◌*◌, ◌<◌, ◌≤◌, nat_lt, Option, Some, None, List, length, sum, slice_index_or, All, Contains, IsTrue, if◌then◌else◌}
+-- What a search for the values of facts has: a number for each fact, a queue of facts whose number has changed, and for
+-- each operator a count of preconditions that are open.
+use Rattle.std.specs.Prelude.{◌≡◌, ℕ, ◌+◌, ◌-◌, ◌*◌, ◌<◌, ◌≤◌, nat_lt, Option, Some, None, List, ◌∷◌, length, sum, slice_index_or, All, Contains, IsTrue, if◌then◌else◌}
 use Rattle.std.specs.declared.cmp.Reverse.{Reverse}
 use Rattle.mp_task.specs.Strips.{Operator}
 use Rattle.mp_hmax.specs.Estimates.{AtMost}
 use Rattle.mp_hmax.specs.Hmax.{Values, cost_by, adds}
 use Rattle.mp_hmax.specs.Relaxed.{operator_at}
+use Rattle.mp_hmax.specs.Users.{times}
 
 -- numbers from this one on stand for none
 abbrev pub unknown : ℕ
@@ -29,6 +31,27 @@ key n x = record { 0 = (n, x) }
 -- a fact waits in the queue with the number that it has now
 abbrev pub Waits : List ℕ → List Key → ℕ → Type 0
 Waits numbers queue x = Contains queue (key (number_at numbers x) x)
+
+-- a fact is open: it waits, or it has no number
+abbrev pub IsOpen : List ℕ → List Key → ℕ → Type 0
+IsOpen numbers queue x = ¬ Waits numbers queue x → unknown ≤ number_at numbers x
+
+-- at least so many items of a list are such
+pub data AtLeast (P : ℕ → Type 0) : List ℕ → ℕ → Type 0 where
+  nothing : (xs : List ℕ) → AtLeast P xs 0
+  one : (x : ℕ) (xs : List ℕ) (n : ℕ) → P x → AtLeast P xs n → AtLeast P (x ∷ xs) (n + 1)
+  more : (x : ℕ) (xs : List ℕ) (n : ℕ) → AtLeast P xs n → AtLeast P (x ∷ xs) n
+
+-- an operator's count
+abbrev pub count_at : List ℕ → ℕ → ℕ
+count_at counts k = slice_index_or counts k 0
+
+-- counts are at most those of open preconditions
+abbrev pub CountOpen : List Operator → List ℕ → List Key → List ℕ → Type 0
+CountOpen operators numbers queue counts =
+    (k : ℕ)
+    → k < length operators
+    → AtLeast (IsOpen numbers queue) (operator_at operators k).pre (count_at counts k)
 
 -- a measure that falls
 abbrev pub weight : List ℕ → List Key → ℕ
@@ -71,3 +94,12 @@ AreLow operators values =
 -- values are at most those of numbers
 abbrev pub AreBelow : Values → List ℕ → Type 0
 AreBelow values numbers = (x : ℕ) → AtMost (values x) (value_at numbers x)
+
+-- operators whose count is 0 are served
+abbrev pub ServeAtZero : List Operator → List ℕ → List Key → List ℕ → Type 0
+ServeAtZero operators numbers queue counts =
+    (k : ℕ) → k < length operators → count_at counts k ≡ 0 → IsServed operators numbers queue k
+
+-- each count has been lowered as often as its operator's number stands in a list
+abbrev pub AreLowered : List ℕ → List ℕ → List ℕ → Type 0
+AreLowered old users new = (k : ℕ) → count_at new k ≡ count_at old k - times k users

@@ -1,21 +1,28 @@
--- Which rows have a number.
-use Rattle.std.specs.Prelude.{◌≡◌, ℕ, ◌<◌, List, [], length, slice_index_or, All, Contains}
+-- Which rows have a number, and how many numbers each has.
+use Rattle.std.specs.Prelude.{◌≡◌, ℕ, ◌+◌, ◌==◌, ◌<◌, ◌≤◌, min, List, [], ◌∷◌, length, map, slice_index_or, All, Contains, if◌then◌else◌}
 
--- for each number below a size a list that has each row with that number, and rows alone
+-- how often a number stands in a list
+abbrev pub times : ℕ → List ℕ → ℕ
+times k [] = 0
+times k (x ∷ xs) = if x == k then times k xs + 1 else times k xs
+
+-- For each number below a size a list that has each row as often as that number stands in it, and rows alone.
 pub record AreUsers (size : ℕ) (rows users : List (List ℕ)) : Type 0 where
   pub sized : length users ≡ size
   pub rows_alone : All (All (λ k. k < length rows)) users
   pub all :
       (k x : ℕ)
       → k < length rows
-      → Contains (slice_index_or rows k []) x
-      → Contains (slice_index_or users x []) k
+      → times x (slice_index_or rows k []) ≤ times k (slice_index_or users x [])
 
 -- lists after a number has been taken into those that another list names
 pub record Takes (old : List (List ℕ)) (places : List ℕ) (number : ℕ) (new : List (List ℕ)) : Type 0 where
   pub as_many : length new ≡ length old
-  pub kept : (x k : ℕ) → Contains (slice_index_or old x []) k → Contains (slice_index_or new x []) k
-  pub taken : (x : ℕ) → Contains places x → Contains (slice_index_or new x []) number
+  pub kept : (x k : ℕ) → times k (slice_index_or old x []) ≤ times k (slice_index_or new x [])
+  pub taken :
+      (x : ℕ)
+      → times number (slice_index_or old x []) + times x places
+      ≤ times number (slice_index_or new x [])
   pub bounded :
       (n : ℕ)
       → number < n
@@ -26,3 +33,11 @@ pub record Takes (old : List (List ℕ)) (places : List ℕ) (number : ℕ) (new
 pub record AreFree (rows : List (List ℕ)) (free : List ℕ) : Type 0 where
   pub rows_alone : All (λ k. k < length rows) free
   pub all : (k : ℕ) → k < length rows → slice_index_or rows k [] ≡ [] → Contains free k
+
+-- how many numbers a row has, as far as 32 bits can say it
+abbrev pub count_of : List ℕ → ℕ
+count_of row = min (length row) 4294967295
+
+-- how many numbers each row has
+abbrev pub AreCounts : List (List ℕ) → List ℕ → Type 0
+AreCounts rows counts = counts ≡ map count_of rows

@@ -1,6 +1,6 @@
 //! The heuristic.
 
-ghost use Rattle.std.specs.Prelude.{◌≡◌, ◌<◌, ◌^◌, vec_len};
+ghost use Rattle.std.specs.Prelude.{◌≡◌, ◌<◌, ◌^◌, length, vec_len};
 
 use crate::relaxed::Relaxed;
 use crate::search::{Queue, estimate};
@@ -16,8 +16,10 @@ use std::collections::BinaryHeap;
 #[derive(Drop)]
 pub struct Hmax {
     problem: Relaxed,
+    counters: Vec<u32>,
     numbers: Vec<u64>,
     queue: Queue,
+    ghost counted: { vec_len counters ≡ length problem.operators },
     ghost sized: { vec_len numbers ≡ problem.facts },
     ghost few: { problem.facts < 2 ^ 32 },
 }
@@ -34,9 +36,11 @@ impl Heuristic for Hmax {
 
     fn make(alloc: Global, task: &Task) -> Result<Hmax, OutOfMemory> {
         let problem = Relaxed::of(alloc, task)?;
+        let counters = vec![in alloc; 0; problem.counts().len()]?;
         let numbers = vec![in alloc; u64::MAX; problem.facts() as usize]?;
         Ok(Hmax {
             problem,
+            counters,
             numbers,
             queue: BinaryHeap::new(alloc),
         })
@@ -47,6 +51,7 @@ impl Heuristic for Hmax {
             &self.problem,
             publics,
             privates,
+            &mut self.counters,
             &mut self.numbers,
             &mut self.queue,
         )

@@ -1,19 +1,21 @@
 //! The delete relaxation of a projected problem in flat arrays.
 
-ghost use Rattle.std.specs.Prelude.{◌≡◌, ◌<◌, ◌≤◌, ◌+◌, ◌^◌, All, length, map, IfOk};
+ghost use Rattle.std.specs.Prelude.{◌≡◌, ℕ, ◌<◌, ◌≤◌, ◌+◌, ◌^◌, All, length, map, IfOk};
 ghost use Rattle.mp_task.specs.Limits.{IsWithinLimits};
 ghost use Rattle.mp_task.specs.Projected.{projected};
 ghost use Rattle.mp_hmax.specs.Relaxed.{HasFree, HasUsers, delete_relaxation, operator_at};
+ghost use Rattle.mp_hmax.specs.Search.{count_at};
 
 use crate::rows::{Rows, gather};
-use crate::users::{free_of, users_of};
+use crate::users::{counts_of, free_of, users_of};
 use mp_list::OutOfMemory;
 use mp_task::Task;
 use std::alloc::Global;
 use std::marker::Model;
 
 /// The operators of a projected problem without their deletes. Contracts see the problem; beside it stand, for each
-/// fact, the operators that have it as a precondition, and the operators without preconditions.
+/// fact, the operators that have it as a precondition, the operators without preconditions, and how many preconditions
+/// each operator has.
 #[derive(Drop)]
 pub(crate) struct Relaxed {
     publics: u32,
@@ -24,6 +26,7 @@ pub(crate) struct Relaxed {
     goals: Vec<u32>,
     users: Rows,
     free: Vec<u32>,
+    counts: Vec<u32>,
 }
 
 impl Model for Relaxed {
@@ -95,6 +98,7 @@ impl Relaxed {
         let facts = task.publics + task.privates;
         let users = users_of(alloc, facts, &pres)?;
         let free = free_of(alloc, &pres)?;
+        let counts = counts_of(alloc, &pres)?;
         Ok(Relaxed {
             publics: task.publics,
             facts,
@@ -104,6 +108,7 @@ impl Relaxed {
             goals: buffer,
             users,
             free,
+            counts,
         })
     }
 
@@ -155,7 +160,7 @@ impl Relaxed {
         self.goals.as_slice()
     }
 
-    /// The operators that have a fact as a precondition.
+    /// The operators that have a fact as a precondition, an operator as often as it has the fact.
     pub(crate) fn users(&self, x: u32) -> &[u32]
         requires { x < self.now.facts }
         ensures all { HasUsers self.now.operators x result.now }
@@ -170,5 +175,13 @@ impl Relaxed {
         ensures below { All (λ k. k < length self.now.operators) result.now }
     {
         self.free.as_slice()
+    }
+
+    /// How many preconditions each operator has.
+    pub(crate) fn counts(&self) -> &[u32]
+        ensures len { length result.now ≡ length self.now.operators }
+        ensures count { (k : ℕ) → count_at result.now k ≤ length (operator_at self.now.operators k).pre }
+    {
+        self.counts.as_slice()
     }
 }

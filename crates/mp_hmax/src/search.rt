@@ -1,6 +1,6 @@
 //! The search for the values of facts, those of the least cost first (Dijkstra 1959; Knuth 1977).
 
-ghost use Rattle.std.specs.Prelude.{◌≡◌, ℕ, ◌<◌, ◌≤◌, ◌+◌, ◌^◌, [], All, Contains, length, vec_len, IfOk, OnOk, IsTrue, Some};
+ghost use Rattle.std.specs.Prelude.{◌≡◌, ℕ, ◌<◌, ◌≤◌, ◌+◌, ◌^◌, [], ◌∷◌, All, Contains, length, vec_len, IfOk, OnOk, IsTrue, Some};
 ghost use Rattle.std.specs.BinaryHeap.{heap_items};
 ghost use Rattle.std.specs.FinSet as set;
 ghost use Rattle.mp_task.specs.AgentTask.{AgentTask};
@@ -8,7 +8,8 @@ ghost use Rattle.mp_task.specs.Limits.{IsWithinLimits};
 ghost use Rattle.mp_hmax.specs.Estimates.{AtMost};
 ghost use Rattle.mp_hmax.specs.Hmax.{Values, greatest, hmax};
 ghost use Rattle.mp_hmax.specs.Relaxed.{delete_relaxation, operator_at};
-ghost use Rattle.mp_hmax.specs.Search.{AreBelow, AreLow, HaveFallen, IsServed, Key, known, number_at, unknown, value_at};
+ghost use Rattle.mp_hmax.specs.Search.{AreBelow, AreLow, AreLowered, HaveFallen, IsOpen, IsServed, Key, count_at, known, number_at, unknown, value_at};
+ghost use Rattle.mp_hmax.specs.Users.{times};
 
 use crate::relaxed::Relaxed;
 use mp_list::OutOfMemory;
@@ -99,26 +100,99 @@ fn relax_all(
     Ok(())
 }
 
-/// Relaxes operators until no fact waits any more.
-pub(crate) fn settle(
+/// Counts one open precondition of an operator less. Where none is left, the operator is relaxed.
+fn count_down(
     problem: &Relaxed,
+    k: u32,
+    counters: &mut Vec<u32>,
     numbers: &mut Vec<u64>,
     queue: &mut Queue,
 ) -> Result<(), OutOfMemory>
+    requires operator { k < length problem.now.operators }
+    requires counted { vec_len counters.old ≡ length problem.now.operators }
+    requires sized { vec_len numbers.old ≡ problem.now.facts }
+    ensures fallen { OnOk result (HaveFallen numbers.old.items (heap_items queue.old)
+        numbers.new.items (heap_items queue.new)) }
+    ensures lowered { OnOk result (AreLowered counters.old.items (k ∷ []) counters.new.items) }
+    ensures served { OnOk result (count_at counters.new.items k ≡ 0
+        → IsServed problem.now.operators numbers.new.items (heap_items queue.new) k) }
+    ensures below { OnOk result ((values : Values) → AreLow problem.now.operators values
+        → AreBelow values numbers.old.items → AreBelow values numbers.new.items) }
+    ensures counted { vec_len counters.new ≡ vec_len counters.old }
+    ensures len { vec_len numbers.new ≡ vec_len numbers.old }
+{
+    let left = counters[k as usize].saturating_sub(1);
+    counters[k as usize] = left;
+    if left == 0 {
+        relax(problem, k, numbers, queue)?;
+    }
+    Ok(())
+}
+
+/// Counts down each of some operators, as often as it is named.
+fn count_down_all(
+    problem: &Relaxed,
+    operators: &[u32],
+    counters: &mut Vec<u32>,
+    numbers: &mut Vec<u64>,
+    queue: &mut Queue,
+) -> Result<(), OutOfMemory>
+    requires operators { All (λ k. k < length problem.now.operators) operators.now }
+    requires counted { vec_len counters.old ≡ length problem.now.operators }
+    requires sized { vec_len numbers.old ≡ problem.now.facts }
+    ensures fallen { OnOk result (HaveFallen numbers.old.items (heap_items queue.old)
+        numbers.new.items (heap_items queue.new)) }
+    ensures lowered { OnOk result (AreLowered counters.old.items operators.now counters.new.items) }
+    ensures served { OnOk result ((k : ℕ) → 1 ≤ times k operators.now
+        → count_at counters.new.items k ≡ 0
+        → IsServed problem.now.operators numbers.new.items (heap_items queue.new) k) }
+    ensures below { OnOk result ((values : Values) → AreLow problem.now.operators values
+        → AreBelow values numbers.old.items → AreBelow values numbers.new.items) }
+    ensures counted { vec_len counters.new ≡ vec_len counters.old }
+    ensures len { vec_len numbers.new ≡ vec_len numbers.old }
+{
+    for k in operators {
+        count_down(problem, *k, counters, numbers, queue)?;
+    }
+    Ok(())
+}
+
+/// Counts all preconditions as open.
+fn recount(problem: &Relaxed, counters: &mut Vec<u32>)
+    requires { vec_len counters.old ≡ length problem.now.operators }
+    ensures count { (k : ℕ) → count_at counters.new.items k
+        ≤ length (operator_at problem.now.operators k).pre }
+    ensures len { vec_len counters.new ≡ vec_len counters.old }
+{
+    counters.as_mut_slice().copy_from_slice(problem.counts());
+}
+
+/// Settles the fact of least cost that waits, until none does: it is no precondition that is open any more. An operator
+/// is relaxed where none of its preconditions is open.
+pub(crate) fn settle(
+    problem: &Relaxed,
+    counters: &mut Vec<u32>,
+    numbers: &mut Vec<u64>,
+    queue: &mut Queue,
+) -> Result<(), OutOfMemory>
+    requires counted { vec_len counters.old ≡ length problem.now.operators }
     requires sized { vec_len numbers.old ≡ problem.now.facts }
     requires inside { All (λ (k : Key). k.0.1 < vec_len numbers.old) (heap_items queue.old) }
     requires served { (k : ℕ) → k < length problem.now.operators
         → IsServed problem.now.operators numbers.old.items (heap_items queue.old) k }
+    requires all_open { (x : ℕ) → IsOpen numbers.old.items (heap_items queue.old) x }
     ensures lower { OnOk result ((x : ℕ) → number_at numbers.new.items x ≤ number_at numbers.old.items x) }
     ensures served { OnOk result ((k : ℕ) → k < length problem.now.operators
         → IsServed problem.now.operators numbers.new.items [] k) }
     ensures below { OnOk result ((values : Values) → AreLow problem.now.operators values
         → AreBelow values numbers.old.items → AreBelow values numbers.new.items) }
+    ensures counted { vec_len counters.new ≡ vec_len counters.old }
     ensures len { vec_len numbers.new ≡ vec_len numbers.old }
 {
+    recount(problem, counters);
     'pops: while let Some(Reverse((cost, x))) = queue.pop() {
         if cost == numbers[x as usize] {
-            relax_all(problem, problem.users(x), numbers, queue)?;
+            count_down_all(problem, problem.users(x), counters, numbers, queue)?;
         }
     }
     Ok(())
@@ -184,6 +258,7 @@ fn begin(
         → ((x : ℕ) → x < privates.now.size → IsTrue (set.contains privates.now.members x)
         → AtMost (values (problem.now.publics + x)) (Some 0))
         → AreBelow values numbers.new.items) }
+    ensures all_open { OnOk result ((x : ℕ) → IsOpen numbers.new.items (heap_items queue.new) x) }
     ensures len { vec_len numbers.new ≡ vec_len numbers.old }
 {
     forget(numbers);
@@ -199,9 +274,11 @@ pub(crate) fn estimate(
     problem: &Relaxed,
     publics: &Bits,
     privates: &Bits,
+    counters: &mut Vec<u32>,
     numbers: &mut Vec<u64>,
     queue: &mut Queue,
 ) -> Result<Option<u64>, OutOfMemory>
+    requires counted { vec_len counters.old ≡ length problem.now.operators }
     requires sized { vec_len numbers.old ≡ problem.now.facts }
     requires few { problem.now.facts < 2 ^ 32 }
     requires publics { publics.now.size ≡ problem.now.publics }
@@ -209,10 +286,11 @@ pub(crate) fn estimate(
     ensures found { IfOk result (λ found. (t : AgentTask) → IsWithinLimits t
         → problem.now ≡ delete_relaxation t
         → found ≡ hmax t publics.now.members privates.now.members) }
+    ensures counted { vec_len counters.new ≡ vec_len counters.old }
     ensures len { vec_len numbers.new ≡ vec_len numbers.old }
 {
     begin(problem, publics, privates, numbers, queue)?;
-    settle(problem, numbers, queue)?;
+    settle(problem, counters, numbers, queue)?;
     let most = greatest_of(numbers.as_slice(), problem.goals());
     if most < u64::MAX {
         Ok(Some(most))

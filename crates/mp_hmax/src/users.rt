@@ -1,7 +1,7 @@
-//! Which operators have a fact as a precondition.
+//! Which operators have a fact as a precondition, and how many preconditions each operator has.
 
 ghost use Rattle.std.specs.Prelude.{◌≡◌, ℕ, ◌<◌, ◌≤◌, ◌^◌, List, [], All, Contains, length, vec_len, slice_index_or, IfOk, OnOk};
-ghost use Rattle.mp_hmax.specs.Users.{AreFree, AreUsers, Takes};
+ghost use Rattle.mp_hmax.specs.Users.{AreCounts, AreFree, AreUsers, Takes};
 
 use crate::rows::Rows;
 use mp_list::{List, OutOfMemory};
@@ -29,7 +29,7 @@ fn note(lists: &mut Vec<List<u32>>, pre: &[u32], operator: u32) -> Result<(), Ou
     Ok(())
 }
 
-/// The operators that have a fact as a precondition, for each fact.
+/// The operators that have a fact as a precondition, for each fact, an operator as often as it has the fact.
 pub(crate) fn users_of(alloc: Global, facts: u32, pres: &Rows) -> Result<Rows, OutOfMemory>
     requires few { length pres.now < 2 ^ 32 }
     requires below { All (All (λ x. x < facts)) pres.now }
@@ -58,4 +58,15 @@ pub(crate) fn free_of(alloc: Global, pres: &Rows) -> Result<Vec<u32>, OutOfMemor
         }
     }
     Ok(free)
+}
+
+/// How many preconditions each operator has.
+pub(crate) fn counts_of(alloc: Global, pres: &Rows) -> Result<Vec<u32>, OutOfMemory>
+    ensures { IfOk result (λ counts. AreCounts pres.now counts.items) }
+{
+    let mut counts = Vec::with_capacity(alloc, pres.len())?;
+    for k in 0..pres.len() {
+        counts.push(pres.row(k).len().min(u32::MAX as usize) as u32)?;
+    }
+    Ok(counts)
 }

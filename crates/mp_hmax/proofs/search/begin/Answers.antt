@@ -1,7 +1,8 @@
 use Rattle.std.proofs.Common.{◌+◌, length, ap, sym, subst, Some, arith}
 use Rattle.mp_hmax.specs.Estimates.{AtMost}
 use Rattle.std.specs.BinaryHeap.{heap_items}
-use Rattle.mp_hmax.proofs.SearchLemmas.{fallen_trans, all_below, all_served}
+use Rattle.mp_hmax.proofs.SearchLemmas.{fallen_trans, all_below, all_served, none_at}
+use Rattle.mp_hmax.proofs.CountLemmas.{open_kept}
 use Rattle.mp_hmax.proofs.search.begin.Goals as goal
 
 pub returns-clause-inside : goal.returns-clause-inside
@@ -26,3 +27,9 @@ returns-clause-below c = λ values low pubs privs.
     c.in_ok-relax_all.ensures.below values low
     (c.in_ok-mark-2.ensures.below values (λ x lt member. subst (λ n. AtMost (values (n + x)) (Some 0)) (sym c.publics.ensures) (privs x lt member))
     (c.in_ok-mark.ensures.below values pubs (all_below values c.forget.new.numbers.items c.forget.ensures.none)))
+
+pub returns-clause-all_open : goal.returns-clause-all_open
+returns-clause-all_open c = λ x.
+    open_kept c.forget.new.numbers.items (heap_items c.clear.new.self) c.relax_all.new.numbers.items (heap_items c.relax_all.new.queue) x
+    (fallen_trans _ _ _ _ _ _ (fallen_trans _ _ _ _ _ _ c.in_ok-mark.ensures.fallen c.in_ok-mark-2.ensures.fallen) c.in_ok-relax_all.ensures.fallen)
+    (λ _. let none = none_at c.forget.new.numbers.items c.forget.ensures.none x in omega arith)

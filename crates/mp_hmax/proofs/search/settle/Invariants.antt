@@ -1,15 +1,17 @@
-use Rattle.std.proofs.Common.{◌≡◌, ℕ, ◌<◌, ◌≤◌, length, All, vec_len}
+use Rattle.std.proofs.Common.{◌≡◌, ℕ, ◌<◌, ◌≤◌, All, vec_len}
 use Rattle.std.specs.BinaryHeap.{heap_items}
 use Rattle.mp_hmax.specs.Hmax.{Values}
-use Rattle.mp_hmax.specs.Search.{AreBelow, AreLow, IsServed, Key, number_at, weight}
+use Rattle.mp_hmax.specs.Search.{AreBelow, AreLow, CountOpen, Key, ServeAtZero, number_at, weight}
 use Rattle.mp_hmax.proofs.search.settle.Given as goal
 
 abbrev pub invariant-pops : goal.invariant-pops
 invariant-pops l = record {
+  counted : vec_len l.counters ≡ vec_len l.initial.counters;
   len : vec_len l.numbers ≡ vec_len l.initial.numbers;
   inside : All (λ (k : Key). k.0.1 < vec_len l.numbers) (heap_items l.queue);
   lower : (x : ℕ) → number_at l.numbers.items x ≤ number_at l.initial.numbers.items x;
-  served : (k : ℕ) → k < length l.problem.operators → IsServed l.problem.operators l.numbers.items (heap_items l.queue) k;
+  served : ServeAtZero l.problem.operators l.numbers.items (heap_items l.queue) l.counters.items;
+  counts : CountOpen l.problem.operators l.numbers.items (heap_items l.queue) l.counters.items;
   below : (values : Values) → AreLow l.problem.operators values → AreBelow values l.initial.numbers.items → AreBelow values l.numbers.items;
 }
 

@@ -32,6 +32,7 @@ invariant_of-result c =
       goals_below = subst (All (λ x. x < t.publics + t.privates)) (sym c.in_ok-gather.ensures) (goals_fit t c.task.invariant);
       users_right = c.in_ok-users.ensures;
       free_right = c.in_ok-free.ensures;
+      counts_right = c.in_ok-counts.ensures;
     }
 
 pub returns-clause-made : goal.returns-clause-made
@@ -41,5 +42,5 @@ returns-clause-made c =
     let adds = subst (λ (u : AgentTask). c.in_ok-adds.adds ≡ map (λ o. o.add) (projected u).operators) (sym c.task.view_is) c.in_ok-adds.ensures in
     let costs = subst (λ (u : AgentTask). c.in_ok-costs.costs.items ≡ map (λ o. o.cost) (projected u).operators) (sym c.task.view_is) c.in_ok-costs.ensures in
     let operators = (λ i. zipped (pres i) (adds i) (costs i)) ∙ zipped_is (projected t).operators in
-    let inside : relaxed_problem (record { publics = c.task.inside.publics; facts = c.task.inside.publics + c.task.inside.privates; pres = c.in_ok-pres.pres; adds = c.in_ok-adds.adds; costs = c.in_ok-costs.costs; goals = c.gather.new.buffer; users = c.in_ok-users.users; free = c.in_ok-free.free }) ≡ delete_relaxation t = (λ i. record { publics = t.publics; facts = t.publics + t.privates; operators = operators i; goals = c.in_ok-gather.ensures i }) in
+    let inside : relaxed_problem (record { publics = c.task.inside.publics; facts = c.task.inside.publics + c.task.inside.privates; pres = c.in_ok-pres.pres; adds = c.in_ok-adds.adds; costs = c.in_ok-costs.costs; goals = c.gather.new.buffer; users = c.in_ok-users.users; free = c.in_ok-free.free; counts = c.in_ok-counts.counts }) ≡ delete_relaxation t = (λ i. record { publics = t.publics; facts = t.publics + t.privates; operators = operators i; goals = c.in_ok-gather.ensures i }) in
     inside ∙ ap delete_relaxation c.task.view_is
