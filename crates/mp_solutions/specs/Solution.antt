@@ -1,38 +1,93 @@
--- What the agents of a team find by round robin, and the text that tells it.
-use Rattle.std.specs.Prelude.{◌≡◌, ℕ, List, length, Option}
+-- What the agents of a team find after a legal schedule, and the text that tells it.
+use Rattle.std.specs.Prelude.{◌≡◌, ◌⊎◌, ℕ, true, false, List, [], ◌∷◌, ◌++◌, map, length, Option, Some, Ok, Err}
 use Rattle.mp_factor.specs.declared.factor.Factor.{Factor}
 use Rattle.mp_sets.specs.Numbers.{Numbers}
+use Rattle.mp_joint.specs.Fact.{Text}
 use Rattle.mp_joint.specs.declared.plan.PlanStep.{PlanStep}
 use Rattle.mp_task.specs.AgentTask.{AgentTask}
 use Rattle.mp_messages.specs.declared.history.Event.{Event}
-use Rattle.mp_world.specs.Answers.{answer_of}
+use Rattle.mp_world.specs.Answers.{answer_of, outcome_of}
+use Rattle.mp_world.specs.Events.{is_legal, run}
 use Rattle.mp_world.specs.Logs.{IsLog, log_of_run}
-use Rattle.mp_world.specs.RoundRobin.{IsRoundRobin}
+use Rattle.mp_world.specs.RoundRobin.{IsRoundRobin, is_over}
 use Rattle.mp_world.specs.World.{World, start_world}
+use Rattle.mp_world.specs.declared.answer.Answer.TheVariants.{Nothing}
+use Rattle.mp_outcome.specs.Names.{names_of}
 use Rattle.mp_split.specs.Team.{AreTasksOf}
 use Rattle.mp_split.specs.declared.team.Tasks.{Tasks}
+use Rattle.mp_text.specs.Outcome.{outcome_text}
+use Rattle.mp_text.specs.Schedule.{schedule_in}
+use Rattle.mp_text.specs.declared.schedule.EventLine.{EventLine}
 use Rattle.mp_solutions.specs.declared.solution.Solution.{Solution}
 use Rattle.mp_solutions.specs.PlanText.{answer_text}
 use Rattle.mp_solutions.specs.Right.{IsRight}
 
--- This was found for the files of a team, where each agent may expand so many entries: the agents have the tasks of the
--- files and take turns until all have ended; the log is that of this run, and the answer is right for the files. The
--- text tells the answer, a plan where there is one, and the counts of the log.
-pub record IsSolution
+-- the events of these lines lead up to that of the line of this number, which may not happen then
+pub record StopsAt
+    (value : AgentTask → Numbers → Numbers → Option ℕ)
+    (limit : ℕ)
+    (tasks : List AgentTask)
+    (lines : List EventLine)
+    (number : ℕ)
+    : Type 0 where
+  pub before : List EventLine
+  pub line : EventLine
+  pub later : List EventLine
+  pub lines_are : lines ≡ before ++ line ∷ later
+  pub last : World
+  pub leads : run value limit tasks (map (λ line. line.event) before) ≡ Some last
+  pub illegal : is_legal last line.event ≡ false
+  pub numbered : line.line ≡ number
+
+module _
     (value : AgentTask → Numbers → Numbers → Option ℕ)
     (limit : ℕ)
     (team : List Factor)
-    (found : Solution)
-    : Type 0 where
-  pub tasks : Tasks
-  pub are_tasks : AreTasksOf team tasks
-  pub views : found.views ≡ tasks.views
-  pub schedule : List Event
-  pub last : World
-  pub round_robin : IsRoundRobin value (start_world value limit tasks.tasks) schedule last
-  pub logged : found.log ≡ log_of_run value limit tasks.tasks schedule
-  pub is_log : IsLog value limit tasks.tasks found.log
-  pub answer : found.answer ≡ answer_of last
-  pub plan : List PlanStep
-  pub right : IsRight value limit team tasks.tasks schedule last found.answer plan
-  pub printed : found.text ≡ answer_text (length team) found.answer plan found.log
+  where
+    -- an answer is right for the files, and a text tells it, with a plan where there is one, and the counts of the log
+    pub record IsRightFor (tasks : List AgentTask) (schedule : List Event) (last : World) (found : Solution) : Type 0 where
+      pub plan : List PlanStep
+      pub right : IsRight value limit team tasks schedule last found.answer plan
+      pub printed : found.text ≡ answer_text (length team) found.answer plan found.log
+
+    -- This was found for the files of a team, where each agent may expand so many entries, by a schedule: the agents have
+    -- the tasks of the files, the schedule is legal for them, and the log is that of its run. The text tells the agents'
+    -- shares by the names that their actions stand for. Once all agents have ended, the answer is right for the files;
+    -- before, there is no answer, and no text.
+    pub record IsFound (schedule : List Event) (found : Solution) : Type 0 where
+      pub tasks : Tasks
+      pub are_tasks : AreTasksOf team tasks
+      pub views : found.views ≡ tasks.views
+      pub last : World
+      pub leads : run value limit tasks.tasks schedule ≡ Some last
+      pub logged : found.log ≡ log_of_run value limit tasks.tasks schedule
+      pub is_log : IsLog value limit tasks.tasks found.log
+      pub answer : found.answer ≡ answer_of last
+      pub told : found.text ≡ outcome_text (outcome_of last) (names_of team tasks.steps) found.log
+      pub right : is_over last ≡ true → IsRightFor tasks.tasks schedule last found
+      pub goes_on : is_over last ≡ false → (found.answer ≡ Nothing) × (found.text ≡ [])
+
+    -- this was found by round robin, until all agents had ended
+    pub record IsSolution (found : Solution) : Type 0 where
+      pub schedule : List Event
+      pub is_found : IsFound schedule found
+      pub round_robin : IsRoundRobin value (start_world value limit is_found.tasks.tasks) schedule is_found.last
+
+    -- this was found by the schedule that a text has
+    pub record IsReplayed (text : Text) (found : Solution) : Type 0 where
+      pub lines : List EventLine
+      pub read : schedule_in (length team) text ≡ Ok lines
+      pub is_found : IsFound (map (λ line. line.event) lines) found
+
+    -- the schedule that a text has stops short at a line
+    pub record MayNotHappen (text : Text) (number : ℕ) : Type 0 where
+      pub tasks : Tasks
+      pub are_tasks : AreTasksOf team tasks
+      pub lines : List EventLine
+      pub read : schedule_in (length team) text ≡ Ok lines
+      pub stops : StopsAt value limit tasks.tasks lines number
+
+    -- The line of this number of a schedule's text is refused: it is the first that is neither of an event nor of a
+    -- message, or, where there is none, the line of the first event that may not happen.
+    abbrev pub IsRefusedLine : Text → ℕ → Type 0
+    IsRefusedLine text number = (schedule_in (length team) text ≡ Err number) ⊎ MayNotHappen text number

@@ -9,11 +9,12 @@ use Rattle.mp_task.specs.Agree.{Agree}
 use Rattle.mp_task.specs.AgentTask.{AgentTask}
 use Rattle.mp_task.specs.Limits.{IsWithinLimits}
 use Rattle.mp_machine.specs.Machine.{AgentMachine}
+use Rattle.mp_messages.specs.declared.history.Event.{Event}
 use Rattle.mp_world.specs.RoundRobin.{IsRoundRobin}
 use Rattle.mp_world.specs.World.{start_world}
 use Rattle.mp_schedule.specs.Machines.{AreNew, limit_of, new_machine, tasks_of}
 use Rattle.mp_schedule.specs.TeamRun.{HasDone, IsRun, IsTeam, TeamRun, start_run}
-use Rattle.mp_solve.specs.Ended.{HasEnded}
+use Rattle.mp_solve.specs.Ended.{HasDoneAll, HasEnded}
 use Rattle.mp_solve.specs.Machines.{new_machines}
 
 module _ (value : AgentTask → Numbers → Numbers → Option ℕ) (limit : ℕ) where
@@ -43,24 +44,69 @@ module _ (value : AgentTask → Numbers → Numbers → Option ℕ) (limit : ℕ
             at_most = subst (λ n. n ≤ 16) (sym size) few;
           })
 
-      -- from the start they have taken turns until all have ended
-      pub has_ended : (old new : TeamRun) → old ≡ start_run value (limit_of ms) (tasks_of ms)
-          → HasDone (IsRoundRobin value) old new → IsTeam new → (new.failed ≡ false → IsRun value new)
-          → HasEnded value limit ts new
-      has_ended old new start done team runs =
+      pub starts : (made : TeamRun) → made ≡ start_run value (limit_of ms) (tasks_of ms) → made ≡ start_run value limit ts
+      starts made start =
           let tasks : tasks_of ms ≡ ts = ap tasks_of are ∙ new_tasks ts in
           let limits : limit_of ms ≡ limit = ap limit_of are ∙ new_limit ts some in
-          let begun : old ≡ start_run value limit ts = start ∙ (λ i. start_run value (limits i) (tasks i)) in
-          let free : new.failed ≡ false = done.kept ∙ ap (λ (r : TeamRun). r.failed) begun in
-          let events : new.schedule ≡ done.events =
-          done.appended ∙ ap (λ (r : TeamRun). r.schedule ++ done.events) begun in
-          record {
-            tasks_are = done.same.tasks ∙ ap (λ (r : TeamRun). r.tasks) begun;
-            limit_is = done.same.limit ∙ ap (λ (r : TeamRun). r.limit) begun;
-            team = team;
-            free = free;
-            run = runs free;
-            round_robin = subst (λ es. IsRoundRobin value (start_world value limit ts) es new.world) (sym events)
-                (subst (λ w. IsRoundRobin value w done.events new.world) (ap (λ (r : TeamRun). r.world) begun)
-                done.done);
-          }
+          start ∙ (λ i. start_run value (limits i) (tasks i))
+
+module _ (value : AgentTask → Numbers → Numbers → Option ℕ) (limit : ℕ) (ts : List AgentTask) where
+  -- they have done nothing yet
+  pub has_begun : (made : TeamRun) → made ≡ start_run value limit ts → IsTeam made → (made.failed ≡ false → IsRun value made)
+      → HasDoneAll value limit ts [] made
+  has_begun made start team runs =
+      let free : made.failed ≡ false = ap (λ (r : TeamRun). r.failed) start in
+      record {
+        tasks_are = ap (λ (r : TeamRun). r.tasks) start;
+        limit_is = ap (λ (r : TeamRun). r.limit) start;
+        team = team;
+        free = free;
+        run = runs free;
+        schedule_is = ap (λ (r : TeamRun). r.schedule) start;
+      }
+
+  -- from the start they have taken turns until all have ended
+  pub has_ended : (old new : TeamRun) → old ≡ start_run value limit ts → HasDone (IsRoundRobin value) old new → IsTeam new
+      → (new.failed ≡ false → IsRun value new) → HasEnded value limit ts new
+  has_ended old new begun done team runs =
+      let free : new.failed ≡ false = done.kept ∙ ap (λ (r : TeamRun). r.failed) begun in
+      let events : new.schedule ≡ done.events =
+      done.appended ∙ ap (λ (r : TeamRun). r.schedule ++ done.events) begun in
+      record {
+        done = record {
+          tasks_are = done.same.tasks ∙ ap (λ (r : TeamRun). r.tasks) begun;
+          limit_is = done.same.limit ∙ ap (λ (r : TeamRun). r.limit) begun;
+          team = team;
+          free = free;
+          run = runs free;
+          schedule_is = refl;
+        };
+        round_robin = subst (λ es. IsRoundRobin value (start_world value limit ts) es new.world) (sym events)
+            (subst (λ w. IsRoundRobin value w done.events new.world) (ap (λ (r : TeamRun). r.world) begun) done.done);
+      }
+
+-- by its own tasks, limit and schedule
+pub of_itself : (value : AgentTask → Numbers → Numbers → Option ℕ) (limit : ℕ) (ts : List AgentTask) (schedule : List Event)
+    (r : TeamRun) → HasDoneAll value limit ts schedule r → HasDoneAll value r.limit r.tasks r.schedule r
+of_itself value limit ts schedule r done =
+    record {
+      tasks_are = refl;
+      limit_is = refl;
+      team = done.team;
+      free = done.free;
+      run = done.run;
+      schedule_is = refl;
+    }
+
+-- by other tasks and another limit that are the same
+pub done_for : (value : AgentTask → Numbers → Numbers → Option ℕ) (limit other : ℕ) (ts us : List AgentTask) (schedule : List Event)
+    (r : TeamRun) → other ≡ limit → us ≡ ts → HasDoneAll value other us schedule r → HasDoneAll value limit ts schedule r
+done_for value limit other ts us schedule r limits tasks done =
+    record {
+      tasks_are = done.tasks_are ∙ tasks;
+      limit_is = done.limit_is ∙ limits;
+      team = done.team;
+      free = done.free;
+      run = done.run;
+      schedule_is = done.schedule_is;
+    }

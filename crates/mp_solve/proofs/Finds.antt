@@ -1,19 +1,22 @@
--- What a team that has ended found.
-use Rattle.std.proofs.Common.{◌≡◌, ℕ, true, false, List, map, Option, Some, None}
-use Rattle.std.proofs.Common.{sym, ◌∙◌}
+-- What a team has found.
+use Rattle.std.proofs.Common.{◌≡◌, ℕ, true, false, List, [], map, Option, Some, None, refl}
+use Rattle.std.proofs.Common.{sym, ap, ◌∙◌}
 use Rattle.std.specs.Prelude.{MatchOption}
-use Rattle.std.proofs.lemmas.Bool.{false≢true}
+use Rattle.mp_joint.specs.declared.plan.PlanStep.{PlanStep}
+use Rattle.mp_messages.specs.declared.history.Entry.{Entry}
 use Rattle.mp_sets.specs.Numbers.{Numbers}
 use Rattle.mp_task.specs.AgentTask.{AgentTask}
+use Rattle.mp_machine.specs.AgentRecord.{AgentRecord}
 use Rattle.mp_machine.specs.Machine.{AgentMachine}
 use Rattle.mp_world.specs.declared.outcome.Outcome.{Outcome}
-use Rattle.mp_world.specs.Answers.{outcome_of}
+use Rattle.mp_world.specs.declared.answer.Answer.TheVariants.{Nothing}
+use Rattle.mp_world.specs.Answers.{answer_of, outcome_of}
 use Rattle.mp_world.specs.RoundRobin.{is_over}
-use Rattle.mp_world.specs.World.{World, start_world}
-use Rattle.mp_world.proofs.Turns.{round_robin_end}
+use Rattle.mp_world.specs.World.{World}
 use Rattle.mp_schedule.specs.Finished.{AreOfRun}
 use Rattle.mp_schedule.specs.TeamRun.{TeamRun}
-use Rattle.mp_solve.specs.Ended.{HasEnded}
+use Rattle.mp_text.specs.Outcome.{outcome_text}
+use Rattle.mp_solve.specs.Ended.{HasDoneAll}
 
 -- what the machines of a team found, by what they have done
 abbrev pub Tells : List AgentMachine → Option Outcome → Type 0
@@ -22,8 +25,20 @@ Tells machines found =
     → last.agents ≡ map (λ m. m.done) machines
     → MatchOption found (is_over last ≡ false) (λ o. (is_over last ≡ true) × (o ≡ outcome_of last))
 
+-- nothing where an agent has not ended
+abbrev nothing_found : Outcome
+nothing_found = record { answer = Nothing; shares = [] }
+
+pub no_answer : (w : World) → is_over w ≡ false → Nothing ≡ answer_of w
+no_answer w is = rw is refl
+
+no_text : (w : World) (names : List (List PlanStep)) (log : List Entry) → Nothing ≡ answer_of w
+    → outcome_text nothing_found names log ≡ outcome_text (outcome_of w) names log
+no_text w names log none =
+    ap (λ a. outcome_text (record { answer = a; shares = map (λ (x : AgentRecord). x.share) w.agents }) names log) none
+
 module _ (value : AgentTask → Numbers → Numbers → Option ℕ) (r : TeamRun)
-    (ended : HasEnded value r.limit r.tasks r)
+    (done : HasDoneAll value r.limit r.tasks r.schedule r)
     (machines : List AgentMachine)
     (agents : map (λ m. m.done) machines ≡ r.world.agents)
   where
@@ -33,26 +48,37 @@ module _ (value : AgentTask → Numbers → Numbers → Option ℕ) (r : TeamRun
       tasks = r.tasks;
       schedule = r.schedule;
       last = r.world;
-      agree = ended.team.agree;
-      within = ended.team.within;
-      few_entries = ended.team.few_entries;
-      leads = ended.run.leads;
+      agree = done.team.agree;
+      within = done.team.within;
+      few_entries = done.team.few_entries;
+      leads = done.run.leads;
       agents = sym agents;
     }
-
-    over : is_over r.world ≡ true
-    over = round_robin_end value (start_world value r.limit r.tasks) r.world r.schedule ended.round_robin
 
     told_of : (found : Option Outcome) → Tells machines found
         → MatchOption found (is_over r.world ≡ false) (λ o. (is_over r.world ≡ true) × (o ≡ outcome_of r.world))
     told_of found tells = tells r.world (sym agents)
 
-    -- there is an answer
-    pub not_nothing : (found : Option Outcome) → Tells machines found → found ≡ None → ⊥
-    not_nothing None tells is = false≢true (sym (told_of None tells) ∙ over)
-    not_nothing (Some o) tells is = let impossible : ⊥ = cc in impossible
-
-    pub what_was_found : (found : Option Outcome) → Tells machines found → (o : Outcome) → found ≡ Some o
+    what_was_found : (found : Option Outcome) → Tells machines found → (o : Outcome) → found ≡ Some o
         → o ≡ outcome_of r.world
     what_was_found None tells o is = absurd (let impossible : ⊥ = cc in impossible)
     what_was_found (Some other) tells o is = let same : other ≡ o = cc in sym same ∙ (told_of (Some other) tells).1
+
+    pub answer_is : (found : Option Outcome) → Tells machines found → (o : Outcome) → found ≡ Some o
+        → o.answer ≡ answer_of r.world
+    answer_is found tells o is = ap (λ (x : Outcome). x.answer) (what_was_found found tells o is)
+
+    pub text_is : (found : Option Outcome) → Tells machines found → (o : Outcome) → found ≡ Some o
+        → (names : List (List PlanStep)) (log : List Entry) → outcome_text o names log ≡ outcome_text (outcome_of r.world) names log
+    text_is found tells o is names log = ap (λ (x : Outcome). outcome_text x names log) (what_was_found found tells o is)
+
+    goes_on : (found : Option Outcome) → Tells machines found → found ≡ None → is_over r.world ≡ false
+    goes_on None tells is = told_of None tells
+    goes_on (Some o) tells is = let impossible : ⊥ = cc in absurd impossible
+
+    pub nothing_is : (found : Option Outcome) → Tells machines found → found ≡ None → Nothing ≡ answer_of r.world
+    nothing_is found tells is = no_answer r.world (goes_on found tells is)
+
+    pub no_text_is : (found : Option Outcome) → Tells machines found → found ≡ None
+        → (names : List (List PlanStep)) (log : List Entry) → outcome_text nothing_found names log ≡ outcome_text (outcome_of r.world) names log
+    no_text_is found tells is names log = no_text r.world names log (nothing_is found tells is)

@@ -1,5 +1,8 @@
--- in reading order: new machines and their turns until all have ended; what a team that has ended found; that it is
--- right for the files
+-- in reading order: new machines and their turns until all have ended; events that happen one after another; the events of
+-- a schedule that was read; refusals; what a team has found; that it is right for the files
 pub mod Ends
+pub mod Happens
+pub mod Schedules
+pub mod Refusals
 pub mod Finds
 pub mod Solutions

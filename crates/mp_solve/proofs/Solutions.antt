@@ -1,6 +1,6 @@
--- What a team that has ended found is right for its files.
-use Rattle.std.proofs.Common.{◌≡◌, ◌≤◌, ℕ, true, List, length, All, Option, Some}
-use Rattle.std.proofs.Common.{sym, subst, ◌∙◌}
+-- What a team has found is right for its files.
+use Rattle.std.proofs.Common.{◌≡◌, ◌≤◌, ℕ, true, false, List, [], length, map, All, Option, Some}
+use Rattle.std.proofs.Common.{sym, ap, subst, ◌∙◌}
 use Rattle.std.specs.Prelude.{IfOk, Result, Ok, Err}
 use Rattle.mp_factor.specs.declared.factor.Factor.{Factor}
 use Rattle.mp_sets.specs.Numbers.{Numbers}
@@ -9,8 +9,10 @@ use Rattle.mp_task.specs.Agree.{Agree}
 use Rattle.mp_task.specs.AgentTask.{AgentTask}
 use Rattle.mp_task.specs.Limits.{IsWithinLimits}
 use Rattle.mp_grounder.specs.Checked.{IsChecked}
+use Rattle.mp_machine.specs.AgentRecord.{AgentRecord}
 use Rattle.mp_messages.specs.declared.history.Entry.{Entry}
 use Rattle.mp_messages.specs.declared.history.Event.{Event}
+use Rattle.mp_world.specs.declared.answer.Answer.TheVariants.{Nothing}
 use Rattle.mp_world.specs.Answers.{answer_of, outcome_of}
 use Rattle.mp_world.specs.Events.{run}
 use Rattle.mp_world.specs.Logs.{IsLog, log_of_run}
@@ -18,17 +20,18 @@ use Rattle.mp_world.specs.RoundRobin.{is_over}
 use Rattle.mp_world.specs.World.{World, start_world}
 use Rattle.mp_world.proofs.Agents.{agree_numbered}
 use Rattle.mp_world.proofs.LogOfRun.{run_log_is_log}
-use Rattle.mp_world.proofs.Turns.{round_robin_end}
 use Rattle.mp_schedule.specs.TeamRun.{TeamRun}
 use Rattle.mp_split.specs.Team.{AreTasksOf}
 use Rattle.mp_split.specs.declared.team.Tasks.{Tasks}
-use Rattle.mp_text.specs.Outcome.{outcome_text}
+use Rattle.mp_text.specs.Outcome.{found_lines, outcome_text}
+use Rattle.mp_text.specs.Lines.{text_of_lines}
 use Rattle.mp_outcome.specs.Names.{names_of}
 use Rattle.mp_solutions.specs.declared.solution.Solution.{Solution}
 use Rattle.mp_solutions.specs.PlanText.{answer_text}
 use Rattle.mp_solutions.specs.Right.{IsRight}
-use Rattle.mp_solutions.specs.Solution.{IsSolution}
-use Rattle.mp_solve.specs.Ended.{HasEnded}
+use Rattle.mp_solutions.specs.Solution.{IsFound, IsRightFor, IsSolution}
+use Rattle.mp_solve.specs.Ended.{HasDoneAll, HasEnded}
+use Rattle.mp_solve.proofs.Finds.{no_answer}
 
 -- the answers of a team are right for its files, as the law has it
 abbrev pub AnswersAreRight : (AgentTask → Numbers → Numbers → Option ℕ) → Type 0
@@ -42,52 +45,79 @@ AnswersAreRight value =
     × ((log : List Entry) → outcome_text (outcome_of last) (names_of team tasks.steps) log
     ≡ answer_text (length team) (answer_of last) plan log)
 
-module _ (value : AgentTask → Numbers → Numbers → Option ℕ) (limit : ℕ) (team : List Factor) (tasks : Tasks) (r : TeamRun)
+-- before all agents have ended, there is no text
+no_text : (w : World) (names : List (List PlanStep)) (log : List Entry) → Nothing ≡ answer_of w
+    → outcome_text (outcome_of w) names log ≡ []
+no_text w names log none =
+    ap (λ a. text_of_lines (found_lines a (map (λ (x : AgentRecord). x.share) w.agents) names log)) (sym none)
+
+module _ (value : AgentTask → Numbers → Numbers → Option ℕ) (limit : ℕ) (team : List Factor) (tasks : Tasks)
+    (schedule : List Event) (r : TeamRun)
     (law : AnswersAreRight value)
     (checked : All IsChecked team)
     (some : 1 ≤ length team)
     (are : AreTasksOf team tasks)
     (few_entries : limit ≤ 10000000)
-    (ended : HasEnded value limit tasks.tasks r)
+    (done : HasDoneAll value limit tasks.tasks schedule r)
   where
-    leads : run value limit tasks.tasks r.schedule ≡ Some r.world
-    leads = sym (λ i. run value (ended.limit_is i) (ended.tasks_are i) r.schedule) ∙ ended.run.leads
+    leads : run value limit tasks.tasks schedule ≡ Some r.world
+    leads =
+        sym (λ i. run value (done.limit_is i) (done.tasks_are i) (done.schedule_is i)) ∙ done.run.leads
 
-    logged : r.log ≡ log_of_run value limit tasks.tasks r.schedule
-    logged = ended.run.logged ∙ (λ i. log_of_run value (ended.limit_is i) (ended.tasks_are i) r.schedule)
+    logged : r.log ≡ log_of_run value limit tasks.tasks schedule
+    logged =
+        done.run.logged ∙ (λ i. log_of_run value (done.limit_is i) (done.tasks_are i) (done.schedule_is i))
 
-    is_log : IsLog value limit tasks.tasks (log_of_run value limit tasks.tasks r.schedule)
+    is_log : IsLog value limit tasks.tasks (log_of_run value limit tasks.tasks schedule)
     is_log = run_log_is_log value tasks.tasks
-        (agree_numbered tasks.tasks (subst Agree ended.tasks_are ended.team.agree)) limit r.schedule r.world leads
+        (agree_numbered tasks.tasks (subst Agree done.tasks_are done.team.agree)) limit schedule r.world leads
 
-    pub is_solution : (s : Solution) → s.views ≡ tasks.views → s.log ≡ r.log → s.answer ≡ answer_of r.world
-        → s.text ≡ outcome_text (outcome_of r.world) (names_of team tasks.steps) r.log
-        → IsSolution value limit team s
-    is_solution s views log answer text =
-        let whole : s.log ≡ log_of_run value limit tasks.tasks r.schedule = log ∙ logged in
-        let found = law team tasks limit r.schedule r.world checked some are
-        (subst (All IsWithinLimits) ended.tasks_are ended.team.within) few_entries leads
-        (round_robin_end value (start_world value limit tasks.tasks) r.world r.schedule ended.round_robin) in
-        record {
-          tasks = tasks;
-          are_tasks = are;
-          views = views;
-          schedule = r.schedule;
-          last = r.world;
-          round_robin = ended.round_robin;
-          logged = whole;
-          is_log = subst (IsLog value limit tasks.tasks) (sym whole) is_log;
-          answer = answer;
-          plan = found.0;
-          right = subst (λ a. IsRight value limit team tasks.tasks r.schedule r.world a found.0) (sym answer) found.1;
-          printed = text ∙ found.2 r.log
-              ∙ (λ i. answer_text (length team) (sym answer i) found.0 (sym log i));
-        }
+    module _ (s : Solution) (answer : s.answer ≡ answer_of r.world) (log : s.log ≡ r.log)
+        (text : s.text ≡ outcome_text (outcome_of r.world) (names_of team tasks.steps) r.log)
+      where
+        right_for : is_over r.world ≡ true → IsRightFor value limit team tasks.tasks schedule r.world s
+        right_for over =
+            let found = law team tasks limit schedule r.world checked some are
+            (subst (All IsWithinLimits) done.tasks_are done.team.within) few_entries leads over in
+            record {
+              plan = found.0;
+              right = subst (λ a. IsRight value limit team tasks.tasks schedule r.world a found.0) (sym answer) found.1;
+              printed = text ∙ found.2 r.log ∙ (λ i. answer_text (length team) (sym answer i) found.0 (sym log i));
+            }
 
-    -- where there is one
-    pub if_solution : {E : Type 0} (found : Result Solution E) → IfOk found (λ s. s.views ≡ tasks.views)
-        → IfOk found (λ s. s.log ≡ r.log) → IfOk found (λ s. s.answer ≡ answer_of r.world)
-        → IfOk found (λ s. s.text ≡ outcome_text (outcome_of r.world) (names_of team tasks.steps) r.log)
-        → IfOk found (IsSolution value limit team)
-    if_solution (Ok s) views log answer text = is_solution s views log answer text
-    if_solution (Err e) views log answer text = tt
+        pub is_found : s.views ≡ tasks.views → IsFound value limit team schedule s
+        is_found views =
+            let whole : s.log ≡ log_of_run value limit tasks.tasks schedule = log ∙ logged in
+            record {
+              tasks = tasks;
+              are_tasks = are;
+              views = views;
+              last = r.world;
+              leads = leads;
+              logged = whole;
+              is_log = subst (IsLog value limit tasks.tasks) (sym whole) is_log;
+              answer = answer;
+              told = text ∙ ap (λ l. outcome_text (outcome_of r.world) (names_of team tasks.steps) l) (sym log);
+              right = right_for;
+              goes_on = λ over.
+                  let none = no_answer r.world over in
+                  (answer ∙ sym none, text ∙ no_text r.world (names_of team tasks.steps) r.log none);
+            }
+
+-- what was found by round robin
+pub if_solution : (value : AgentTask → Numbers → Numbers → Option ℕ) (limit : ℕ) (team : List Factor) (tasks : Tasks)
+    (r : TeamRun)
+    → AnswersAreRight value → All IsChecked team → 1 ≤ length team → AreTasksOf team tasks → limit ≤ 10000000
+    → HasEnded value limit tasks.tasks r
+    → {E : Type 0} (found : Result Solution E) → IfOk found (λ s. s.views ≡ tasks.views)
+    → IfOk found (λ s. s.log ≡ r.log) → IfOk found (λ s. s.answer ≡ answer_of r.world)
+    → IfOk found (λ s. s.text ≡ outcome_text (outcome_of r.world) (names_of team tasks.steps) r.log)
+    → IfOk found (IsSolution value limit team)
+unfolding is_found
+if_solution value limit team tasks r law checked some are few ended (Ok s) views log answer text =
+    record {
+      schedule = r.schedule;
+      is_found = is_found value limit team tasks r.schedule r law checked some are few ended.done s answer log text views;
+      round_robin = ended.round_robin;
+    }
+if_solution value limit team tasks r law checked some are few ended (Err e) views log answer text = tt

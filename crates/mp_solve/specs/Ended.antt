@@ -1,16 +1,18 @@
--- A team whose agents have ended.
+-- A team that has done something, and one whose agents have ended.
 use Rattle.std.specs.Prelude.{◌≡◌, ℕ, false, List, Option}
 use Rattle.mp_sets.specs.Numbers.{Numbers}
 use Rattle.mp_task.specs.AgentTask.{AgentTask}
+use Rattle.mp_messages.specs.declared.history.Event.{Event}
 use Rattle.mp_world.specs.RoundRobin.{IsRoundRobin}
 use Rattle.mp_world.specs.World.{start_world}
 use Rattle.mp_schedule.specs.TeamRun.{IsRun, IsTeam, TeamRun}
 
--- the agents with these tasks have taken turns from the start until all have ended
-pub record HasEnded
+-- the agents with these tasks have done the events of a schedule from the start
+pub record HasDoneAll
     (value : AgentTask → Numbers → Numbers → Option ℕ)
     (limit : ℕ)
     (tasks : List AgentTask)
+    (schedule : List Event)
     (r : TeamRun)
     : Type 0 where
   pub tasks_are : r.tasks ≡ tasks
@@ -18,4 +20,14 @@ pub record HasEnded
   pub team : IsTeam r
   pub free : r.failed ≡ false
   pub run : IsRun value r
+  pub schedule_is : r.schedule ≡ schedule
+
+-- they have taken turns from the start until all have ended
+pub record HasEnded
+    (value : AgentTask → Numbers → Numbers → Option ℕ)
+    (limit : ℕ)
+    (tasks : List AgentTask)
+    (r : TeamRun)
+    : Type 0 where
+  pub done : HasDoneAll value limit tasks r.schedule r
   pub round_robin : IsRoundRobin value (start_world value limit tasks) r.schedule r.world

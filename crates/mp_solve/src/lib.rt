@@ -1,10 +1,14 @@
 //! What the agents of a team find: their files are grounded and split into tasks, the agents take turns on one thread until
-//! all have ended, and what they found is told by names.
+//! all have ended, or do the events of a schedule, and what they found is told by names.
 #![tactic(auto)]
 
 mod machines;
+mod refusal;
+mod replaying;
 mod solving;
 mod told;
 
 pub use mp_solutions::Solution;
+pub use refusal::ReplayRefusal;
+pub use replaying::replay;
 pub use solving::solve;

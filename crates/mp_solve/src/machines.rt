@@ -1,8 +1,9 @@
 //! The machines of a team, and their turns.
 
-ghost use Rattle.std.specs.Prelude.{◌≡◌, ◌≤◌, length, All, IfOk};
+ghost use Rattle.std.specs.Prelude.{◌≡◌, ◌≤◌, [], length, All, IfOk};
 ghost use Rattle.mp_schedule.specs.Machines.{new_machine};
-ghost use Rattle.mp_solve.specs.Ended.{HasEnded};
+ghost use Rattle.mp_schedule.specs.TeamRun.{start_run};
+ghost use Rattle.mp_solve.specs.Ended.{HasDoneAll, HasEnded};
 ghost use Rattle.mp_solve.specs.Machines.{new_machines};
 ghost use Rattle.mp_task.specs.Agree.{Agree};
 ghost use Rattle.mp_task.specs.Limits.{IsWithinLimits};
@@ -60,6 +61,27 @@ fn are_within_limits(tasks: &[Task])
     }
 }
 
+/// A team of agents with these tasks, before they have done anything. Refuses only for want of memory.
+pub(crate) fn begun<H: Heuristic>(
+    alloc: Global,
+    tasks: &[Task],
+    limit: u64,
+) -> Result<World<H>, OutOfMemory>
+    requires from_1 { 1 ≤ limit }
+    requires limit { limit ≤ 10000000 }
+    requires agree { Agree tasks.now }
+    requires some { 1 ≤ length tasks.now }
+    requires at_most { length tasks.now ≤ 16 }
+    ensures start { IfOk result (λ world. world ≡ start_run H.value limit tasks.now) }
+    ensures team { IfOk result (HasDoneAll H.value limit tasks.now []) }
+{
+    are_within_limits(tasks);
+    let machines = machines_of(alloc, tasks, limit)?;
+    let world = World::new(alloc, machines)?;
+    world.comes_from_a_run();
+    Ok(world)
+}
+
 /// The agents with these tasks take turns until all have ended. Refuses only for want of memory.
 pub(crate) fn ended<H: Heuristic>(
     alloc: Global,
@@ -73,9 +95,7 @@ pub(crate) fn ended<H: Heuristic>(
     requires at_most { length tasks.now ≤ 16 }
     ensures { IfOk result (HasEnded H.value limit tasks.now) }
 {
-    are_within_limits(tasks);
-    let machines = machines_of(alloc, tasks, limit)?;
-    let mut world = World::new(alloc, machines)?;
+    let mut world = begun(alloc, tasks, limit)?;
     world.round_robin()?;
     world.comes_from_a_run();
     Ok(world)

@@ -20,7 +20,7 @@ use mp_typing::CheckedFactor;
 use std::alloc::Global;
 
 /// All factors have passed the checks.
-fn are_checked(factors: &[CheckedFactor])
+pub(crate) fn are_checked(factors: &[CheckedFactor])
     ensures { All IsChecked factors.now }
 {
     for factor in factors {

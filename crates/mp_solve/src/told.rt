@@ -1,8 +1,10 @@
-//! What a team that has ended found, and the text that tells it.
+//! What a team has found, and the text that tells it.
 
-ghost use Rattle.std.specs.Prelude.{◌≡◌, ◌≤◌, length, IfOk};
+ghost use Rattle.std.specs.Prelude.{◌≡◌, ◌≤◌, List, length, IfOk};
+ghost use Rattle.mp_joint.specs.declared.plan.PlanStep.{PlanStep};
+ghost use Rattle.mp_messages.specs.declared.history.Entry.{Entry};
 ghost use Rattle.mp_outcome.specs.Names.{names_of};
-ghost use Rattle.mp_solve.specs.Ended.{HasEnded};
+ghost use Rattle.mp_solve.specs.Ended.{HasDoneAll};
 ghost use Rattle.mp_text.specs.Outcome.{outcome_text};
 ghost use Rattle.mp_world.specs.Answers.{answer_of, outcome_of};
 
@@ -17,10 +19,12 @@ use mp_typing::CheckedFactor;
 use mp_world::{Answer, Outcome};
 use std::alloc::Global;
 
-/// What a team that has ended found.
+/// What a team has found: nothing where an agent has not ended.
 fn outcome_of<H: Heuristic>(alloc: Global, world: &World<H>) -> Result<Outcome, OutOfMemory>
-    requires { HasEnded H.value world.now.limit world.now.tasks world.now }
-    ensures { IfOk result (λ found. found ≡ outcome_of world.now.world) }
+    requires { HasDoneAll H.value world.now.limit world.now.tasks world.now.schedule world.now }
+    ensures answer { IfOk result (λ found. found.answer ≡ answer_of world.now.world) }
+    ensures text { IfOk result (λ found. (names : List (List PlanStep)) (log : List Entry)
+        → outcome_text found names log ≡ outcome_text (outcome_of world.now.world) names log) }
 {
     match outcome(alloc, world.machines())? {
         Some(found) => Ok(found),
@@ -31,7 +35,7 @@ fn outcome_of<H: Heuristic>(alloc: Global, world: &World<H>) -> Result<Outcome, 
     }
 }
 
-/// What a team that has ended found, with its text by the names of its files.
+/// What a team has found, with its text by the names of its files.
 pub(crate) fn told<H: Heuristic>(
     alloc: Global,
     factors: &[CheckedFactor],
@@ -40,7 +44,7 @@ pub(crate) fn told<H: Heuristic>(
     world: World<H>,
 ) -> Result<Solution, OutOfMemory>
     requires team { length factors.now ≤ 16 }
-    requires ended { HasEnded H.value world.limit world.tasks world }
+    requires done { HasDoneAll H.value world.limit world.tasks world.schedule world }
     ensures views { IfOk result (λ s. s.views ≡ views) }
     ensures log { IfOk result (λ s. s.log ≡ world.log) }
     ensures answer { IfOk result (λ s. s.answer ≡ answer_of world.world) }

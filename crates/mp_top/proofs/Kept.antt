@@ -1,12 +1,10 @@
 -- What a call keeps, by how it ends.
 use Rattle.std.proofs.Common.{◌≡◌, ◌<◌, ◌⊎◌, inl, inr, ℕ, List, [], ◌∷◌, ◌++◌, Bool, true, false, Option, Some, None, IfSome, MatchOption, refl, sym, ap, ◌∙◌, subst, arith, if◌then◌else◌}
-use Rattle.std.specs.Prelude.{codes, slice_get}
 use Rattle.mp_factor.specs.declared.factor.Factor.{Factor}
-use Rattle.mp_files.specs.Cause.{CannotRead, SeenSource}
+use Rattle.mp_files.specs.Cause.{SeenSource}
 use Rattle.mp_files.specs.Team.{HoldsTeam, Two}
 use Rattle.mp_files.specs.declared.refusal.FileOf.{FileOf}
 use Rattle.mp_files.specs.declared.refusal.Refusal.TheVariants as files
-use Rattle.mp_ground.specs.Limits.{IsWithin}
 use Rattle.mp_ground.specs.declared.refusal.GroundRefusal.TheVariants as sizes
 use Rattle.mp_joint.specs.Fact.{Text}
 use Rattle.mp_joint.specs.declared.plan.PlanStep.{PlanStep}
@@ -15,43 +13,49 @@ use Rattle.mp_messages.specs.declared.history.Event.{Event}
 use Rattle.mp_outside.specs.Source.{Files as Held}
 use Rattle.mp_sets.specs.Numbers.{Numbers}
 use Rattle.mp_solutions.specs.Right.{IsRight}
-use Rattle.mp_solutions.specs.Solution.{IsSolution}
+use Rattle.mp_solutions.specs.Solution.{IsFound}
 use Rattle.mp_solutions.specs.declared.solution.Solution.{Solution}
-use Rattle.mp_split.specs.Team.{known_at}
 use Rattle.mp_task.specs.AgentTask.{AgentTask}
 use Rattle.mp_text.specs.Trace.{trace_text}
 use Rattle.mp_words.specs.Requests.{Wanted}
-use Rattle.mp_world.specs.World.{World}
+use Rattle.mp_world.specs.RoundRobin.{is_over}
+use Rattle.mp_world.specs.World.{World, start_world}
+use Rattle.mp_world.proofs.Turns.{round_robin_end}
 use Rattle.mp_world.specs.declared.answer.Answer.{Answer}
 use Rattle.mp_world.specs.declared.answer.Answer.TheVariants as answer
-use Rattle.mp_top.specs.Asked.{agents_of, values_of}
+use Rattle.mp_top.specs.Asked.{TeamRequest, agents_of, team_request, values_of}
 use Rattle.mp_top.specs.Call.{Call, Says}
-use Rattle.mp_top.specs.Cause.{Rests}
-use Rattle.mp_top.specs.Decided.{IsDecidedFor, search_of}
-use Rattle.mp_top.specs.First.{IsFirst}
-use Rattle.mp_top.specs.Keeps.{IsAnswerStatus, IsOutcomeFor, Keeps, PrintsAnswer, PrintsFor, PrintsNothing, answer_status}
-use Rattle.mp_top.specs.Outcome.{printed_text}
-use Rattle.mp_top.specs.Printed.{Publishes, told as told_text}
+use Rattle.mp_top.specs.Cause.{CannotReadFactor, CannotReadSchedule, Rests}
+use Rattle.mp_top.specs.Decided.{IsDecidedFor, request_by, search_of}
+use Rattle.mp_top.specs.First.{ComesFirst, IsFirst, IsReplayable}
+use Rattle.mp_solve.specs.Refused.{AreWithin}
+use Rattle.mp_top.specs.Keeps.{IsAnswerStatus, IsOutcomeFor, IsReplay, Keeps, PrintsAnswer, PrintsFor, PrintsNothing, answer_status, line_for}
+use Rattle.mp_top.specs.Outcome.{IsFoundBy, behind_trace, printed_text}
+use Rattle.mp_top.specs.Printed.{Publishes, told as told_text, trace_end}
 use Rattle.mp_top.specs.Refusal.{line_of, memory_line, status_of, words_line, write_line}
+use Rattle.mp_top.specs.Schedule.{IsScheduleText}
 use Rattle.mp_top.specs.Words.{request_of}
 use Rattle.mp_top.specs.declared.decision.Decision.{Decision}
 use Rattle.mp_top.specs.declared.decision.Search.{Search}
 use Rattle.mp_top.specs.declared.refusal.Refusal.{Refusal}
-use Rattle.mp_top.specs.declared.refusal.Refusal.TheVariants.{Files, Sizes}
+use Rattle.mp_top.specs.declared.refusal.Refusal.TheVariants.{Files, Sizes, Schedule}
+use Rattle.mp_top.specs.declared.refusal.ScheduleRefusal.TheVariants as schedule
 use Rattle.mp_top.specs.declared.report.Report.{Report}
 use Rattle.mp_top.specs.declared.status.Status.{Status}
 use Rattle.mp_top.specs.declared.status.Status.TheVariants as status
 
--- where the files hold a team whose sizes keep the limits, no refusal is the first one
+-- where the files hold a team whose sizes keep the limits, and the schedule, if one is asked for, is replayed, no refusal is
+-- the first one
 abbrev pub NoneFirst : Type 0
 NoneFirst =
-    (files : Held) (agents : List Two) (team : List Factor) (r : Refusal) → HoldsTeam files agents team
-    → ((place : ℕ) (factor : Factor) → slice_get team place ≡ Some factor → IsWithin (known_at team place factor))
-    → IsFirst files agents r → ⊥
+    (files : Held) (request : TeamRequest) (text : Option Text) (team : List Factor) (r : Refusal)
+    → IsScheduleText (Some files) request.schedule text → HoldsTeam files request.agents team → AreWithin team
+    → IsReplayable request team text
+    → IsFirst files request r → ⊥
 
 -- and at most one is
 abbrev pub OneFirst : Type 0
-OneFirst = (files : Held) (agents : List Two) (r s : Refusal) → IsFirst files agents r → IsFirst files agents s → r ≡ s
+OneFirst = (files : Held) (request : TeamRequest) (r s : Refusal) → IsFirst files request r → IsFirst files request s → r ≡ s
 
 -- what holds by cases, in each of them
 at_none : {A : Type 0} (o : Option A) (N : Type 0) (S : A → Type 0) → o ≡ None → N → MatchOption o N S
@@ -81,6 +85,11 @@ always (Some x) S f = f x
 weaken : {A : Type 0} (o : Option A) (P Q : A → Type 0) → ((x : A) → P x → Q x) → IfSome o P → IfSome o Q
 weaken None P Q f h = tt
 weaken (Some x) P Q f h = f x h
+
+-- what holds whether or not the source tells holds where it does
+in_told : (held : Option Held) (P : Option Held → Type 0) → P held → IfSome held (λ files. P (Some files))
+in_told None P h = tt
+in_told (Some files) P h = h
 
 -- what a sink and a report are where nothing was written
 pub record Unwritten (call : Call) : Type 0 where
@@ -129,6 +138,9 @@ not_words (Sizes (sizes.TooManyTries agent)) is = absurd (cc)
 not_words (Sizes (sizes.TooManyActions agent n)) is = absurd (cc)
 not_words (Sizes (sizes.TooManyFacts agent n)) is = absurd (cc)
 not_words (Sizes sizes.OutOfMemory) is = absurd (cc)
+not_words (Schedule schedule.Read) is = absurd (cc)
+not_words (Schedule schedule.TooLarge) is = absurd (cc)
+not_words (Schedule (schedule.Line n)) is = absurd (cc)
 
 not_write : (r : Refusal) → status_of r ≡ status.Write → ⊥
 not_write (Files (files.Read at)) is = absurd (cc)
@@ -139,16 +151,22 @@ not_write (Sizes (sizes.TooManyTries agent)) is = absurd (cc)
 not_write (Sizes (sizes.TooManyActions agent n)) is = absurd (cc)
 not_write (Sizes (sizes.TooManyFacts agent n)) is = absurd (cc)
 not_write (Sizes sizes.OutOfMemory) is = absurd (cc)
+not_write (Schedule schedule.Read) is = absurd (cc)
+not_write (Schedule schedule.TooLarge) is = absurd (cc)
+not_write (Schedule (schedule.Line n)) is = absurd (cc)
 
-cannot_read : (source : SeenSource) (agents : List Two) (r : Refusal) → Rests source agents r → status_of r ≡ status.Read → (at : FileOf) × CannotRead source agents at
-cannot_read source agents (Files (files.Read at)) h is = (at, h)
-cannot_read source agents (Files (files.TooLarge at)) h is = absurd (cc)
-cannot_read source agents (Files (files.Fault at kind place)) h is = absurd (cc)
-cannot_read source agents (Files files.OutOfMemory) h is = absurd (cc)
-cannot_read source agents (Sizes (sizes.TooManyTries agent)) h is = absurd (cc)
-cannot_read source agents (Sizes (sizes.TooManyActions agent n)) h is = absurd (cc)
-cannot_read source agents (Sizes (sizes.TooManyFacts agent n)) h is = absurd (cc)
-cannot_read source agents (Sizes sizes.OutOfMemory) h is = absurd (cc)
+cannot_read : (source : SeenSource) (request : TeamRequest) (r : Refusal) → Rests source request r → status_of r ≡ status.Read → CannotReadSchedule source request ⊎ ((at : FileOf) × CannotReadFactor source request at)
+cannot_read source request (Files (files.Read at)) h is = inr (at, h)
+cannot_read source request (Files (files.TooLarge at)) h is = absurd (cc)
+cannot_read source request (Files (files.Fault at kind place)) h is = absurd (cc)
+cannot_read source request (Files files.OutOfMemory) h is = absurd (cc)
+cannot_read source request (Sizes (sizes.TooManyTries agent)) h is = absurd (cc)
+cannot_read source request (Sizes (sizes.TooManyActions agent n)) h is = absurd (cc)
+cannot_read source request (Sizes (sizes.TooManyFacts agent n)) h is = absurd (cc)
+cannot_read source request (Sizes sizes.OutOfMemory) h is = absurd (cc)
+cannot_read source request (Schedule schedule.Read) h is = inl h
+cannot_read source request (Schedule schedule.TooLarge) h is = absurd (cc)
+cannot_read source request (Schedule (schedule.Line n)) h is = absurd (cc)
 
 nothing_printed : (call : Call) (request : Wanted) (r : Refusal) → PrintsNothing call → PrintsFor call request (status_of r)
 nothing_printed call request (Files (files.Read at)) h = h
@@ -159,60 +177,95 @@ nothing_printed call request (Sizes (sizes.TooManyTries agent)) h = h
 nothing_printed call request (Sizes (sizes.TooManyActions agent n)) h = h
 nothing_printed call request (Sizes (sizes.TooManyFacts agent n)) h = h
 nothing_printed call request (Sizes sizes.OutOfMemory) h = h
+nothing_printed call request (Schedule schedule.Read) h = h
+nothing_printed call request (Schedule schedule.TooLarge) h = h
+nothing_printed call request (Schedule (schedule.Line n)) h = h
 
 -- what is told where what the files hold has a first refusal
-abbrev Tells : Call → List Two → Held → Type 0
-Tells call agents held =
-    (s : Refusal) → IsFirst held agents s →
+abbrev Tells : Call → Wanted → Held → Type 0
+Tells call request held =
+    (s : Refusal) → IsFirst held (team_request request) s →
     (call.status ≡ status.Read) ⊎ (call.status ≡ status.Memory)
-    ⊎ ((call.status ≡ status_of s) × Says call.err (line_of agents s))
+    ⊎ ((call.status ≡ status_of s) × Says call.err (line_for request s))
 
 -- the refusal that comes is the first one
-module _ (one : OneFirst) (call : Call) (agents : List Two) where
-  told : (held : Held) (r s : Refusal) → IsFirst held agents r → call.status ≡ status_of r → Says call.err (line_of agents r) → IsFirst held agents s → (call.status ≡ status_of s) × Says call.err (line_of agents s)
+module _ (one : OneFirst) (call : Call) (request : Wanted) where
+  told : (held : Held) (r s : Refusal) → IsFirst held (team_request request) r → call.status ≡ status_of r → Says call.err (line_for request r) → IsFirst held (team_request request) s → (call.status ≡ status_of s) × Says call.err (line_for request s)
   told held r s first is says other =
-      let same = one held agents r s first other in
-      (is ∙ ap status_of same, subst (λ x. Says call.err (line_of agents x)) same says)
+      let same = one held (team_request request) r s first other in
+      (is ∙ ap status_of same, subst (λ x. Says call.err (line_for request x)) same says)
 
-  first_told : (r : Refusal) → IfSome call.source.held (λ held. IsFirst held agents r) → call.status ≡ status_of r → Says call.err (line_of agents r) → IfSome call.source.held (Tells call agents)
+  first_told : (r : Refusal) → ComesFirst call.source.held (team_request request) r → call.status ≡ status_of r → Says call.err (line_for request r) → IfSome call.source.held (Tells call request)
   first_told r first is says =
-      weaken call.source.held (λ held. IsFirst held agents r) (Tells call agents)
-      (λ held h s other. inr (inr (told held r s h is says other))) first
+      weaken call.source.held (λ held. IsFirst held (team_request request) r) (Tells call request)
+      (λ held h s other. inr (inr (told held r s h is says other)))
+      (in_told call.source.held (λ held. ComesFirst held (team_request request) r) first)
 
-  tells_first : (r : Refusal) → Rests call.source agents r → call.status ≡ status_of r → Says call.err (line_of agents r) → IfSome call.source.held (Tells call agents)
-  tells_first (Files (files.Read at)) h is says = always call.source.held (Tells call agents) (λ held s other. inl is)
+  read_told : call.status ≡ status.Read → IfSome call.source.held (Tells call request)
+  read_told is = always call.source.held (Tells call request) (λ held s other. inl is)
+
+  memory_told : call.status ≡ status.Memory → IfSome call.source.held (Tells call request)
+  memory_told is = always call.source.held (Tells call request) (λ held s other. inr (inl is))
+
+  tells_first : (r : Refusal) → Rests call.source (team_request request) r → call.status ≡ status_of r → Says call.err (line_for request r) → IfSome call.source.held (Tells call request)
+  tells_first (Files (files.Read at)) h is says = read_told is
   tells_first (Files (files.TooLarge at)) h is says = first_told (Files (files.TooLarge at)) h is says
   tells_first (Files (files.Fault at kind place)) h is says = first_told (Files (files.Fault at kind place)) h is says
-  tells_first (Files files.OutOfMemory) h is says = always call.source.held (Tells call agents) (λ held s other. inr (inl is))
-  tells_first (Sizes (sizes.TooManyTries agent)) h is says =
-      first_told (Sizes (sizes.TooManyTries agent)) (weaken call.source.held (λ held. HoldsTeam held agents h.team) _ (λ held holds. (h.team, holds, h.first)) h.holds) is says
-  tells_first (Sizes (sizes.TooManyActions agent n)) h is says =
-      first_told (Sizes (sizes.TooManyActions agent n)) (weaken call.source.held (λ held. HoldsTeam held agents h.team) _ (λ held holds. (h.team, holds, h.first)) h.holds) is says
-  tells_first (Sizes (sizes.TooManyFacts agent n)) h is says =
-      first_told (Sizes (sizes.TooManyFacts agent n)) (weaken call.source.held (λ held. HoldsTeam held agents h.team) _ (λ held holds. (h.team, holds, h.first)) h.holds) is says
-  tells_first (Sizes sizes.OutOfMemory) h is says = always call.source.held (Tells call agents) (λ held s other. inr (inl is))
+  tells_first (Files files.OutOfMemory) h is says = memory_told is
+  tells_first (Sizes (sizes.TooManyTries agent)) h is says = first_told (Sizes (sizes.TooManyTries agent)) h is says
+  tells_first (Sizes (sizes.TooManyActions agent n)) h is says = first_told (Sizes (sizes.TooManyActions agent n)) h is says
+  tells_first (Sizes (sizes.TooManyFacts agent n)) h is says = first_told (Sizes (sizes.TooManyFacts agent n)) h is says
+  tells_first (Sizes sizes.OutOfMemory) h is says = memory_told is
+  tells_first (Schedule schedule.Read) h is says = read_told is
+  tells_first (Schedule schedule.TooLarge) h is says = first_told (Schedule schedule.TooLarge) h is says
+  tells_first (Schedule (schedule.Line n)) h is says = first_told (Schedule (schedule.Line n)) h is says
 
 -- a refusal
-pub kept_refusal : OneFirst → (call : Call) (request : Wanted) (r : Refusal) → request_of call.words ≡ Some request → Rests call.source (agents_of request.names) r → (call.source.before < call.source.now → status_of r ≡ status.Read) → call.status ≡ status_of r → Unwritten call → Says call.err (line_of (agents_of request.names) r) → Keeps call
+pub kept_refusal : OneFirst → (call : Call) (request : Wanted) (r : Refusal) → request_of call.words ≡ Some request → Rests call.source (team_request request) r → (call.source.before < call.source.now → status_of r ≡ status.Read) → call.status ≡ status_of r → Unwritten call → Says call.err (line_for request r) → Keeps call
 kept_refusal one call request r asks rests fault is unwritten says =
     let same : call.out.now ≡ call.out.before = unwritten.no_fault in
     record {
       words = λ s. absurd (not_words r (sym is ∙ s));
       refused = λ none. absurd (cc);
-      read = λ s. let why = cannot_read call.source (agents_of request.names) r rests (sym is ∙ s) in (request, why.0, asks, why.1);
+      read = λ s. (request, asks, cannot_read call.source (team_request request) r rests (sym is ∙ s));
       read_faults = λ risen. is ∙ fault risen;
       write = (λ s. absurd (not_write r (sym is ∙ s)), λ risen. absurd (omega arith));
       printed = at_some (request_of call.words) request _ _ asks (subst (λ s. PrintsFor call request s) (sym is) (nothing_printed call request r (unwritten.out, unwritten.report)));
-      line = (line_of (agents_of request.names) r, at_some (request_of call.words) request _ _ asks (inr (inr (r, is, refl, rests))), says);
-      first = if_some (request_of call.words) request _ asks (tells_first one call (agents_of request.names) r rests is says);
+      line = (line_for request r, at_some (request_of call.words) request _ _ asks (inr (inr (r, is, refl, rests))), says);
+      first = if_some (request_of call.words) request _ asks (tells_first one call request r rests is says);
     }
 
 -- an answer that is right has its status
-right_status : (value : AgentTask → Numbers → Numbers → Option ℕ) (limit : ℕ) (team : List Factor) (tasks : List AgentTask) (schedule : List Event) (last : World) (a : Answer) (plan : List PlanStep) → IsRight value limit team tasks schedule last a plan → IsAnswerStatus (answer_status a)
-right_status value limit team tasks schedule last answer.Nothing plan h = absurd h
-right_status value limit team tasks schedule last (answer.Solved cost steps) plan h = inl refl
-right_status value limit team tasks schedule last answer.Unsolvable plan h = inr (inl refl)
-right_status value limit team tasks schedule last answer.Undecided plan h = inr (inr refl)
+right_status : (request : Wanted) (value : AgentTask → Numbers → Numbers → Option ℕ) (limit : ℕ) (team : List Factor) (tasks : List AgentTask) (schedule : List Event) (last : World) (a : Answer) (plan : List PlanStep) → IsRight value limit team tasks schedule last a plan → IsAnswerStatus request (answer_status a)
+right_status request value limit team tasks schedule last answer.Nothing plan h = absurd h
+right_status request value limit team tasks schedule last (answer.Solved cost steps) plan h = inl refl
+right_status request value limit team tasks schedule last answer.Unsolvable plan h = inr (inl refl)
+right_status request value limit team tasks schedule last answer.Undecided plan h = inr (inr (inl refl))
+
+-- what was found has the status of an answer, or of a schedule that ended before there was one
+module _ (request : Wanted) (value : AgentTask → Numbers → Numbers → Option ℕ) (limit : ℕ) (team : List Factor) (schedule : List Event) (s : Solution) (found : IsFound value limit team schedule s) where
+  over_status : is_over found.last ≡ true → IsAnswerStatus request (answer_status s.answer)
+  over_status over =
+      let right = found.right over in
+      right_status request value limit team found.tasks.tasks schedule found.last s.answer right.plan right.right
+
+  found_status : (over : Bool) → is_over found.last ≡ over → IsReplay request → IsAnswerStatus request (answer_status s.answer)
+  found_status true is replay = over_status is
+  found_status false is replay = inr (inr (inr (ap answer_status (found.goes_on is).0, replay)))
+
+-- the text of a schedule is that of a file that is asked for
+asked_file : (held : Option Held) (name : Option Text) (text : Text) → IsScheduleText held name (Some text) → (n : Text) × (name ≡ Some n)
+asked_file held None text is = absurd is
+asked_file held (Some name) text is = (name, refl)
+
+by_status : (request : Wanted) (held : Option Held) (text : Option Text) (team : List Factor) (s : Solution) → IsScheduleText held request.schedule text → IsFoundBy request.heuristic request.limit team text s → IsAnswerStatus request (answer_status s.answer)
+by_status request held None team s is found =
+    let value = values_of request.heuristic in
+    over_status request value request.limit team found.schedule s found.is_found
+    (round_robin_end value (start_world value request.limit found.is_found.tasks.tasks) found.is_found.last found.schedule found.round_robin)
+by_status request held (Some text) team s is found =
+    found_status request (values_of request.heuristic) request.limit team _ s found.is_found
+    (is_over found.is_found.last) refl (asked_file held request.schedule text is)
 
 -- what a report keeps of a decision
 pub record Reported (report : Report) (s : Solution) : Type 0 where
@@ -220,78 +273,94 @@ pub record Reported (report : Report) (s : Solution) : Type 0 where
   pub log : report.log ≡ s.log
   pub views : report.views ≡ s.views
 
-reported_solution : (value : AgentTask → Numbers → Numbers → Option ℕ) (limit : ℕ) (team : List Factor) (report : Report) (s : Solution) → Reported report s → IsSolution value limit team s → IsSolution value limit team (record { views = report.views; log = report.log; answer = report.answer; text = s.text })
-reported_solution value limit team report s kept h =
-    subst (λ v. IsSolution value limit team (record { views = v; log = report.log; answer = report.answer; text = s.text })) (sym kept.views)
-    (subst (λ l. IsSolution value limit team (record { views = s.views; log = l; answer = report.answer; text = s.text })) (sym kept.log)
-    (subst (λ a. IsSolution value limit team (record { views = s.views; log = s.log; answer = a; text = s.text })) (sym kept.answer) h))
+reported_solution : (P : Solution → Type 0) (report : Report) (s : Solution) → Reported report s → P s → P (record { views = report.views; log = report.log; answer = report.answer; text = s.text })
+reported_solution P report s kept h =
+    subst (λ v. P (record { views = v; log = report.log; answer = report.answer; text = s.text })) (sym kept.views)
+    (subst (λ l. P (record { views = s.views; log = l; answer = report.answer; text = s.text })) (sym kept.log)
+    (subst (λ a. P (record { views = s.views; log = s.log; answer = a; text = s.text })) (sym kept.answer) h))
 
 -- the text that is told is the one that is printed
-told_is_printed : (trace : Bool) (log : List Entry) (events outcome : Text) → events ≡ (if trace then trace_text log else []) → events ++ ((if trace then codes "answer" ++ 10 ∷ [] else []) ++ outcome) ≡ printed_text trace log outcome
-told_is_printed true log events outcome is = ap (λ e. e ++ ((codes "answer" ++ 10 ∷ []) ++ outcome)) is
-told_is_printed false log events outcome is = ap (λ e. e ++ ([] ++ outcome)) is
+behind : (a : Answer) (outcome : Text) → (behind_trace a ++ 10 ∷ []) ++ outcome ≡ behind_trace a ++ 10 ∷ outcome
+behind answer.Nothing outcome = refl
+behind (answer.Solved cost steps) outcome = refl
+behind answer.Unsolvable outcome = refl
+behind answer.Undecided outcome = refl
 
-module _ (call : Call) (request : Wanted) (d : Decision) (decided : IsDecidedFor call.source.held (agents_of request.names) (search_of request) d) (reported : Reported call.report d.solution) where
+told_is_printed : (trace : Bool) (log : List Entry) (a : Answer) (events outcome : Text) → events ≡ (if trace then trace_text log else []) → events ++ (trace_end trace a ++ outcome) ≡ printed_text trace log a outcome
+told_is_printed true log a events outcome is = ap (λ e. e ++ ((behind_trace a ++ 10 ∷ []) ++ outcome)) is ∙ ap (λ t. trace_text log ++ t) (behind a outcome)
+told_is_printed false log a events outcome is = ap (λ e. e ++ ([] ++ outcome)) is
+
+module _ (call : Call) (request : Wanted) (d : Decision) (decided : IsDecidedFor call.source.held request.schedule (agents_of request.names) (search_of request) d) (reported : Reported call.report d.solution) where
   is_outcome : IsOutcomeFor call request (told_text d request.trace)
   is_outcome = record {
+    schedule = decided.text;
+    is_schedule = decided.is_text;
     team = decided.team;
     one_each = decided.one_each;
     checked = decided.decides.checked;
     holds = decided.holds;
     within = decided.decides.within;
     outcome = d.solution.text;
-    solution = reported_solution (values_of request.heuristic) request.limit decided.team call.report d.solution reported decided.decides.solution;
+    found = reported_solution (IsFoundBy request.heuristic request.limit decided.team decided.text) call.report d.solution reported decided.decides.found;
     printed =
-        subst (λ l. told_text d request.trace ≡ printed_text request.trace l d.solution.text) (sym reported.log)
-        (told_is_printed request.trace d.solution.log d.trace d.solution.text decided.decides.trace);
+        subst (λ l. told_text d request.trace ≡ printed_text request.trace l call.report.answer d.solution.text) (sym reported.log)
+        (subst (λ a. told_text d request.trace ≡ printed_text request.trace d.solution.log a d.solution.text) (sym reported.answer)
+        (told_is_printed request.trace d.solution.log d.solution.answer d.trace d.solution.text decided.decides.trace));
   }
 
-  answered : IsAnswerStatus (answer_status d.solution.answer)
-  answered =
-      let s = decided.decides.solution in
-      right_status (values_of request.heuristic) request.limit decided.team s.tasks.tasks s.schedule s.last d.solution.answer s.plan s.right
+  answered : IsAnswerStatus request (answer_status d.solution.answer)
+  answered = by_status request call.source.held decided.text decided.team d.solution decided.is_text decided.decides.found
 
--- where the files hold a team that keeps the limits, nothing is to be told
-none_told : NoneFirst → (call : Call) (agents : List Two) (team : List Factor) → IfSome call.source.held (λ held. HoldsTeam held agents team) → ((place : ℕ) (factor : Factor) → slice_get team place ≡ Some factor → IsWithin (known_at team place factor)) → IfSome call.source.held (Tells call agents)
-none_told none call agents team holds within =
-    weaken call.source.held (λ held. HoldsTeam held agents team) (Tells call agents)
-    (λ held h s first. absurd (none held agents team s h within first)) holds
+replayable : (request : Wanted) (team : List Factor) (text : Option Text) (s : Solution) → IsFoundBy request.heuristic request.limit team text s → IsReplayable (team_request request) team text
+replayable request team None s found = tt
+replayable request team (Some text) s found = (s, found)
 
-printed_answer : (call : Call) (request : Wanted) (s : Status) → IsAnswerStatus s → PrintsAnswer call request → PrintsFor call request s
+-- where something was found, nothing is to be told
+none_told : NoneFirst → (call : Call) (request : Wanted) (d : Decision) → IsDecidedFor call.source.held request.schedule (agents_of request.names) (search_of request) d → IfSome call.source.held (Tells call request)
+none_told none call request d decided =
+    weaken call.source.held (λ files. IsDecidedFor (Some files) request.schedule (agents_of request.names) (search_of request) d) (Tells call request)
+    (λ files h s first. absurd (none files (team_request request) h.text h.team s h.is_text h.holds h.decides.within (replayable request h.team h.text d.solution h.decides.found) first))
+    (in_told call.source.held (λ held. IsDecidedFor held request.schedule (agents_of request.names) (search_of request) d) decided)
+
+printed_answer : (call : Call) (request : Wanted) (s : Status) → IsAnswerStatus request s → PrintsAnswer call request → PrintsFor call request s
 printed_answer call request s (inl is) h = subst (λ x. PrintsFor call request x) (sym is) h
 printed_answer call request s (inr (inl is)) h = subst (λ x. PrintsFor call request x) (sym is) h
-printed_answer call request s (inr (inr is)) h = subst (λ x. PrintsFor call request x) (sym is) h
+printed_answer call request s (inr (inr (inl is))) h = subst (λ x. PrintsFor call request x) (sym is) h
+printed_answer call request s (inr (inr (inr (is, replay)))) h = subst (λ x. PrintsFor call request x) (sym is) (replay, h)
 
 -- no status of an answer is that of words, of a read or of a write
 abbrev NoAnswer : Status → Type 0
 NoAnswer t = (t ≡ status.Words) ⊎ (t ≡ status.Read) ⊎ (t ≡ status.Write)
 
-not_answer : (s : Status) → IsAnswerStatus s → NoAnswer s → ⊥
-not_answer s (inl is) (inl w) = absurd (cc)
-not_answer s (inl is) (inr (inl r)) = absurd (cc)
-not_answer s (inl is) (inr (inr w)) = absurd (cc)
-not_answer s (inr (inl is)) (inl w) = absurd (cc)
-not_answer s (inr (inl is)) (inr (inl r)) = absurd (cc)
-not_answer s (inr (inl is)) (inr (inr w)) = absurd (cc)
-not_answer s (inr (inr is)) (inl w) = absurd (cc)
-not_answer s (inr (inr is)) (inr (inl r)) = absurd (cc)
-not_answer s (inr (inr is)) (inr (inr w)) = absurd (cc)
+not_answer : (request : Wanted) (s : Status) → IsAnswerStatus request s → NoAnswer s → ⊥
+not_answer request s (inl is) (inl w) = absurd (cc)
+not_answer request s (inl is) (inr (inl r)) = absurd (cc)
+not_answer request s (inl is) (inr (inr w)) = absurd (cc)
+not_answer request s (inr (inl is)) (inl w) = absurd (cc)
+not_answer request s (inr (inl is)) (inr (inl r)) = absurd (cc)
+not_answer request s (inr (inl is)) (inr (inr w)) = absurd (cc)
+not_answer request s (inr (inr (inl is))) (inl w) = absurd (cc)
+not_answer request s (inr (inr (inl is))) (inr (inl r)) = absurd (cc)
+not_answer request s (inr (inr (inl is))) (inr (inr w)) = absurd (cc)
+not_answer request s (inr (inr (inr (is, replay)))) (inl w) = absurd (cc)
+not_answer request s (inr (inr (inr (is, replay)))) (inr (inl r)) = absurd (cc)
+not_answer request s (inr (inr (inr (is, replay)))) (inr (inr w)) = absurd (cc)
 
 -- an outcome, written whole or cut off
-module _ (none : NoneFirst) (call : Call) (request : Wanted) (d : Decision) (asks : request_of call.words ≡ Some request) (decided : IsDecidedFor call.source.held (agents_of request.names) (search_of request) d) (reported : Reported call.report d.solution) (no_fault : call.source.now ≡ call.source.before) where
+module _ (none : NoneFirst) (call : Call) (request : Wanted) (d : Decision) (asks : request_of call.words ≡ Some request) (decided : IsDecidedFor call.source.held request.schedule (agents_of request.names) (search_of request) d) (reported : Reported call.report d.solution) (no_fault : call.source.now ≡ call.source.before) where
   pub kept_outcome : Publishes call.out call.err d request.trace call.status → Keeps call
   kept_outcome (inl (is, whole, same, says)) =
-      let ended : IsAnswerStatus call.status = subst (λ s. IsAnswerStatus s) (sym is) (answered call request d decided reported) in
+      let ended : IsAnswerStatus request call.status = subst (λ s. IsAnswerStatus request s) (sym is) (answered call request d decided reported) in
       let fits : answer_status call.report.answer ≡ call.status = ap answer_status reported.answer ∙ sym is in
       record {
-        words = λ s. absurd (not_answer call.status ended (inl s));
+        words = λ s. absurd (not_answer request call.status ended (inl s));
         refused = λ none_asked. absurd (cc);
-        read = λ s. absurd (not_answer call.status ended (inr (inl s)));
+        read = λ s. absurd (not_answer request call.status ended (inr (inl s)));
         read_faults = λ risen. absurd (omega arith);
-        write = (λ s. absurd (not_answer call.status ended (inr (inr s))), λ risen. absurd (omega arith));
+        write = (λ s. absurd (not_answer request call.status ended (inr (inr s))), λ risen. absurd (omega arith));
         printed = at_some (request_of call.words) request _ _ asks (printed_answer call request call.status ended (told_text d request.trace, is_outcome call request d decided reported, fits, whole));
         line = ([], at_some (request_of call.words) request _ _ asks (inl (ended, refl)), says);
-        first = if_some (request_of call.words) request _ asks (none_told none call (agents_of request.names) decided.team decided.holds decided.decides.within);
+        first = if_some (request_of call.words) request _ asks (none_told none call request d decided);
       }
   kept_outcome (inr (is, begun, risen, says)) =
       record {
@@ -302,16 +371,33 @@ module _ (none : NoneFirst) (call : Call) (request : Wanted) (d : Decision) (ask
         write = (λ _. risen, λ _. is);
         printed = at_some (request_of call.words) request _ _ asks (subst (λ s. PrintsFor call request s) (sym is) (told_text d request.trace, is_outcome call request d decided reported, begun));
         line = (write_line, at_some (request_of call.words) request _ _ asks (inr (inl (is, refl))), says);
-        first = if_some (request_of call.words) request _ asks (none_told none call (agents_of request.names) decided.team decided.holds decided.decides.within);
+        first = if_some (request_of call.words) request _ asks (none_told none call request d decided);
       }
 
--- the same for what was searched for
-pub kept_decision : NoneFirst → (call : Call) (request : Wanted) (search : Search) (agents : List Two) (d : Decision) → request_of call.words ≡ Some request → search ≡ search_of request → agents ≡ agents_of request.names → IsDecidedFor call.source.held agents search d → Reported call.report d.solution → call.source.now ≡ call.source.before → Publishes call.out call.err d search.trace call.status → Keeps call
-kept_decision none call request search agents d asks is names decided reported no_fault publishes =
+-- a request that is put together of its parts
+module _ (request : Wanted) (schedule : Option Text) (search : Search) (agents : List Two) (by : schedule ≡ request.schedule) (is : search ≡ search_of request) (names : agents ≡ agents_of request.names) where
+  same_request : request_by schedule search agents ≡ team_request request
+  same_request = λ i. request_by (by i) (is i) (names i)
+
+  same_decision : (held : Option Held) (d : Decision) → IsDecidedFor held schedule agents search d → IsDecidedFor held request.schedule (agents_of request.names) (search_of request) d
+  same_decision held d decided =
+      subst (λ s. IsDecidedFor held request.schedule (agents_of request.names) s d) is
+      (subst (λ a. IsDecidedFor held request.schedule a search d) names
+      (subst (λ n. IsDecidedFor held n agents search d) by decided))
+
+  same_line : (call : Call) (r : Refusal) → Says call.err (line_of schedule agents r) → Says call.err (line_for request r)
+  same_line call r says =
+      subst (λ a. Says call.err (line_of request.schedule a r)) names (subst (λ n. Says call.err (line_of n agents r)) by says)
+
+-- the same for what was searched for or replayed
+pub kept_decision : NoneFirst → (call : Call) (request : Wanted) (schedule : Option Text) (search : Search) (agents : List Two) (d : Decision) → request_of call.words ≡ Some request → schedule ≡ request.schedule → search ≡ search_of request → agents ≡ agents_of request.names → IsDecidedFor call.source.held schedule agents search d → Reported call.report d.solution → call.source.now ≡ call.source.before → Publishes call.out call.err d search.trace call.status → Keeps call
+kept_decision none call request schedule search agents d asks by is names decided reported no_fault publishes =
     kept_outcome none call request d asks
-    (subst (λ s. IsDecidedFor call.source.held (agents_of request.names) s d) is (subst (λ a. IsDecidedFor call.source.held a search d) names decided))
+    (same_decision request schedule search agents by is names call.source.held d decided)
     reported no_fault (subst (λ s. Publishes call.out call.err d s.trace call.status) is publishes)
 
-pub kept_cause : OneFirst → (call : Call) (request : Wanted) (agents : List Two) (r : Refusal) → request_of call.words ≡ Some request → agents ≡ agents_of request.names → Rests call.source agents r → (call.source.before < call.source.now → status_of r ≡ status.Read) → call.status ≡ status_of r → Unwritten call → Says call.err (line_of agents r) → Keeps call
-kept_cause one call request agents r asks names rests fault is unwritten says =
-    kept_refusal one call request r asks (subst (λ a. Rests call.source a r) names rests) fault is unwritten (subst (λ a. Says call.err (line_of a r)) names says)
+pub kept_cause : OneFirst → (call : Call) (request : Wanted) (schedule : Option Text) (search : Search) (agents : List Two) (r : Refusal) → request_of call.words ≡ Some request → schedule ≡ request.schedule → search ≡ search_of request → agents ≡ agents_of request.names → Rests call.source (request_by schedule search agents) r → (call.source.before < call.source.now → status_of r ≡ status.Read) → call.status ≡ status_of r → Unwritten call → Says call.err (line_of schedule agents r) → Keeps call
+kept_cause one call request schedule search agents r asks by is names rests fault ended unwritten says =
+    kept_refusal one call request r asks
+    (subst (λ q. Rests call.source q r) (same_request request schedule search agents by is names) rests)
+    fault ended unwritten (same_line request schedule search agents by is names call r says)

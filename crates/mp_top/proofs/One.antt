@@ -1,5 +1,5 @@
--- The files of a team have at most one first refusal.
-use Rattle.std.proofs.Common.{◌≡◌, ◌<◌, ◌≤◌, ◌⊎◌, inl, inr, ℕ, zero, suc, List, Some, Ok, refl, sym, ap, ◌∙◌, subst, arith}
+-- The files of a request have at most one first refusal.
+use Rattle.std.proofs.Common.{◌≡◌, ◌<◌, ◌≤◌, ◌⊎◌, inl, inr, ℕ, zero, suc, List, length, All, Option, None, Some, IsSomeAnd, Ok, refl, sym, ap, ◌∙◌, subst, arith}
 use Rattle.std.specs.Prelude.{slice_get}
 use Rattle.std.proofs.lemmas.Option.{same_Some}
 use Rattle.mp_factor.specs.declared.factor.Factor.{Factor}
@@ -12,9 +12,21 @@ use Rattle.mp_ground.specs.declared.refusal.GroundRefusal.{GroundRefusal}
 use Rattle.mp_ground.specs.declared.refusal.GroundRefusal.TheVariants.{TooManyTries, TooManyActions, TooManyFacts, OutOfMemory}
 use Rattle.mp_outside.specs.Source.{Files as Held}
 use Rattle.mp_split.specs.Team.{IsFirstRefusal, known_at}
-use Rattle.mp_top.specs.First.{IsFirst, IsFirstSize}
+use Rattle.mp_files.specs.declared.refusal.Refusal.{Refusal as FilesRefusal}
+use Rattle.mp_grounder.specs.Checked.{IsChecked}
+use Rattle.mp_joint.specs.Fact.{Text}
+use Rattle.mp_sets.specs.Numbers.{Numbers}
+use Rattle.mp_solutions.specs.Solution.{IsRefusedLine, IsReplayed}
+use Rattle.mp_solutions.specs.declared.solution.Solution.{Solution}
+use Rattle.mp_task.specs.AgentTask.{AgentTask}
+use Rattle.mp_top.specs.Asked.{TeamRequest, values_of}
+use Rattle.mp_top.specs.First.{IsFileRefused, IsFirst, IsFirstSize, IsLineRefused, IsReplayable, IsScheduleAbsent, IsScheduleLong, IsTooLarge}
+use Rattle.mp_solve.specs.Refused.{AreWithin}
+use Rattle.mp_top.specs.Schedule.{HasScheduleText, IsScheduleText, longest_schedule}
 use Rattle.mp_top.specs.declared.refusal.Refusal.{Refusal}
-use Rattle.mp_top.specs.declared.refusal.Refusal.TheVariants.{Files, Sizes}
+use Rattle.mp_top.specs.declared.refusal.Refusal.TheVariants.{Files, Sizes, Schedule}
+use Rattle.mp_top.specs.declared.refusal.ScheduleRefusal.TheVariants as schedule
+use Rattle.mp_top.proofs.Checked.{checked_team}
 
 -- a refusal for a size
 abbrev IsSize : GroundRefusal → Type 0
@@ -114,16 +126,132 @@ module _ (team : List Factor) where
 one_team : Laws → (files : Held) (agents : List Two) (team other : List Factor) → HoldsTeam files agents team → HoldsTeam files agents other → team ≡ other
 one_team laws files agents team other h g = same_ok team other (one_read laws files agents (Ok team) (Ok other) h g)
 
-pub one_first : Laws → (files : Held) (agents : List Two) (r s : Refusal) → IsFirst files agents r → IsFirst files agents s → r ≡ s
-one_first laws files agents (Files r) (Files s) h g = ap Files (one_of_files laws files agents r s h g)
-one_first laws files agents (Files r) (Sizes s) h (team, holds, size) = absurd (none_of_files laws files agents team r holds h)
-one_first laws files agents (Sizes r) (Files s) (team, holds, size) g = absurd (none_of_files laws files agents team s holds g)
-one_first laws files agents (Sizes r) (Sizes s) (team, holds, size) (other, also, too) =
-    let same = one_team laws files agents team other holds also in
-    ap Sizes (one_first_size team r s size (subst (λ t. IsFirstSize t s) (sym same) too))
+-- ---- the file of the schedule
 
-pub none_first : Laws → (files : Held) (agents : List Two) (team : List Factor) (r : Refusal) → HoldsTeam files agents team → ((place : ℕ) (factor : Factor) → slice_get team place ≡ Some factor → IsWithin (known_at team place factor)) → IsFirst files agents r → ⊥
-none_first laws files agents team (Files r) holds within h = none_of_files laws files agents team r holds h
-none_first laws files agents team (Sizes r) holds within (other, also, size) =
-    let same = one_team laws files agents team other holds also in
-    no_size team r within (subst (λ t. IsFirstSize t r) (sym same) size)
+one_text : (files : Held) (name t u : Option Text) → IsScheduleText (Some files) name t → IsScheduleText (Some files) name u → t ≡ u
+one_text files None None None h g = refl
+one_text files None None (Some u) h g = absurd g
+one_text files None (Some t) u h g = absurd h
+one_text files (Some name) None u h g = absurd h
+one_text files (Some name) (Some t) None h g = absurd g
+one_text files (Some name) (Some t) (Some u) h g = sym h.0 ∙ g.0
+
+no_text : (files : Held) (name : Text) (t : Option Text) → files name ≡ None → IsScheduleText (Some files) (Some name) t → ⊥
+no_text files name None absent h = h
+no_text files name (Some t) absent (is, short) = absurd (cc)
+
+long_in : (found : Option Text) (t : Text) → found ≡ Some t → length t ≤ longest_schedule → IsSomeAnd found (λ x. longest_schedule < length x) → ⊥
+long_in None t is short long = long
+long_in (Some x) t is short long =
+    let same : x ≡ t = same_Some x t is in
+    let more : longest_schedule < length t = subst (λ y. longest_schedule < length y) same long in
+    not_more (length t) longest_schedule short more
+
+long_text : (files : Held) (name : Text) (t : Option Text) → IsSomeAnd (files name) (λ x. longest_schedule < length x) → IsScheduleText (Some files) (Some name) t → ⊥
+long_text files name None long h = h
+long_text files name (Some t) long (is, short) = long_in (files name) t is short long
+
+none_and : {A : Type 0} (o : Option A) (P : A → Type 0) → o ≡ None → IsSomeAnd o P → ⊥
+none_and None P is h = h
+none_and (Some x) P is h = absurd (cc)
+
+-- the laws of mp_replays: a text has one refused line, and none where it is replayed
+pub record LineLaws : Type 0 where
+  pub one :
+      (value : AgentTask → Numbers → Numbers → Option ℕ) (limit : ℕ) (team : List Factor) (text : Text) (m n : ℕ)
+      → All IsChecked team
+      → IsRefusedLine value limit team text m → IsRefusedLine value limit team text n → m ≡ n
+  pub none :
+      (value : AgentTask → Numbers → Numbers → Option ℕ) (limit : ℕ) (team : List Factor) (text : Text) (found : Solution) (n : ℕ)
+      → All IsChecked team
+      → IsReplayed value limit team text found → IsRefusedLine value limit team text n → ⊥
+
+-- the least that is known where a refusal comes behind the file of the schedule
+module _ (laws : Laws) (lines : LineLaws) (files : Held) (request : TeamRequest) where
+  absent_first : IsScheduleAbsent (Some files) request → HasScheduleText (Some files) request.schedule → ⊥
+  absent_first h (t, is) = no_text files h.name t h.absent (subst (λ s. IsScheduleText (Some files) s t) h.asked is)
+
+  long_first : IsScheduleLong (Some files) request → HasScheduleText (Some files) request.schedule → ⊥
+  long_first h (t, is) = long_text files h.name t h.long (subst (λ s. IsScheduleText (Some files) s t) h.asked is)
+
+  absent_or_long : IsScheduleAbsent (Some files) request → IsScheduleLong (Some files) request → ⊥
+  absent_or_long h g =
+      let same : h.name ≡ g.name = same_Some h.name g.name (sym h.asked ∙ g.asked) in
+      none_and (files g.name) _ (subst (λ n. files n ≡ None) same h.absent) g.long
+
+  line_text : (n : ℕ) → IsLineRefused (Some files) request n → HasScheduleText (Some files) request.schedule
+  line_text n h = (Some h.text, h.schedule)
+
+  file_or_size : (r : FilesRefusal) (s : GroundRefusal) → IsFileRefused (Some files) request r → IsTooLarge (Some files) request s → ⊥
+  file_or_size r s h g = none_of_files laws files request.agents g.team r g.holds h.first
+
+  file_or_line : (r : FilesRefusal) (n : ℕ) → IsFileRefused (Some files) request r → IsLineRefused (Some files) request n → ⊥
+  file_or_line r n h g = none_of_files laws files request.agents g.team r g.holds h.first
+
+  no_size_of : (team : List Factor) (r : GroundRefusal) → HoldsTeam files request.agents team → AreWithin team → IsTooLarge (Some files) request r → ⊥
+  no_size_of team r holds within h =
+      let same : team ≡ h.team = one_team laws files request.agents team h.team holds h.holds in
+      no_size team r within (subst (λ t. IsFirstSize t r) (sym same) h.first)
+
+  size_or_line : (r : GroundRefusal) (n : ℕ) → IsTooLarge (Some files) request r → IsLineRefused (Some files) request n → ⊥
+  size_or_line r n h g = no_size_of g.team r g.holds g.within h
+
+  same_size : (r s : GroundRefusal) → IsTooLarge (Some files) request r → IsTooLarge (Some files) request s → r ≡ s
+  same_size r s h g =
+      let same : h.team ≡ g.team = one_team laws files request.agents h.team g.team h.holds g.holds in
+      one_first_size h.team r s h.first (subst (λ t. IsFirstSize t s) (sym same) g.first)
+
+  same_line : (m n : ℕ) → IsLineRefused (Some files) request m → IsLineRefused (Some files) request n → m ≡ n
+  same_line m n h g =
+      let value = values_of request.heuristic in
+      let team : h.team ≡ g.team = one_team laws files request.agents h.team g.team h.holds g.holds in
+      let text : h.text ≡ g.text =
+      same_Some h.text g.text (one_text files request.schedule (Some h.text) (Some g.text) h.schedule g.schedule) in
+      let also : IsRefusedLine value request.limit h.team h.text n =
+      subst (λ t. IsRefusedLine value request.limit t h.text n) (sym team)
+      (subst (λ t. IsRefusedLine value request.limit g.team t n) (sym text) g.refused) in
+      lines.one value request.limit h.team h.text m n (checked_team files request.agents h.team h.holds) h.refused also
+
+  pub one_first : (r s : Refusal) → IsFirst files request r → IsFirst files request s → r ≡ s
+  one_first (Files r) (Files s) h g = ap Files (one_of_files laws files request.agents r s h.first g.first)
+  one_first (Files r) (Sizes s) h g = absurd (file_or_size r s h g)
+  one_first (Files r) (Schedule schedule.Read) h g = absurd (absent_first g h.schedule)
+  one_first (Files r) (Schedule schedule.TooLarge) h g = absurd (long_first g h.schedule)
+  one_first (Files r) (Schedule (schedule.Line n)) h g = absurd (file_or_line r n h g)
+  one_first (Sizes r) (Files s) h g = absurd (file_or_size s r g h)
+  one_first (Sizes r) (Sizes s) h g = ap Sizes (same_size r s h g)
+  one_first (Sizes r) (Schedule schedule.Read) h g = absurd (absent_first g h.schedule)
+  one_first (Sizes r) (Schedule schedule.TooLarge) h g = absurd (long_first g h.schedule)
+  one_first (Sizes r) (Schedule (schedule.Line n)) h g = absurd (size_or_line r n h g)
+  one_first (Schedule schedule.Read) (Files s) h g = absurd (absent_first h g.schedule)
+  one_first (Schedule schedule.Read) (Sizes s) h g = absurd (absent_first h g.schedule)
+  one_first (Schedule schedule.Read) (Schedule schedule.Read) h g = refl
+  one_first (Schedule schedule.Read) (Schedule schedule.TooLarge) h g = absurd (absent_or_long h g)
+  one_first (Schedule schedule.Read) (Schedule (schedule.Line n)) h g = absurd (absent_first h (line_text n g))
+  one_first (Schedule schedule.TooLarge) (Files s) h g = absurd (long_first h g.schedule)
+  one_first (Schedule schedule.TooLarge) (Sizes s) h g = absurd (long_first h g.schedule)
+  one_first (Schedule schedule.TooLarge) (Schedule schedule.Read) h g = absurd (absent_or_long g h)
+  one_first (Schedule schedule.TooLarge) (Schedule schedule.TooLarge) h g = refl
+  one_first (Schedule schedule.TooLarge) (Schedule (schedule.Line n)) h g = absurd (long_first h (line_text n g))
+  one_first (Schedule (schedule.Line m)) (Files s) h g = absurd (file_or_line s m g h)
+  one_first (Schedule (schedule.Line m)) (Sizes s) h g = absurd (size_or_line s m g h)
+  one_first (Schedule (schedule.Line m)) (Schedule schedule.Read) h g = absurd (absent_first g (line_text m h))
+  one_first (Schedule (schedule.Line m)) (Schedule schedule.TooLarge) h g = absurd (long_first g (line_text m h))
+  one_first (Schedule (schedule.Line m)) (Schedule (schedule.Line n)) h g = ap (λ i. Schedule (schedule.Line i)) (same_line m n h g)
+
+  -- no line is refused where something was found
+  no_line : (text : Option Text) (team : List Factor) (n : ℕ) → IsScheduleText (Some files) request.schedule text → HoldsTeam files request.agents team → IsReplayable request team text → IsLineRefused (Some files) request n → ⊥
+  no_line text team n is holds by h =
+      let value = values_of request.heuristic in
+      let same_team : team ≡ h.team = one_team laws files request.agents team h.team holds h.holds in
+      let same_text : text ≡ Some h.text = one_text files request.schedule text (Some h.text) is h.schedule in
+      let replayed : IsReplayable request h.team (Some h.text) =
+      subst (λ t. IsReplayable request t (Some h.text)) same_team (subst (λ t. IsReplayable request team t) same_text by) in
+      lines.none value request.limit h.team h.text replayed.0 n (checked_team files request.agents h.team h.holds) replayed.1 h.refused
+
+  pub none_first : (text : Option Text) (team : List Factor) (r : Refusal) → IsScheduleText (Some files) request.schedule text → HoldsTeam files request.agents team → AreWithin team → IsReplayable request team text → IsFirst files request r → ⊥
+  none_first text team (Files r) is holds within by h = none_of_files laws files request.agents team r holds h.first
+  none_first text team (Sizes r) is holds within by h = no_size_of team r holds within h
+  none_first text team (Schedule schedule.Read) is holds within by h = absent_first h (text, is)
+  none_first text team (Schedule schedule.TooLarge) is holds within by h = long_first h (text, is)
+  none_first text team (Schedule (schedule.Line n)) is holds within by h = no_line text team n is holds by h

@@ -9,7 +9,7 @@ use Rattle.std.specs.Str.{bytes_eq}
 use Rattle.std.proofs.lemmas.Slice.Eq.{bytes_eq-Decides}
 use Rattle.mp_words.specs.Asked.{Asked, nothing}
 use Rattle.mp_words.specs.Numbers.{if_between, number_between, number_from, number_of}
-use Rattle.mp_words.specs.Requests.{Wanted, is_alone, is_team, stands_before_dashes, wanted, request_of as wanted_of}
+use Rattle.mp_words.specs.Requests.{Wanted, has_options_of_replay, is_alone, is_team, replay_of, replay_with, search_of, stands_before_dashes, request_of as wanted_of}
 use Rattle.mp_words.specs.Words.{after_free_word, after_option, after_valued, after_word, after_words, behind, choice_of, is_name, unless_given, with_heuristic, with_limit, with_option, with_value, with_workers}
 use Rattle.mp_words.specs.Reads.{wanted_by}
 use Rattle.mp_words.specs.declared.asked.Choice.{Choice}
@@ -186,31 +186,49 @@ two_of_each [] = omega arith
 two_of_each (a ∷ []) = omega arith
 two_of_each (a ∷ b ∷ names) = let h = two_of_each names in omega (arith, h)
 
-keeps : (a : Asked) → Fits a → IfSome (wanted a) KeepsLimits
-keeps a fits =
-    either (is_none a.awaited && is_team a.names) _ None KeepsLimits
-    (λ is.
-    let team = and_parts (is_none a.awaited) (is_team a.names) is in
-    let least = and_parts (nat_le 2 (length a.names)) _ team.1 in
-    let most = and_parts (nat_le (length a.names) 32) _ least.1 in
-    let limit = within_or a.limit fits in
-    let greatest : length a.names ≤ 32 = leb-true (length a.names) 32 most.0 in
-    let each = two_of_each a.names in
+-- a request with such a limit and the files of a team
+limits : (w : Wanted) → Within w.limit → is_team w.names ≡ true → KeepsLimits w
+limits w limit is =
+    let least = and_parts (nat_le 2 (length w.names)) _ is in
+    let most = and_parts (nat_le (length w.names) 32) _ least.1 in
+    let greatest : length w.names ≤ 32 = leb-true (length w.names) 32 most.0 in
+    let each = two_of_each w.names in
     record {
       from_1 = limit.0;
       limit = limit.1;
-      some = some_agents a.names (leb-true 2 (length a.names) least.0);
+      some = some_agents w.names (leb-true 2 (length w.names) least.0);
       at_most = omega (arith, greatest, each);
-    })
+    }
+
+search_keeps : (a : Asked) → Fits a → IfSome (search_of a) KeepsLimits
+search_keeps a fits =
+    either (is_none a.awaited && is_team a.names) _ None KeepsLimits
+    (λ is. limits _ (within_or a.limit fits) (and_parts (is_none a.awaited) (is_team a.names) is).1)
     (λ is. tt)
+
+replay_with_keeps : (a : Asked) (names : List (List ℕ)) → Fits a → IfSome (replay_with a names) KeepsLimits
+replay_with_keeps a [] fits = tt
+replay_with_keeps a (schedule ∷ names) fits =
+    either (is_none a.awaited && (has_options_of_replay a && is_team names)) _ None KeepsLimits
+    (λ is.
+    let options = and_parts (is_none a.awaited) (has_options_of_replay a && is_team names) is in
+    limits _ (within_or a.limit fits) (and_parts (has_options_of_replay a) (is_team names) options.1).1)
+    (λ is. tt)
+
+-- what is read behind a command keeps the limits
+behind_keeps : (read : Asked → Option Wanted) → ((a : Asked) → Fits a → IfSome (read a) KeepsLimits) → (words : List (List ℕ)) → IfSome (option_and_then read (after_words nothing words)) KeepsLimits
+behind_keeps read kept words =
+    chained read (after_words nothing words) KeepsLimits
+    (weaken (after_words nothing words) Fits (λ a. IfSome (read a) KeepsLimits) kept (fits_words words nothing tt tt))
 
 wanted_keeps : (words : List (List ℕ)) → IfSome (wanted_of words) KeepsLimits
 wanted_keeps [] = tt
 wanted_keeps (command ∷ words) =
-    either (bytes_eq command (codes "solve")) (option_and_then wanted (after_words nothing words)) None KeepsLimits
-    (λ is. chained wanted (after_words nothing words) KeepsLimits
-    (weaken (after_words nothing words) Fits (λ a. IfSome (wanted a) KeepsLimits) keeps (fits_words words nothing tt tt)))
-    (λ is. tt)
+    either (bytes_eq command (codes "solve")) _ _ KeepsLimits
+    (λ is. behind_keeps search_of search_keeps words)
+    (λ _. either (bytes_eq command (codes "replay")) _ None KeepsLimits
+    (λ is. behind_keeps replay_of (λ a fits. replay_with_keeps a a.names fits) words)
+    (λ is. tt))
 
 -- what accepted words ask for keeps the limits
 pub asked_keeps : (words : List (List ℕ)) (o : Option Request) (r : Request) → MatchOption o (wanted_of words ≡ None) (λ x. wanted_of words ≡ Some (wanted_by x)) → o ≡ Some r → KeepsLimits (wanted_by r)
@@ -291,14 +309,14 @@ stands (word ∷ words) a fits awaits not_yet =
     chained (λ next. after_words next words) (after_word a word) (Stands (word ∷ words))
     (by_word (bytes_eq word (codes "--")) (bytes_eq word (codes "--one")) word words a fits awaits not_yet (λ next. stands words next) refl refl)
 
-asked_one : (a : Asked) → IfSome (wanted a) (λ w. w.one ≡ a.one)
+asked_one : (a : Asked) → IfSome (search_of a) (λ w. w.one ≡ a.one)
 asked_one a = either (is_none a.awaited && is_team a.names) _ None (λ w. w.one ≡ a.one) (λ _. refl) (λ _. tt)
 
-wanted_stands : (words : List (List ℕ)) → IfSome (option_and_then wanted (after_words nothing words)) (λ w. w.one ≡ true → stands_before_dashes words ≡ true)
+wanted_stands : (words : List (List ℕ)) → IfSome (option_and_then search_of (after_words nothing words)) (λ w. w.one ≡ true → stands_before_dashes words ≡ true)
 wanted_stands words =
-    chained wanted (after_words nothing words) _
-    (weaken (after_words nothing words) (Stands words) (λ a. IfSome (wanted a) (λ w. w.one ≡ true → stands_before_dashes words ≡ true))
-    (λ a h. weaken (wanted a) (λ w. w.one ≡ a.one) (λ w. w.one ≡ true → stands_before_dashes words ≡ true) (λ w e given. h (sym e ∙ given)) (asked_one a))
+    chained search_of (after_words nothing words) _
+    (weaken (after_words nothing words) (Stands words) (λ a. IfSome (search_of a) (λ w. w.one ≡ true → stands_before_dashes words ≡ true))
+    (λ a h. weaken (search_of a) (λ w. w.one ≡ a.one) (λ w. w.one ≡ true → stands_before_dashes words ≡ true) (λ w e given. h (sym e ∙ given)) (asked_one a))
     (stands words nothing tt tt refl))
 
 -- the word `solve` is neither `--` nor `--one`
@@ -312,14 +330,22 @@ alone_of command words is found =
     let all : stands_before_dashes (command ∷ words) ≡ true = solve_stands command words is ∙ found in
     rw (is, all) refl
 
+-- the command of a replay starts no threads
+replay_alone : (command : List ℕ) (words : List (List ℕ)) → bytes_eq command (codes "replay") ≡ true → is_alone (command ∷ words) ≡ true
+replay_alone command words is =
+    let c : command ≡ codes "replay" = (bytes_eq-Decides command (codes "replay")).0 is in
+    rw c refl
+
 -- words that ask for one thread are for one thread alone
 one_is_alone : (words : List (List ℕ)) → IfSome (wanted_of words) (λ w. w.one ≡ true → is_alone words ≡ true)
 one_is_alone [] = tt
 one_is_alone (command ∷ words) =
-    either (bytes_eq command (codes "solve")) (option_and_then wanted (after_words nothing words)) None (λ w. w.one ≡ true → is_alone (command ∷ words) ≡ true)
+    either (bytes_eq command (codes "solve")) _ _ (λ w. w.one ≡ true → is_alone (command ∷ words) ≡ true)
     (λ is. weaken _ (λ w. w.one ≡ true → stands_before_dashes words ≡ true) (λ w. w.one ≡ true → is_alone (command ∷ words) ≡ true)
     (λ w h given. alone_of command words is (h given)) (wanted_stands words))
-    (λ is. tt)
+    (λ _. either (bytes_eq command (codes "replay")) _ None (λ w. w.one ≡ true → is_alone (command ∷ words) ≡ true)
+    (λ is. every (option_and_then replay_of (after_words nothing words)) (λ w. w.one ≡ true → is_alone (command ∷ words) ≡ true) (λ w given. replay_alone command words is))
+    (λ _. tt))
 
 request_alone : (words : List (List ℕ)) → IfSome (request_of words) (λ w. is_alone words ≡ true)
 request_alone words =

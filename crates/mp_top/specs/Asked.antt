@@ -1,4 +1,4 @@
--- What a request asks for: for each agent the names of its files, and the heuristic; and that it keeps the limits.
+-- What a request asks of a team: the names of its files, the heuristic and the limit; and that it keeps the limits.
 use Rattle.std.specs.Prelude.{ℕ, ◌≤◌, List, [], ◌∷◌, length, Option}
 use Rattle.mp_sets.specs.Numbers.{Numbers}
 use Rattle.mp_task.specs.AgentTask.{AgentTask}
@@ -19,6 +19,22 @@ agents_of (domain ∷ problem ∷ names) = record { domain = domain; problem = p
 abbrev pub values_of : Choice → AgentTask → Numbers → Numbers → Option ℕ
 values_of Blind = nothing_known
 values_of Max = hmax
+
+-- what is asked of a team: the file of the schedule that is replayed, none where the agents search; the heuristic; how many
+-- entries an agent may expand; and for each agent the names of its files
+pub record TeamRequest : Type 0 where
+  pub schedule : Option (List ℕ)
+  pub heuristic : Choice
+  pub limit : ℕ
+  pub agents : List Two
+
+abbrev pub team_request : Wanted → TeamRequest
+team_request w = record {
+  schedule = w.schedule;
+  heuristic = w.heuristic;
+  limit = w.limit;
+  agents = agents_of w.names;
+}
 
 -- A request keeps the limits of the program: an agent may expand 1 to 10,000,000 entries, and there are 1 to 16 agents.
 pub record KeepsLimits (w : Wanted) : Type 0 where

@@ -5,12 +5,12 @@ use Rattle.mp_joint.specs.Fact.{Text}
 use Rattle.mp_outside.specs.Sink.{AppendsBeginning}
 use Rattle.mp_world.specs.declared.answer.Answer.{Answer}
 use Rattle.mp_world.specs.declared.answer.Answer.TheVariants as answer
-use Rattle.mp_files.specs.Cause.{CannotRead, SeenSource}
+use Rattle.mp_files.specs.Cause.{SeenSource}
 use Rattle.mp_files.specs.declared.refusal.FileOf.{FileOf}
 use Rattle.mp_words.specs.Requests.{Wanted}
-use Rattle.mp_top.specs.Asked.{agents_of}
+use Rattle.mp_top.specs.Asked.{agents_of, team_request}
 use Rattle.mp_top.specs.Call.{Call, SeenSink, Says}
-use Rattle.mp_top.specs.Cause.{Rests}
+use Rattle.mp_top.specs.Cause.{CannotReadFactor, CannotReadSchedule, Rests}
 use Rattle.mp_top.specs.First.{IsFirst}
 use Rattle.mp_top.specs.Outcome.{IsOutcome}
 use Rattle.mp_top.specs.Refusal.{status_of, line_of, memory_line, words_line, write_line}
@@ -48,12 +48,16 @@ PrintsBeginning call request =
 abbrev pub PrintsNothing : Call → Type 0
 PrintsNothing call = (call.out.new ≡ call.out.old) × (call.report ≡ call.before)
 
+-- a schedule is replayed
+abbrev pub IsReplay : Wanted → Type 0
+IsReplay request = (name : Text) × (request.schedule ≡ Some name)
+
 -- what is printed about a request, by the status
 abbrev pub PrintsFor : Call → Wanted → Status → Type 0
 PrintsFor call request status.Solved = PrintsAnswer call request
 PrintsFor call request status.No = PrintsAnswer call request
 PrintsFor call request status.Undecided = PrintsAnswer call request
-PrintsFor call request status.Unfinished = PrintsAnswer call request
+PrintsFor call request status.Unfinished = IsReplay request × PrintsAnswer call request
 PrintsFor call request status.Write = PrintsBeginning call request
 PrintsFor call request status.Words = PrintsNothing call
 PrintsFor call request status.Read = PrintsNothing call
@@ -68,18 +72,24 @@ Prints call =
     MatchOption (request_of call.words) (PrintsNothing call)
     (λ request. PrintsFor call request call.status)
 
--- a status of an answer
-abbrev pub IsAnswerStatus : Status → Type 0
-IsAnswerStatus ended = (ended ≡ status.Solved) ⊎ (ended ≡ status.No) ⊎ (ended ≡ status.Undecided)
+-- a status of an answer, or that of a schedule that ended before there was one
+abbrev pub IsAnswerStatus : Wanted → Status → Type 0
+IsAnswerStatus request ended =
+    (ended ≡ status.Solved) ⊎ (ended ≡ status.No) ⊎ (ended ≡ status.Undecided)
+    ⊎ ((ended ≡ status.Unfinished) × IsReplay request)
 
--- The line that `err` is told about a request: nothing with an answer, the line of a failed write, or the line of a
--- refusal that has its cause, with its status.
+-- the line of a refusal, with the names that a request has
+abbrev pub line_for : Wanted → Refusal → Text
+line_for request r = line_of request.schedule (agents_of request.names) r
+
+-- The line that `err` is told about a request: nothing with an answer or where a schedule ended before there was one, the
+-- line of a failed write, or the line of a refusal that has its cause, with its status.
 abbrev pub IsLineFor : Call → Wanted → Text → Type 0
 IsLineFor call request line =
-    (IsAnswerStatus call.status × (line ≡ []))
+    (IsAnswerStatus request call.status × (line ≡ []))
     ⊎ ((call.status ≡ status.Write) × (line ≡ write_line))
-    ⊎ ((r : Refusal) × (call.status ≡ status_of r) × (line ≡ line_of (agents_of request.names) r)
-    × Rests call.source (agents_of request.names) r)
+    ⊎ ((r : Refusal) × (call.status ≡ status_of r) × (line ≡ line_for request r)
+    × Rests call.source (team_request request) r)
 
 -- the line about words that are not accepted, unless memory ran out before that was known
 abbrev pub IsLineForWords : Call → Text → Type 0
@@ -90,19 +100,20 @@ IsLineForWords call line =
 abbrev pub IsLine : Call → Text → Type 0
 IsLine call line = MatchOption (request_of call.words) (IsLineForWords call line) (λ request. IsLineFor call request line)
 
--- a file word of accepted words cannot be read
+-- a file word of accepted words cannot be read: that of the schedule, or one of an agent
 abbrev pub CannotReadFile : Call → Type 0
 CannotReadFile call =
-    (request : Wanted) × (at : FileOf) × (request_of call.words ≡ Some request)
-    × CannotRead call.source (agents_of request.names) at
+    (request : Wanted) × (request_of call.words ≡ Some request)
+    × (CannotReadSchedule call.source (team_request request)
+    ⊎ ((at : FileOf) × CannotReadFactor call.source (team_request request) at))
 
 -- The first refusal comes, but for faults of reading and want of memory: where what the files hold has one, the status
 -- is that of it, and so is the line.
 abbrev pub TellsFirst : Call → Wanted → Type 0
 TellsFirst call request =
-    IfSome call.source.held (λ files. (r : Refusal) → IsFirst files (agents_of request.names) r →
+    IfSome call.source.held (λ files. (r : Refusal) → IsFirst files (team_request request) r →
     (call.status ≡ status.Read) ⊎ (call.status ≡ status.Memory)
-    ⊎ ((call.status ≡ status_of r) × Says call.err (line_of (agents_of request.names) r)))
+    ⊎ ((call.status ≡ status_of r) × Says call.err (line_for request r)))
 
 -- The promises of a call, by name:
 -- words: only words that are not accepted are refused;

@@ -1,7 +1,9 @@
 -- which words are accepted
 pub mod Words
--- the names of the agents' files, and the heuristic
+-- what is asked of a team: the names of files, the heuristic and the limit
 pub mod Asked
+-- the file of the schedule
+pub mod Schedule
 -- statuses as numbers
 pub mod Status
 -- why a call ends without an outcome, and the line that says so

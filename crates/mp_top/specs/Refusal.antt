@@ -1,5 +1,5 @@
 -- Why a call ends without an outcome: its status, and the line that says so.
-use Rattle.std.specs.Prelude.{ℕ, List, [], ◌∷◌, ◌++◌, codes, decimal, slice_get}
+use Rattle.std.specs.Prelude.{ℕ, List, [], ◌∷◌, ◌++◌, codes, decimal, slice_get, Option, unwrap_or}
 use Rattle.std.specs.Option.{option_map_or}
 use Rattle.mp_joint.specs.Fact.{Text}
 use Rattle.mp_sexp.specs.declared.tree.Place.{Place}
@@ -13,7 +13,9 @@ use Rattle.mp_files.specs.declared.refusal.Refusal.TheVariants as files
 use Rattle.mp_ground.specs.declared.refusal.GroundRefusal.{GroundRefusal}
 use Rattle.mp_ground.specs.declared.refusal.GroundRefusal.TheVariants as sizes
 use Rattle.mp_top.specs.declared.refusal.Refusal.{Refusal}
-use Rattle.mp_top.specs.declared.refusal.Refusal.TheVariants.{Files, Sizes}
+use Rattle.mp_top.specs.declared.refusal.Refusal.TheVariants.{Files, Sizes, Schedule}
+use Rattle.mp_top.specs.declared.refusal.ScheduleRefusal.{ScheduleRefusal}
+use Rattle.mp_top.specs.declared.refusal.ScheduleRefusal.TheVariants as schedule
 use Rattle.mp_top.specs.declared.status.Status.{Status}
 use Rattle.mp_top.specs.declared.status.Status.TheVariants as status
 
@@ -29,9 +31,15 @@ status_of_sizes (sizes.TooManyActions agent number) = status.TooLarge
 status_of_sizes (sizes.TooManyFacts agent number) = status.TooLarge
 status_of_sizes sizes.OutOfMemory = status.Memory
 
+abbrev pub status_of_schedule : ScheduleRefusal → Status
+status_of_schedule schedule.Read = status.Read
+status_of_schedule schedule.TooLarge = status.TooLarge
+status_of_schedule (schedule.Line number) = status.Line
+
 abbrev pub status_of : Refusal → Status
 status_of (Files r) = status_of_files r
 status_of (Sizes r) = status_of_sizes r
+status_of (Schedule r) = status_of_schedule r
 
 -- the word of the command line that names a file
 abbrev pub name_of : List Two → FileOf → Text
@@ -82,6 +90,11 @@ fault_line name kind place =
 abbrev pub sizes_line : ℕ → Text → Text
 sizes_line agent what = codes "maplan: agent " ++ (decimal agent ++ (codes ": " ++ (what ++ 10 ∷ [])))
 
+-- `maplan: NAME: line N refused`
+abbrev pub refused_line : Text → ℕ → Text
+refused_line name number =
+    codes "maplan: " ++ (name ++ (codes ": line " ++ (decimal number ++ (codes " refused" ++ 10 ∷ []))))
+
 abbrev pub write_line : Text
 write_line = codes "maplan: cannot write" ++ 10 ∷ []
 
@@ -100,6 +113,14 @@ line_of_sizes (sizes.TooManyActions agent number) = sizes_line agent (codes "G2 
 line_of_sizes (sizes.TooManyFacts agent number) = sizes_line agent (codes "G1 facts")
 line_of_sizes sizes.OutOfMemory = memory_line
 
-abbrev pub line_of : List Two → Refusal → Text
-line_of agents (Files r) = line_of_files agents r
-line_of agents (Sizes r) = line_of_sizes r
+-- a refusal of the schedule in the file of this name
+abbrev pub line_of_schedule : Text → ScheduleRefusal → Text
+line_of_schedule name schedule.Read = read_line name
+line_of_schedule name schedule.TooLarge = too_large_line name
+line_of_schedule name (schedule.Line number) = refused_line name number
+
+-- a refusal, by the names of the files of the schedule and of the agents
+abbrev pub line_of : Option Text → List Two → Refusal → Text
+line_of name agents (Files r) = line_of_files agents r
+line_of name agents (Sizes r) = line_of_sizes r
+line_of name agents (Schedule r) = line_of_schedule (unwrap_or name []) r

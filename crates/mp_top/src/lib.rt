@@ -5,20 +5,23 @@ mod asked;
 mod command;
 mod decision;
 mod first;
+mod laws;
 mod on_files;
 mod on_one_thread;
 mod on_threads;
 mod refusal;
 mod report;
+mod schedule_file;
 mod status;
 
 pub use command::run_command;
 pub use first::one_first;
+pub use laws::{renaming_changes_no_outcome, traces_are_printed_again};
 pub use mp_words::alone;
 pub use on_files::run_on_files;
 pub use on_one_thread::run_alone;
 pub use on_threads::run;
-pub use refusal::Refusal;
+pub use refusal::{Refusal, ScheduleRefusal};
 pub use report::Report;
 pub use status::Status;
 

@@ -1,13 +1,13 @@
 //! The whole of the program on one thread.
 
-ghost use Rattle.std.specs.Prelude.{◌≡◌, ◌≤◌, ◌++◌, ◌∷◌, [], ℕ, List, Some, true, codes, length, map, string_bytes, if◌then◌else◌};
+ghost use Rattle.std.specs.Prelude.{◌≡◌, ◌≤◌, ℕ, List, Some, true, length, map, option_map, string_bytes};
 ghost use Rattle.mp_files.specs.Cause.{seen_source};
 ghost use Rattle.mp_files.specs.Fetched.{names_of};
 ghost use Rattle.mp_top.specs.Asked.{KeepsLimits, agents_of};
 ghost use Rattle.mp_top.specs.Call.{Call, seen_sink};
 ghost use Rattle.mp_top.specs.Decided.{search_of};
 ghost use Rattle.mp_top.specs.Keeps.{Keeps, answer_status};
-ghost use Rattle.mp_top.specs.Printed.{Publishes};
+ghost use Rattle.mp_top.specs.Printed.{Publishes, trace_end};
 ghost use Rattle.mp_top.specs.Report.{IsEmptyReport};
 ghost use Rattle.mp_top.specs.Words.{request_of};
 ghost use Rattle.mp_words.specs.Reads.{wanted_by};
@@ -38,11 +38,19 @@ fn status_of_answer(answer: Answer) -> Status
     }
 }
 
-/// The line between a trace and the outcome, where there is a trace.
-fn answer_line(trace: bool) -> &'static [u8]
-    ensures { result.now ≡ (if trace then codes "answer" ++ 10 ∷ [] else []) }
+/// The line behind a trace, where there is a trace.
+fn line_behind(trace: bool, answer: Answer) -> &'static [u8]
+    ensures { result.now ≡ trace_end trace answer }
 {
-    if trace { b"answer\n" } else { b"" }
+    if !trace {
+        return b"";
+    }
+    match answer {
+        Answer::Nothing => b"unfinished\n",
+        Answer::Solved { .. } => b"answer\n",
+        Answer::Unsolvable => b"answer\n",
+        Answer::Undecided => b"answer\n",
+    }
 }
 
 /// Keeps the decision in the report and writes its text, after that of the trace where this is asked for.
@@ -70,7 +78,11 @@ fn publish<K: Sink, E: Sink>(
     report.views = views;
     report.log = log;
     report.answer = answer;
-    let texts = [events.as_slice(), answer_line(trace), text.as_slice()];
+    let texts = [
+        events.as_slice(),
+        line_behind(trace, answer),
+        text.as_slice(),
+    ];
     if put_all(out, &texts).is_err() {
         tell_write(err);
         return Status::Write;
@@ -78,11 +90,12 @@ fn publish<K: Sink, E: Sink>(
     status_of_answer(answer)
 }
 
-/// Answers a request for the agents with these files: the outcome on `out` and in the report, or the line of a refusal on
+/// Answers a request for the agents with these files, and with the schedule in the file of this name where there is one: the outcome on `out` and in the report, or the line of a refusal on
 /// `err`.
 fn answer_files<S: Source, K: Sink, E: Sink>(
     alloc: Global,
     search: Search,
+    schedule: Option<&str>,
     files: &[AgentFiles<'_>],
     source: &mut S,
     out: &mut K,
@@ -94,6 +107,7 @@ fn answer_files<S: Source, K: Sink, E: Sink>(
     requires some { 1 ≤ length files.now }
     requires at_most { length files.now ≤ 16 }
     ensures { (ws : List (List ℕ)) (w : Wanted) → request_of ws ≡ Some w → search ≡ search_of w
+        → option_map (λ name. name.now) schedule.entry ≡ w.schedule
         → map names_of files.now ≡ agents_of w.names → Keeps (record {
           words = ws;
           source = seen_source S.held S.faults S.fault_at source.old source.new;
@@ -105,10 +119,10 @@ fn answer_files<S: Source, K: Sink, E: Sink>(
         }) }
 {
     one_first();
-    match decide(alloc, source, files, search) {
+    match decide(alloc, source, schedule, files, search) {
         Ok(decision) => publish(decision, search.trace, out, err, report),
         Err(refusal) => {
-            refusal.tell(files, err);
+            refusal.tell(schedule, files, err);
             refusal.status()
         }
     }
@@ -140,7 +154,16 @@ fn answer_request<S: Source, K: Sink, E: Sink>(
         trace: request.trace,
     };
     match files_of(alloc, request.names.as_slice()) {
-        Ok(files) => answer_files(alloc, search, files.as_slice(), source, out, err, report),
+        Ok(files) => answer_files(
+            alloc,
+            search,
+            request.schedule,
+            files.as_slice(),
+            source,
+            out,
+            err,
+            report,
+        ),
         Err(_) => {
             tell_memory(err);
             Status::Memory
@@ -149,7 +172,8 @@ fn answer_request<S: Source, K: Sink, E: Sink>(
 }
 
 /// Does all that the program does for words that need no second thread: reads the files of a team, lets its agents
-/// search, keeps what they found in the report and prints it, or tells `err` in one line why not. It always returns.
+/// search or do the events of a schedule, keeps what they found in the report and prints it, or tells `err` in one line
+/// why not. It always returns.
 ///
 /// The text is made as a whole before the first write, and the writing takes no memory.
 pub fn run_alone<S: Source, K: Sink, E: Sink>(

@@ -1,12 +1,13 @@
 //! Why a call ends without an outcome, and the line that says so.
 
-ghost use Rattle.std.specs.Prelude.{◌≡◌, ◌++◌, ◌∷◌, [], codes, decimal, map};
+ghost use Rattle.std.specs.Prelude.{◌≡◌, ◌++◌, ◌∷◌, [], codes, decimal, map, option_map, unwrap_or};
 ghost use Rattle.std.specs.List.{flat_map};
 ghost use Rattle.mp_files.specs.Fetched.{names_of};
 ghost use Rattle.mp_top.specs.Call.{seen_sink, Says};
-ghost use Rattle.mp_top.specs.Refusal.{status_of, status_of_files, status_of_sizes, line_of, line_of_files, line_of_sizes};
+ghost use Rattle.mp_top.specs.Refusal.{status_of, status_of_files, status_of_schedule, status_of_sizes};
+ghost use Rattle.mp_top.specs.Refusal.{line_of, line_of_files, line_of_schedule, line_of_sizes};
 ghost use Rattle.mp_top.specs.Refusal.{name_of as name_of_file, text_of_fault, word_of_fault};
-ghost use Rattle.mp_top.specs.Refusal.{words_line, memory_line, write_line, fault_line, sizes_line};
+ghost use Rattle.mp_top.specs.Refusal.{words_line, memory_line, write_line, fault_line, refused_line, sizes_line};
 
 use crate::status::Status;
 use itoa::Buffer;
@@ -18,6 +19,17 @@ use mp_outside::{Sink, put_all};
 use mp_sets::Agent;
 use mp_sexp::Place;
 
+/// Why the file of a schedule is refused.
+#[derive(Clone, Copy, Debug, PartialEq, Eq)]
+pub enum ScheduleRefusal {
+    /// The file is not held, or reading it failed.
+    Read,
+    /// The file has more than 67,108,864 bytes.
+    TooLarge,
+    /// The line of this number, from 1, is neither of an event nor of a message, or its event may not happen.
+    Line(u64),
+}
+
 /// Why a call of accepted words ends without an outcome, before anything is written.
 #[derive(Drop)]
 pub enum Refusal {
@@ -25,6 +37,8 @@ pub enum Refusal {
     Files(FilesRefusal),
     /// The factor of an agent is not grounded, since it is too large.
     Sizes(GroundRefusal),
+    /// The file of the schedule is refused.
+    Schedule(ScheduleRefusal),
 }
 
 impl From<OutOfMemory> for Refusal {
@@ -110,6 +124,17 @@ fn status_of_sizes_refused(refusal: &GroundRefusal) -> Status
     }
 }
 
+/// The status of a call whose schedule is refused.
+fn status_of_schedule_refused(refusal: ScheduleRefusal) -> Status
+    ensures { result ≡ status_of_schedule refusal }
+{
+    match refusal {
+        ScheduleRefusal::Read => Status::Read,
+        ScheduleRefusal::TooLarge => Status::TooLarge,
+        ScheduleRefusal::Line(_) => Status::Line,
+    }
+}
+
 /// Writes the line for files that are refused.
 fn tell_files<E: Sink>(files: &[AgentFiles<'_>], refusal: &FilesRefusal, err: &mut E)
     ensures { Says (seen_sink E.written E.faults err.old err.new) (line_of_files (map names_of files.now) refusal.now) }
@@ -163,6 +188,36 @@ fn tell_sizes<E: Sink>(refusal: &GroundRefusal, err: &mut E)
     }
 }
 
+/// Writes the line for a line of the schedule that is refused.
+fn tell_line<E: Sink>(err: &mut E, name: &[u8], number: u64)
+    ensures { Says (seen_sink E.written E.faults err.old err.new) (refused_line name.now number) }
+{
+    let mut digits = Buffer::new();
+    let digits = digits.format(number).as_bytes();
+    say(err, &[b"maplan: ", name, b": line ", digits, b" refused\n"])
+}
+
+/// Writes the line for the schedule of this name that is refused.
+fn tell_schedule<E: Sink>(name: &[u8], refusal: ScheduleRefusal, err: &mut E)
+    ensures { Says (seen_sink E.written E.faults err.old err.new) (line_of_schedule name.now refusal) }
+{
+    match refusal {
+        ScheduleRefusal::Read => say(err, &[b"maplan: cannot read ", name, b"\n"]),
+        ScheduleRefusal::TooLarge => say(err, &[b"maplan: ", name, b": too large\n"]),
+        ScheduleRefusal::Line(number) => tell_line(err, name, number),
+    }
+}
+
+/// The word of the command line that names the schedule; nothing where there is none.
+fn schedule_name(schedule: Option<&str>) -> &[u8]
+    ensures { result.now ≡ unwrap_or (option_map (λ name. name.now) schedule.entry) [] }
+{
+    match schedule {
+        Some(name) => name.as_bytes(),
+        None => b"",
+    }
+}
+
 impl Refusal {
     /// The status of a call that ends so.
     pub(crate) fn status(&self) -> Status
@@ -171,16 +226,24 @@ impl Refusal {
         match self {
             Refusal::Files(refusal) => status_of_files_refused(refusal),
             Refusal::Sizes(refusal) => status_of_sizes_refused(refusal),
+            Refusal::Schedule(refusal) => status_of_schedule_refused(*refusal),
         }
     }
 
     /// Writes the line that says so, without taking memory. A fault of the sink changes nothing else.
-    pub(crate) fn tell<E: Sink>(&self, files: &[AgentFiles<'_>], err: &mut E)
-        ensures { Says (seen_sink E.written E.faults err.old err.new) (line_of (map names_of files.now) self.now) }
+    pub(crate) fn tell<E: Sink>(
+        &self,
+        schedule: Option<&str>,
+        files: &[AgentFiles<'_>],
+        err: &mut E,
+    )
+        ensures { Says (seen_sink E.written E.faults err.old err.new)
+            (line_of (option_map (λ name. name.now) schedule.entry) (map names_of files.now) self.now) }
     {
         match self {
             Refusal::Files(refusal) => tell_files(files, refusal, err),
             Refusal::Sizes(refusal) => tell_sizes(refusal, err),
+            Refusal::Schedule(refusal) => tell_schedule(schedule_name(schedule), *refusal, err),
         }
     }
 }

@@ -9,7 +9,7 @@ use mp_outside::{MemSink, MemSource, NamedText};
 use std::alloc::Global;
 use std::test::Fail;
 
-const FILES: [(&str, &[u8]); 6] = [
+const FILES: [(&str, &[u8]); 9] = [
     (
         "lamp-d",
         b"(define (domain lamp) (:predicates (on)) (:action press :parameters () :precondition () :effect (on)))",
@@ -31,6 +31,9 @@ const FILES: [(&str, &[u8]); 6] = [
         "tidy-p",
         b"(define (problem q) (:domain t) (:init) (:goal (done)))",
     ),
+    ("whole-s", b"expand 1\nstart\n"),
+    ("short-s", b"expand 1\n"),
+    ("twice-s", b"expand 1\nexpand 1\n"),
 ];
 
 const LAMP: [&str; 6] = ["solve", "--one", "--h", "blind", "lamp-d", "lamp-p"];
@@ -51,6 +54,14 @@ const FAULTY: [&str; 4] = ["solve", "--one", "or-d", "lamp-p"];
 
 const NO_LIMIT: [&str; 6] = ["solve", "--one", "--limit", "0", "lamp-d", "lamp-p"];
 
+const WHOLE: [&str; 6] = ["replay", "--h", "blind", "whole-s", "lamp-d", "lamp-p"];
+
+const SHORT: [&str; 6] = ["replay", "--h", "blind", "short-s", "lamp-d", "lamp-p"];
+
+const TWICE: [&str; 6] = ["replay", "--h", "blind", "twice-s", "lamp-d", "lamp-p"];
+
+const NO_SCHEDULE: [&str; 4] = ["replay", "gone", "or-d", "none"];
+
 /// The outcome of the lamp.
 const PRESSED: &[u8] = b"cost 1\nlength 1\nagent 1\n1: (press)\nevents 2 messages 0 bytes 0\n";
 
@@ -61,6 +72,9 @@ const TRACED: &[u8] =
 /// The outcome of two agents that tidy.
 const TIDIED: &[u8] =
     b"cost 2\nlength 2\nagent 1\n2: (tidy)\nagent 2\n1: (tidy)\nevents 18 messages 10 bytes 214\n";
+
+/// A schedule that ends before there is an answer.
+const UNFINISHED: &[u8] = b"expand 1\nunfinished\n";
 
 const UNSOLVABLE: &[u8] = b"unsolvable\nevents 2 messages 0 bytes 0\n";
 
@@ -80,7 +94,7 @@ type Trial = (
     &'static [u8],
 );
 
-const TRIALS: [Trial; 13] = [
+const TRIALS: [Trial; 18] = [
     (&[], [0, 0, 0], 3, 0, b"", NO_WORDS),
     (&NO_LIMIT, [0, 0, 0], 3, 0, b"", NO_WORDS),
     (&LAMP, [0, 0, 0], 0, 2, PRESSED, b""),
@@ -101,6 +115,32 @@ const TRIALS: [Trial; 13] = [
     (&LAMP, [0, 1, 0], 7, 2, b"", NO_WRITE),
     (&LAMP, [0, 2, 0], 7, 2, b"cost 1\nl", NO_WRITE),
     (&[], [0, 0, 2], 3, 0, b"", b"mapla"),
+    (&WHOLE, [0, 0, 0], 0, 2, TRACED, b""),
+    (&SHORT, [0, 0, 0], 10, 1, UNFINISHED, b""),
+    (
+        &TWICE,
+        [0, 0, 0],
+        9,
+        0,
+        b"",
+        b"maplan: twice-s: line 2 refused\n",
+    ),
+    (
+        &NO_SCHEDULE,
+        [0, 0, 0],
+        4,
+        0,
+        b"",
+        b"maplan: cannot read gone\n",
+    ),
+    (
+        &WHOLE,
+        [4, 0, 0],
+        4,
+        0,
+        b"",
+        b"maplan: cannot read lamp-d\n",
+    ),
 ];
 
 fn source(alloc: Global, failing: u64) -> Result<MemSource, Fail> {
@@ -158,6 +198,8 @@ fn comes_out(alloc: Global, trial: &Trial) -> Result<bool, Fail> {
 #[test]
 fn calls(rt: HostRuntime) -> Result<(), Fail> {
     one_first();
+    traces_are_printed_again();
+    renaming_changes_no_outcome();
     for (row, trial) in TRIALS.iter().enumerate() {
         assert!(rt; comes_out(rt.alloc(), trial)?, "row {row}");
     }

@@ -1,5 +1,5 @@
 -- What the program keeps while it reads words, as what is asked for.
-use Rattle.std.specs.Prelude.{Bool, Option, Some, None, map, if◌then◌else◌}
+use Rattle.std.specs.Prelude.{Bool, Option, Some, None, map, option_map, if◌then◌else◌}
 use Rattle.mp_words.specs.declared.asked.Request.{Request}
 use Rattle.mp_words.specs.declared.read.Read.{Read}
 use Rattle.mp_words.specs.Asked.{Asked}
@@ -19,6 +19,7 @@ asked_by r = record {
 
 abbrev pub wanted_by : Request → Wanted
 wanted_by r = record {
+  schedule = option_map (λ name. name.now) r.schedule;
   limit = r.limit;
   heuristic = r.heuristic;
   workers = r.workers;

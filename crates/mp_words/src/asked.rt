@@ -17,19 +17,21 @@ pub(crate) enum Valued {
     Workers,
 }
 
-/// What accepted words ask for: a plan for the agents of these files.
+/// What accepted words ask for: a plan for the agents of these files, or what their agents do by a schedule.
 #[derive(Drop)]
 pub struct Request<'a> {
+    /// The name of the file with the schedule that is replayed: none where the agents search.
+    pub schedule: Option<&'a str>,
     /// How many entries an agent may expand: 1 to 10,000,000.
     pub limit: u64,
     /// The heuristic of all agents.
     pub heuristic: Choice,
     /// How many workers there are: 1 to 16, where that is said.
     pub workers: Option<u64>,
-    /// Whether all is done on one thread.
+    /// Whether all is done on one thread, as a replay always is.
     pub one: bool,
-    /// Whether each event is printed.
+    /// Whether each event is printed, as those of a replay always are.
     pub trace: bool,
-    /// The names of the files, an agent's domain and then its problem.
+    /// The names of the agents' files, an agent's domain and then its problem.
     pub names: Vec<&'a str>,
 }

@@ -6,6 +6,7 @@ use Rattle.mp_world.specs.Answers.{outcome_of}
 use Rattle.mp_outcome.specs.Names.{names_of}
 use Rattle.mp_solutions.specs.declared.solution.Solution.{Solution}
 use Rattle.mp_solve.specs.Ended.{HasEnded}
+use Rattle.mp_solve.proofs.Ends.{of_itself}
 use Rattle.mp_solve.proofs.Solutions.{AnswersAreRight, if_solution}
 use Rattle.mp_solve.proofs.solving.solved.Goals as goal
 
@@ -19,6 +20,14 @@ ended-requires g c =
       agree = subst Agree (sym c.as_slice.ensures) stands.2.agree;
       some = subst (λ n. 1 ≤ n) (sym size) c.requires.some;
       at_most = subst (λ n. n ≤ 16) (sym size) c.requires.at_most;
+    }
+
+pub told-requires : goal.told-requires
+told-requires g c =
+    let r = c.in_ok-world.world in
+    record {
+      team = c.requires.at_most;
+      done = of_itself g.H.Heuristic.value c.args.limit c.as_slice.result.now r.schedule r c.in_ok-world.ensures.done;
     }
 
 pub returns : goal.returns

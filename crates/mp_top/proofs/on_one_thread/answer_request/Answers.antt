@@ -11,7 +11,7 @@ returns-in-Ok g c ws asks =
     let names : map names_of c.as_slice-in-Ok.result.now ≡ agents_of w.names =
     ap (map names_of) c.as_slice-in-Ok.ensures.value ∙ c.in-Ok.ensures
     ∙ ap (λ ns. agents_of (map (λ name. name.now) ns)) c.as_slice.ensures.value in
-    c.answer_files.ensures ws w asks refl names
+    c.answer_files.ensures ws w asks refl refl names
 
 pub returns-in-Err : goal.returns-in-Err
 returns-in-Err g c ws asks = kept_memory _ refl refl (record { out = refl; no_fault = refl; report = refl }) c.tell_memory.ensures

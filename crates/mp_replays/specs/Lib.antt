@@ -1,0 +1,4 @@
+-- texts of schedules that a trace begins
+pub mod Traces
+-- what renaming leaves as it is
+pub mod Renamed

@@ -1,0 +1,86 @@
+//! The laws. Each is the contract of a function that does nothing.
+
+ghost use Rattle.std.specs.Prelude.{◌≡◌, ◌≤◌, ℕ, List, All, Option, length};
+ghost use Rattle.mp_factor.specs.declared.factor.Factor.{Factor};
+ghost use Rattle.mp_grounder.specs.Checked.{IsChecked};
+ghost use Rattle.mp_joint.specs.Fact.{Text};
+ghost use Rattle.mp_messages.specs.declared.history.Event.{Event};
+ghost use Rattle.mp_sets.specs.Numbers.{Numbers};
+ghost use Rattle.mp_solutions.specs.Solution.{IsFound, IsRefusedLine, IsReplayed};
+ghost use Rattle.mp_solutions.specs.declared.solution.Solution.{Solution};
+ghost use Rattle.mp_split.specs.Team.{AreTasksOf};
+ghost use Rattle.mp_split.specs.declared.team.Tasks.{Tasks};
+ghost use Rattle.mp_task.specs.AgentTask.{AgentTask};
+ghost use Rattle.mp_world.specs.Logs.{IsLog};
+ghost use Rattle.mp_renaming.specs.Renaming.{Renaming};
+ghost use Rattle.mp_renaming.specs.Team.{IsRenamedTeam};
+ghost use Rattle.mp_replays.specs.Renamed.{KeepsTasks};
+ghost use Rattle.mp_replays.specs.Traces.{IsTraceOf};
+
+use mp_renaming::laws::renaming_changes_no_task;
+
+/// What renaming leaves as it is, in one record.
+fn renaming_keeps_tasks()
+    ensures { KeepsTasks }
+{
+    renaming_changes_no_task();
+}
+
+/// The files of a team have one list of tasks.
+pub fn tasks_are_one()
+    ensures { (team : List Factor) (t u : Tasks) → All IsChecked team → AreTasksOf team t → AreTasksOf team u
+        → u.tasks ≡ t.tasks }
+{
+    renaming_keeps_tasks();
+}
+
+/// A schedule's text has at most one refused line, and none where it is replayed.
+pub fn refused_lines_are_one()
+    ensures one { (value : AgentTask → Numbers → Numbers → Option ℕ) (limit : ℕ) (team : List Factor) (text : Text)
+        (m n : ℕ) → All IsChecked team
+        → IsRefusedLine value limit team text m → IsRefusedLine value limit team text n → m ≡ n }
+    ensures none { (value : AgentTask → Numbers → Numbers → Option ℕ) (limit : ℕ) (team : List Factor) (text : Text)
+        (found : Solution) (n : ℕ) → All IsChecked team
+        → IsReplayed value limit team text found → IsRefusedLine value limit team text n → ⊥ }
+{
+    renaming_keeps_tasks();
+}
+
+/// Where a team found something by some schedule, the text of its trace is a schedule that is not refused, and what is
+/// found by it is the same: log, answer, text and views.
+pub fn traces_are_replayed()
+    ensures accepted { (value : AgentTask → Numbers → Numbers → Option ℕ) (limit : ℕ) (team : List Factor)
+        (schedule : List Event) (found : Solution) (text : Text) (n : ℕ)
+        → All IsChecked team → length team ≤ 16
+        → IsFound value limit team schedule found → IsTraceOf found.log text
+        → IsRefusedLine value limit team text n → ⊥ }
+    ensures same { (value : AgentTask → Numbers → Numbers → Option ℕ) (limit : ℕ) (team : List Factor)
+        (schedule : List Event) (found again : Solution) (text : Text)
+        → All IsChecked team → length team ≤ 16
+        → IsFound value limit team schedule found → IsTraceOf found.log text
+        → IsReplayed value limit team text again
+        → (again.log ≡ found.log) × (again.answer ≡ found.answer) × (again.text ≡ found.text)
+        × (again.views ≡ found.views) }
+{
+    renaming_keeps_tasks();
+}
+
+/// Where one agent of a team renames its private names, all agents show the same bytes; what is a log of the one team
+/// is a log of the other; and by one schedule the same messages are sent, byte for byte, and the same answer is found.
+pub fn renaming_changes_no_message()
+    ensures views { (value : AgentTask → Numbers → Numbers → Option ℕ) (limit place : ℕ) (r : Renaming)
+        (team other : List Factor) (schedule : List Event) (found : Solution) (u : Tasks)
+        → All IsChecked team → All IsChecked other → IsRenamedTeam place r team other
+        → IsFound value limit team schedule found → AreTasksOf other u → u.views ≡ found.views }
+    ensures logs { (value : AgentTask → Numbers → Numbers → Option ℕ) (limit place : ℕ) (r : Renaming)
+        (team other : List Factor) (schedule : List Event) (found : Solution) (u : Tasks)
+        → All IsChecked team → All IsChecked other → IsRenamedTeam place r team other
+        → IsFound value limit team schedule found → AreTasksOf other u → IsLog value limit u.tasks found.log }
+    ensures messages { (value : AgentTask → Numbers → Numbers → Option ℕ) (limit place : ℕ) (r : Renaming)
+        (team other : List Factor) (schedule : List Event) (found its : Solution)
+        → All IsChecked team → All IsChecked other → IsRenamedTeam place r team other
+        → IsFound value limit team schedule found → IsFound value limit other schedule its
+        → (its.log ≡ found.log) × (its.answer ≡ found.answer) }
+{
+    renaming_keeps_tasks();
+}
