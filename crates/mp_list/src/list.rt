@@ -76,6 +76,13 @@ impl<T> List<T> {
         self.items.as_slice()
     }
 
+    /// The items themselves, for whoever has no more use for the list.
+    pub fn into_items(self) -> Vec<T>
+        ensures { result.items ≡ self }
+    {
+        self.items
+    }
+
     /// The items one by one, first one first.
     pub fn iter(&self) -> slice::Iter<'_, T>
         ensures items { iter_rest result ≡ self.now }
@@ -83,6 +90,17 @@ impl<T> List<T> {
         ensures in_order { EveryRun (iter_steps {A = T}) (λ p. ItemsMapTo p (λ item. item.now) (iter_rest p.from)) }
     {
         self.items.as_slice().iter()
+    }
+}
+
+impl List<u8> {
+    /// Adds bytes at the end, in their order. For want of memory the list stays as it was.
+    pub fn extend_from_slice(&mut self, bytes: &[u8]) -> Result<(), OutOfMemory>
+        ensures ok { OnOk result (self.new ≡ self.old ++ bytes.now) }
+        ensures err { OnErr result (self.new ≡ self.old) }
+    {
+        self.items.extend_from_slice(bytes)?;
+        Ok(())
     }
 }
 
