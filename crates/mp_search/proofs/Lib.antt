@@ -2,6 +2,8 @@
 pub mod KeyedStates
 -- offers of keys, and of their states
 pub mod OfferedStates
+-- states that are known at a cost
+pub mod KnownStates
 -- the private sets in the states that were sent
 pub mod SentSets
 -- steps of an expansion, one after another

@@ -18,8 +18,7 @@ use Rattle.mp_search.specs.declared.states.Shown.{Shown}
 use Rattle.mp_search.specs.AgentState.{AgentState, applies, same_state, successor, with_tag}
 use Rattle.mp_search.specs.Concern.{one_if, receivers}
 use Rattle.mp_search.specs.Expansion.{Parent, with_action, with_successor}
-use Rattle.mp_search.specs.Offering.{offered_at}
-use Rattle.mp_search.specs.declared.answer.Received.{Received}
+use Rattle.mp_search.specs.Offering.{offered_at, own_value}
 use Rattle.mp_search.specs.declared.reached.Reached.{Reached}
 use Rattle.mp_store.specs.declared.entry.Origin.TheVariants.{Own}
 use Rattle.mp_task.specs.declared.act.Act.{Act}
@@ -142,18 +141,14 @@ none_best t s out k of = nothing_sent t out k of
 -- ---- a state that an own action led to
 
 module _ (t : AgentTask) (value : Numbers → Numbers → Option ℕ) (p : Parent) (number : ℕ) (act : Act) where
-  pub successor_sent : (s reached : AgentState) (found : Option ℕ) (answer : Received) (old mid new : KeptStates) (out after : List Sending)
-      → reached ≡ s → found ≡ value s.publics s.mine
-      → (answer, mid.kept) ≡ offered_at t s (p.g + act.cost) found (Own number p.number) old.kept
+  pub successor_sent : (s reached : AgentState) (old mid new : KeptStates) (out after : List Sending)
+      → reached ≡ s
+      → mid.kept ≡ (offered_at t s (p.g + act.cost) (own_value t value s) (Own number p.number) old.kept).1
       → length old.kept.entries ≤ length mid.kept.entries
       → HaveSent t (sent_if_due t act p.state reached mid.kept) out after mid new
       → HaveSent t (with_successor t value p number act s old.kept) out after old new
   unfolding with_successor
-  successor_sent s reached found answer old mid new out after same found_is offered more sent =
-      let kept_is : mid.kept ≡ (offered_at t s (p.g + act.cost) (value s.publics s.mine) (Own number p.number) old.kept).1 =
-      ap (λ (x : Received × Record AgentState). x.1) offered
-      ∙ ap (λ (f : Option ℕ). (offered_at t s (p.g + act.cost) f (Own number p.number) old.kept).1) found_is
-      in
+  successor_sent s reached old mid new out after same kept_is more sent =
       subst (λ (r : Record AgentState). HaveSent t (sent_if_due t act p.state s r) out after old new) kept_is
       (subst (λ (x : AgentState). HaveSent t (sent_if_due t act p.state x mid.kept) out after old new) same
       (later_sent t (sent_if_due t act p.state reached mid.kept) out after old mid new more sent))

@@ -1,12 +1,14 @@
 //! How an entry is expanded.
 
-ghost use Rattle.std.specs.Prelude.{◌≡◌, ◌<◌, ◌+◌, ◌^◌, ℕ, true, Some, IfOk, OnOk, IsSomeAnd, length, slice_get};
+ghost use Rattle.std.specs.Prelude.{◌≡◌, ◌<◌, ◌≤◌, ◌+◌, ◌^◌, ℕ, true, Some, IfOk, OnOk, IsSomeAnd, length, slice_get};
 ghost use Rattle.mp_task.specs.Limits.{ActFits};
 ghost use Rattle.mp_applicable.specs.Far.{IsFarIndexOf};
 ghost use Rattle.mp_applicable.specs.Index.{IsIndexOf};
+ghost use Rattle.mp_store.specs.Laws.{IsEarlier};
 ghost use Rattle.mp_search.specs.AgentState.{applies};
 ghost use Rattle.mp_search.specs.Applying.{is_applicable_in, AreFound, HasApplied, HasRoom};
 ghost use Rattle.mp_search.specs.Expansion.{expanded, with_action, with_actions};
+ghost use Rattle.mp_search.specs.Offering.{offered_at, own_value};
 ghost use Rattle.mp_search.specs.Search.{is_open_below};
 ghost use Rattle.mp_search.specs.StateKeys.{reached_state, HasSizes};
 ghost use Rattle.mp_search.specs.Steps.{parent_of, AreStatesOf, HaveSent, IsExpanding};
@@ -122,6 +124,36 @@ fn action(task: &Task, number: u32) -> &Act
     &task.acts.as_slice()[number as usize]
 }
 
+/// Offers a state that an own action led to, at a cost. The heuristic is asked only where no entry of the state costs as
+/// much or less: elsewhere the keep rule refuses the state, whatever the estimate.
+fn offer_new<H: Heuristic>(
+    task: &Task,
+    heuristic: &mut H,
+    states: &mut States,
+    reached: &mut Reached,
+    g: u64,
+    origin: Origin,
+) -> Result<(), OutOfMemory>
+    requires heuristic { H.is_for heuristic.old task.now }
+    requires states { AreStatesOf task.now states.old }
+    requires sizes { HasSizes task.now.publics task.now.privates reached.old }
+    requires parent { IsEarlier (length states.old.kept.entries) origin }
+    ensures kept { OnOk result (states.new.kept ≡ (offered_at task.now (reached_state reached.old) g
+        (own_value task.now (H.value task.now) (reached_state reached.old)) origin states.old.kept).1) }
+    ensures longer { OnOk result (length states.old.kept.entries ≤ length states.new.kept.entries) }
+    ensures states { OnOk result (AreStatesOf task.now states.new) }
+    ensures heuristic { H.is_for heuristic.new task.now }
+    ensures state { reached_state reached.new ≡ reached_state reached.old }
+    ensures sizes { HasSizes task.now.publics task.now.privates reached.new }
+{
+    if states.is_known(reached, g) {
+        return Ok(());
+    }
+    let value = heuristic.value(&reached.key.publics, &reached.mine)?;
+    offer_at(task, states, reached, g, value, origin)?;
+    Ok(())
+}
+
 /// Applies an own action that may be applied: the state that it leads to is offered, and sent where that is due.
 fn add_action<H: Heuristic>(
     alloc: Global,
@@ -152,12 +184,12 @@ fn add_action<H: Heuristic>(
 {
     keeps_limits(task, number, act);
     reached.follow(&parent.state, act);
-    let value = heuristic.value(&reached.key.publics, &reached.mine)?;
+    let g = parent.g + act.cost;
     let origin = Origin::Own {
         action: number,
         parent: parent.number,
     };
-    offer_at(task, states, reached, parent.g + act.cost, value, origin)?;
+    offer_new(task, heuristic, states, reached, g, origin)?;
     let is_public = task.is_public(number);
     send_if_due(
         alloc,

@@ -3,7 +3,7 @@
 ghost use Rattle.std.specs.Prelude.{◌↔◌, IsNone, ◌≡◌, ◌+◌, ◌<◌, ◌≤◌, ◌^◌, ◌∷◌, [], IfOk, OnOk, IsSomeAnd, IfSome, Some, OnErr, length, slice_get};
 ghost use Rattle.mp_store.specs.Laws.{IsEarlier};
 ghost use Rattle.mp_store.specs.Minima.{best, least_goal, least_f, popped};
-ghost use Rattle.mp_store.specs.Record.{empty, f, new_entry, offered};
+ghost use Rattle.mp_store.specs.Record.{empty, f, is_known, new_entry, offered};
 ghost use Rattle.mp_store.specs.Sent.{mark_sent, sent_entry};
 ghost use Rattle.mp_tokens.specs.Order.{with_set, place, set_at};
 ghost use Rattle.mp_search.specs.AgentState.{same_state};
@@ -112,6 +112,19 @@ impl States {
         };
         state.key.mine = index;
         self.store.best(&state.key)
+    }
+
+    /// Whether an entry of a state costs g or less. Writes the index of the own set into the key.
+    pub(crate) fn is_known(&self, state: &mut Reached, g: u64) -> bool
+        requires { HasSizes self.now.publics self.now.privates state.old }
+        ensures known { result ≡ is_known same_state (reached_state state.old) g self.now.kept.entries }
+        ensures state { reached_state state.new ≡ reached_state state.old }
+        ensures sizes { HasSizes self.now.publics self.now.privates state.new }
+    {
+        match self.best(state) {
+            Some(number) => self.entry(number).g <= g,
+            None => false,
+        }
     }
 
     /// Offers a state: it is worse exactly where an entry of it costs g or less. Writes the index of the own set into

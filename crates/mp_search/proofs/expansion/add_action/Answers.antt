@@ -18,6 +18,6 @@ returns-clause-sent g c =
     (subst (λ (s : AgentState). HaveSent t (with_successor t value p c.args.number c.args.act.now s c.args.states.now.kept) c.args.out.now c.send_if_due.new.out c.args.states.now c.send_if_due.new.states)
     c.follow.ensures.state
     (successor_sent t value p c.args.number c.args.act.now
-    (reached_state c.follow.new.self) (reached_state c.offer_at.new.state) c.in_ok-value.value c.in_ok-offer_at.field-0
-    c.args.states.now c.offer_at.new.states c.send_if_due.new.states c.args.out.now c.send_if_due.new.out
-    c.in_ok-offer_at.ensures.state (c.in_ok-value.ensures.value c.args.task.now c.requires.heuristic) c.in_ok-offer_at.ensures.offered c.in_ok-offer_at.ensures.longer sent)))
+    (reached_state c.follow.new.self) (reached_state c.offer_new.new.reached)
+    c.args.states.now c.offer_new.new.states c.send_if_due.new.states c.args.out.now c.send_if_due.new.out
+    c.offer_new.ensures.state c.in_ok-offer_new.ensures.kept c.in_ok-offer_new.ensures.longer sent)))
