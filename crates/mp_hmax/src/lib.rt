@@ -10,6 +10,3 @@ mod users;
 
 pub use hmax::Hmax;
 pub use laws::values_are_the_greatest;
-
-#[cfg(test)]
-mod tests;

@@ -13,6 +13,3 @@ pub use laws::traces_are_read_again;
 pub use outcome::outcome_text;
 pub use schedule::{EventLine, EventLines, LineRefusal, read_schedule};
 pub use trace::trace_text;
-
-#[cfg(test)]
-mod tests;

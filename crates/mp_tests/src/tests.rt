@@ -1,0 +1,6 @@
+//! What the crates below answer on small teams, by hand.
+
+mod estimates;
+mod searches;
+mod teams;
+mod texts;
