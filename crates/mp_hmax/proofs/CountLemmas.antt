@@ -88,7 +88,7 @@ lowered_one old k value within is = λ j. ⊎_elim
     omega arith)
     (cases_eq j k)
 
-times_more : (k : ℕ) (users : List ℕ) (i : ℕ) → i < length users → times k (take (i + 1) users) ≡ times k (take i users) + times k (get_or users i 0 ∷ [])
+pub times_more : (k : ℕ) (users : List ℕ) (i : ℕ) → i < length users → times k (take (i + 1) users) ≡ times k (take i users) + times k (get_or users i 0 ∷ [])
 times_more k users i within =
     ap (times k) (take_more users i 0 within) ∙ times-append k (take i users) (get_or users i 0 ∷ [])
 
@@ -128,7 +128,7 @@ counts_stale os numbers queue rest counts cost x popped stale count = λ k withi
     (λ y is_open. open_popped numbers queue rest cost x y popped (λ e f. stale (sym (ap (number_at numbers) e) ∙ f)) is_open)
     (count k within)
 
-module _ (os : List Operator) (numbers : List ℕ) (queue rest : List Key) (counts users new : List ℕ) (after : List Key) (fewer : List ℕ) (cost x : ℕ) (popped : IsPermutation queue (key cost x ∷ rest)) (fallen : HaveFallen numbers rest new after) (lowered : AreLowered counts users fewer) (has : (k : ℕ) → k < length os → times x (operator_at os k).pre ≤ times k users) where
+module _ (os : List Operator) (numbers : List ℕ) (queue rest : List Key) (counts users new : List ℕ) (after : List Key) (fewer : List ℕ) (cost x : ℕ) (popped : IsPermutation queue (key cost x ∷ rest)) (fallen : HaveFallen numbers rest new after) (lowered : AreLowered counts users fewer) (has : (k : ℕ) → k < length os → times x (operator_at os k).pre ≡ times k users) where
   -- a fact has been settled, and its users have been counted down
   pub counts_settled : CountOpen os numbers queue counts → CountOpen os new after fewer
   counts_settled count = λ k within.

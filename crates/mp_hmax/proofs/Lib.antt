@@ -1,10 +1,14 @@
--- rows, users and operators in arrays; the projected problem; numbers and the queue; counts of open preconditions; what is
--- found
+-- rows, users and operators in arrays; the projected problem; entries of the queue, numbers and the queue; counts of open
+-- preconditions, and of those that are not settled; what is found
 pub mod RowLemmas
 pub mod TimesLemmas
 pub mod UserLemmas
 pub mod ZippedLemmas
 pub mod ProjectedLemmas
+pub mod PlaceLemmas
+pub mod QueueLemmas
+pub mod ProperLemmas
 pub mod SearchLemmas
 pub mod CountLemmas
+pub mod SettledLemmas
 pub mod Found

@@ -5,19 +5,20 @@ use Rattle.std.proofs.lemmas.Bool.{cases_eq, lt-ltb, le-ltb, cases_lt}
 use Rattle.std.proofs.lemmas.List.{length-set}
 use Rattle.std.proofs.lemmas.List.Elements.{All-cons, All-head, All-tail, Contains-append_right, Contains-append_left, Contains-append_cases}
 use Rattle.std.proofs.lemmas.List.Sums.{sum_by-set}
-use Rattle.std.proofs.lemmas.List.Sorted.{All-permutation, Contains-permutation, length_permutation}
+use Rattle.std.proofs.lemmas.List.Sorted.{All-permutation, Contains-permutation, IsPermutation-sym, length_permutation, sum_by_pushed}
 use Rattle.std.specs.List.Sorted.{IsPermutation}
 use Rattle.mp_task.specs.Strips.{Operator}
 use Rattle.mp_hmax.specs.Estimates.{AtMost, greater}
 use Rattle.mp_hmax.specs.Hmax.{Values, greatest, cost_by, adds}
 use Rattle.mp_hmax.specs.Relaxed.{operator_at}
-use Rattle.mp_hmax.specs.Search.{unknown, known, number_at, value_at, Key, key, Waits, HaveFallen, capped, IsServed, AreLow, AreBelow}
+use Rattle.mp_hmax.specs.Search.{unknown, known, number_at, value_at, Key, key, Waits, HaveFallen, HaveStayed, IsProper, entries, capped, IsServed, AreLow, AreBelow}
+use Rattle.mp_hmax.proofs.ProperLemmas.{mark_of, mark_same, mark_other_fact, entries_none}
 use Rattle.mp_hmax.specs.Laws.Equations.{cost_by-mono}
 use Rattle.mp_hmax.specs.Laws.Order.{AtMost-refl, AtMost-trans}
 
 -- the greatest value of a list, its first value after another
 
-greater-assoc : (a b c : Option ℕ) → greater (greater a b) c ≡ greater a (greater b c)
+pub greater-assoc : (a b c : Option ℕ) → greater (greater a b) c ≡ greater a (greater b c)
 greater-assoc None b c = refl
 greater-assoc (Some l) None c = refl
 greater-assoc (Some l) (Some m) None = refl
@@ -70,6 +71,7 @@ fallen_refl numbers queue = record {
   quiet = λ x h. (refl, h);
   inside = λ h. h;
   lighter = omega arith;
+  proper = λ h. h;
 }
 
 pub fallen_trans : (a : List ℕ) (p : List Key) (b : List ℕ) (q : List Key) (c : List ℕ) (r : List Key) → HaveFallen a p b q → HaveFallen b q c r → HaveFallen a p c r
@@ -81,10 +83,33 @@ fallen_trans a p b q c r h k = record {
       let one = h.quiet x two.1 in
       (two.0 ∙ one.0, one.1);
   inside = λ all.
-      subst (λ n. All (λ (e : Key). e.0.1 < n) r) h.as_many
-      (k.inside (subst (λ n. All (λ (e : Key). e.0.1 < n) q) (sym h.as_many) (h.inside all)));
+      subst (λ n. All (λ (e : Key). e.1 < n) r) h.as_many
+      (k.inside (subst (λ n. All (λ (e : Key). e.1 < n) q) (sym h.as_many) (h.inside all)));
   lighter = let one = h.lighter in let two = k.lighter in omega arith;
+  proper = λ all. k.proper (h.proper all);
 }
+
+-- numbers that stay
+
+pub stayed_refl : (n : ℕ) (numbers : List ℕ) (queue : List Key) → HaveStayed n numbers queue numbers queue
+stayed_refl n numbers queue = record {
+  same = λ x low. refl;
+  calm = λ x low h. h;
+  above = λ h. h;
+}
+
+pub stayed_trans : (n : ℕ) (a : List ℕ) (p : List Key) (b : List ℕ) (q : List Key) (c : List ℕ) (r : List Key) → HaveStayed n a p b q → HaveStayed n b q c r → HaveStayed n a p c r
+stayed_trans n a p b q c r h k = record {
+  same = λ x low.
+      let one = h.same x low in
+      k.same x (omega arith) ∙ one;
+  calm = λ x low still.
+      let one = h.same x low in
+      k.calm x (omega arith) (h.calm x low still);
+  above = λ all. k.above (h.above all);
+}
+
+-- a number has been lowered, and its fact waits
 
 module _ (numbers : List ℕ) (queue after : List Key) (x cost : ℕ) (within : x < length numbers) (less : cost < number_at numbers x) (pushed : IsPermutation (key cost x ∷ queue) after) where
   same_at : number_at (set_at numbers x cost) x ≡ cost
@@ -114,18 +139,61 @@ module _ (numbers : List ℕ) (queue after : List Key) (x cost : ℕ) (within : 
       ))
       (cases_eq y x)
 
+  proper_at : IsProper numbers queue → IsProper (set_at numbers x cost) after
+  proper_at proper = record {
+    current =
+        All-permutation (λ (k : Key). number_at (set_at numbers x cost) k.1 ≤ k.0) (key cost x ∷ queue) after pushed
+        (All-cons (λ (k : Key). number_at (set_at numbers x cost) k.1 ≤ k.0) (key cost x) queue (let same = same_at in omega arith)
+        (λ i d lt.
+        let before = proper.current i d lt in
+        let fell = lower_at (get_or queue i d).1 in
+        omega arith));
+    once = λ y. ⊎_elim
+        (λ e. subst (λ z. entries (number_at (set_at numbers x cost) z) z after ≤ 1) (sym e)
+        (subst (λ n. entries n x after ≤ 1) (sym same_at)
+        (let sum = sum_by_pushed (mark_of cost x) (key cost x) queue after pushed in
+        let mark = mark_same cost x in
+        let none = entries_none cost x queue (λ i d lt at. let before = proper.current i d lt in let same = ap (number_at numbers) at in omega arith) in
+        omega arith)))
+        (λ ne. subst (λ n. entries n y after ≤ 1) (sym (other_at y ne))
+        (let sum = sum_by_pushed (mark_of (number_at numbers y) y) (key cost x) queue after pushed in
+        let mark = mark_other_fact (number_at numbers y) y (key cost x) (λ e. ne (sym e)) in
+        let one = proper.once y in
+        omega arith))
+        (cases_eq y x);
+  }
+
   pub fallen_one : HaveFallen numbers queue (set_at numbers x cost) after
   fallen_one = record {
     as_many = length-set numbers x cost;
     lower = lower_at;
     quiet = quiet_at;
-    inside = λ all. All-permutation (λ (e : Key). e.0.1 < length numbers) (key cost x ∷ queue) after pushed (All-cons (λ (e : Key). e.0.1 < length numbers) (key cost x) queue within all);
+    inside = λ all. All-permutation (λ (e : Key). e.1 < length numbers) (key cost x ∷ queue) after pushed (All-cons (λ (e : Key). e.1 < length numbers) (key cost x) queue within all);
     lighter =
         let sums = sum_by-set (λ n. n) numbers x cost unknown within in
         let long : length after ≡ length (key cost x ∷ queue) = length_permutation (key cost x ∷ queue) after pushed in
         let more : length (key cost x ∷ queue) ≡ length queue + 1 = omega arith in
         omega arith;
+    proper = proper_at;
   }
+
+  stays_at : (n : ℕ) → n ≤ cost → (y : ℕ) → number_at numbers y ≤ n → y ≢ x
+  stays_at n le y low e = let same = ap (number_at numbers) e in absurd (omega arith)
+
+  pub stayed_one : (n : ℕ) → n ≤ cost → HaveStayed n numbers queue (set_at numbers x cost) after
+  stayed_one n le = record {
+    same = λ y low. other_at y (stays_at n le y low);
+    calm = λ y low still waits. ⊎_elim
+        (λ here. stays_at n le y low (at_x y here))
+        (λ later. still (subst (λ m. Contains queue (key m y)) (other_at y (stays_at n le y low)) later))
+        (Contains-append_cases (key cost x ∷ []) queue (key (number_at (set_at numbers x cost) y) y)
+        (Contains-permutation after (key cost x ∷ queue) (key (number_at (set_at numbers x cost) y) y) (IsPermutation-sym (key cost x ∷ queue) after pushed) waits));
+    above = λ all. All-permutation (λ (k : Key). n ≤ k.0) (key cost x ∷ queue) after pushed (All-cons (λ (k : Key). n ≤ k.0) (key cost x) queue le all);
+  }
+    where
+      at_x : (y : ℕ) → Contains (key cost x ∷ []) (key (number_at (set_at numbers x cost) y) y) → y ≡ x
+      at_x y (zero, lt, e) = sym (ap (λ (k : Key). k.1) e)
+      at_x y (suc i, lt, e) = absurd (omega arith)
 
 -- values below those of numbers that have fallen at one place stay below where the new one is no lower
 pub below_one : (numbers : List ℕ) (x cost : ℕ) (values : Values) → x < length numbers → AtMost (values x) (known cost) → AreBelow values numbers → AreBelow values (set_at numbers x cost)
@@ -199,10 +267,10 @@ popped_quiet numbers queue rest cost x y popped other still waits = ⊎_elim
     same (suc k, lt, e) = absurd (omega arith)
 
     at_x : Contains (key cost x ∷ []) (key (number_at numbers y) y) → y ≡ x
-    at_x h = sym (ap (λ (e : Key). e.0.1) (same h))
+    at_x h = sym (ap (λ (e : Key). e.1) (same h))
 
     at_cost : Contains (key cost x ∷ []) (key (number_at numbers y) y) → number_at numbers y ≡ cost
-    at_cost h = sym (ap (λ (e : Key). e.0.0) (same h))
+    at_cost h = sym (ap (λ (e : Key). e.0) (same h))
 
 pub served_popped : (os : List Operator) (numbers : List ℕ) (queue rest : List Key) (cost x k : ℕ) → IsPermutation queue (key cost x ∷ rest) → All (λ y. y ≡ x → number_at numbers y ≡ cost → ⊥) (operator_at os k).pre → IsServed os numbers queue k → IsServed os numbers rest k
 served_popped os numbers queue rest cost x k popped other served quiet =

@@ -1,6 +1,7 @@
 -- How often a number stands in a list.
-use Rattle.std.proofs.Common.{◌≡◌, ◌≢◌, ℕ, zero, suc, ◌+◌, ◌<◌, ◌≤◌, Bool, true, false, cond, eqb, List, [], ◌∷◌, ◌++◌, length, Contains, refl, sym, ap, arith}
+use Rattle.std.proofs.Common.{◌≡◌, ◌≢◌, ℕ, zero, suc, ◌+◌, ◌<◌, ◌≤◌, Bool, true, false, cond, eqb, List, [], ◌∷◌, ◌++◌, length, take, drop, Contains, refl, sym, ap, arith}
 use Rattle.std.proofs.lemmas.Bool.{eq-eqb, ne_eqb}
+use Rattle.std.proofs.lemmas.List.{take-append-drop}
 use Rattle.mp_hmax.specs.Users.{times}
 
 pub times-append : (k : ℕ) (xs ys : List ℕ) → times k (xs ++ ys) ≡ times k xs + times k ys
@@ -10,6 +11,13 @@ times-append k (x ∷ xs) ys = by (eqb x k) (times-append k xs ys)
     by : (b : Bool) → times k (xs ++ ys) ≡ times k xs + times k ys → cond b (times k (xs ++ ys) + 1) (times k (xs ++ ys)) ≡ cond b (times k xs + 1) (times k xs) + times k ys
     by true e = omega arith
     by false e = omega arith
+
+-- no more often in the first items
+pub times_taken : (k : ℕ) (xs : List ℕ) (n : ℕ) → times k (take n xs) ≤ times k xs
+times_taken k xs n =
+    let parts = times-append k (take n xs) (drop n xs) in
+    let whole = ap (times k) (take-append-drop n xs) in
+    omega arith
 
 pub times_same : (k : ℕ) → times k (k ∷ []) ≡ 1
 times_same k = ap (λ b. cond b (0 + 1) 0) (eq-eqb k k refl)

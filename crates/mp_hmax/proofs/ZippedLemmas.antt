@@ -1,8 +1,8 @@
 -- Operators from their preconditions, adds and costs.
-use Rattle.std.proofs.Common.{◌≡◌, ℕ, zero, suc, ◌<◌, ◌≤◌, List, [], ◌∷◌, length, get_or, map, All, refl, sym, ap, ◌∙◌, subst, arith}
+use Rattle.std.proofs.Common.{◌≡◌, ℕ, zero, suc, ◌<◌, List, [], ◌∷◌, length, get_or, map, All, refl, sym, ap, ◌∙◌, subst, arith}
 use Rattle.mp_task.specs.Strips.{Operator}
-use Rattle.mp_hmax.specs.Relaxed.{HasFree, HasUsers, without_deletes, operator_at, zipped}
-use Rattle.mp_hmax.specs.Users.{AreUsers, AreFree, count_of, times}
+use Rattle.mp_hmax.specs.Relaxed.{AreAllFree, HasFree, HasUsers, without_deletes, operator_at, zipped}
+use Rattle.mp_hmax.specs.Users.{AreUsers, AreFree, times}
 
 pub length-zipped : (pres adds : List (List ℕ)) (costs : List ℕ) → length adds ≡ length pres → length costs ≡ length pres → length (zipped pres adds costs) ≡ length pres
 length-zipped [] adds costs a c = refl
@@ -21,11 +21,11 @@ pub zipped_is : (os : List Operator) → zipped (map (λ o. o.pre) os) (map (λ 
 zipped_is [] = refl
 zipped_is (o ∷ os) = λ i. without_deletes o ∷ zipped_is os i
 
-pub zipped_counts : (pres adds : List (List ℕ)) (costs : List ℕ) → length adds ≡ length pres → length costs ≡ length pres → (k : ℕ) → get_or (map count_of pres) k 0 ≤ length (operator_at (zipped pres adds costs) k).pre
-zipped_counts [] adds costs a c k = omega arith
+pub zipped_counts : (pres adds : List (List ℕ)) (costs : List ℕ) → length adds ≡ length pres → length costs ≡ length pres → (k : ℕ) → get_or (map length pres) k 0 ≡ length (operator_at (zipped pres adds costs) k).pre
+zipped_counts [] adds costs a c k = refl
 zipped_counts (p ∷ pres) [] costs a c k = absurd (omega arith)
 zipped_counts (p ∷ pres) (q ∷ adds) [] a c k = absurd (omega arith)
-zipped_counts (p ∷ pres) (q ∷ adds) (d ∷ costs) a c zero = omega arith
+zipped_counts (p ∷ pres) (q ∷ adds) (d ∷ costs) a c zero = refl
 zipped_counts (p ∷ pres) (q ∷ adds) (d ∷ costs) a c (suc k) = zipped_counts pres adds costs (omega arith) (omega arith) k
 
 module _ (pres adds : List (List ℕ)) (costs : List ℕ) (a : length adds ≡ length pres) (c : length costs ≡ length pres) where
@@ -33,13 +33,16 @@ module _ (pres adds : List (List ℕ)) (costs : List ℕ) (a : length adds ≡ l
   zipped_users size x users right = λ k within.
       let inside : k < length pres = omega (arith, length-zipped pres adds costs a c) in
       let same = ap (λ (o : Operator). times x o.pre) (zipped_at pres adds costs k a c inside) in
-      let enough = right.all k x inside in
-      omega arith
+      same ∙ right.all k x inside
 
   pub zipped_free : (free : List ℕ) → AreFree pres free → HasFree (zipped pres adds costs) free
   zipped_free free right = λ k within none.
       let inside : k < length pres = omega (arith, length-zipped pres adds costs a c) in
       right.all k inside (sym (ap (λ (o : Operator). o.pre) (zipped_at pres adds costs k a c inside)) ∙ none)
+
+  pub zipped_all_free : (free : List ℕ) → AreFree pres free → AreAllFree (zipped pres adds costs) free
+  zipped_all_free free right = λ i d lt.
+      ap (λ (o : Operator). o.pre) (zipped_at pres adds costs (get_or free i d) a c (right.rows_alone i d lt)) ∙ right.empty_alone i d lt
 
   pub zipped_below : (xs : List ℕ) → All (λ k. k < length pres) xs → All (λ k. k < length (zipped pres adds costs)) xs
   zipped_below xs h = subst (λ n. All (λ k. k < n) xs) (sym (length-zipped pres adds costs a c)) h

@@ -1,6 +1,8 @@
 pub mod Estimates
 pub mod Hmax
 pub mod Laws
+pub mod Places
+pub mod Queue
 pub mod Relaxed
 pub mod RelaxedFields
 pub mod Row

@@ -1,5 +1,5 @@
 -- The delete relaxation of an agent's projected problem (Bonet and Geffner): nothing becomes false.
-use Rattle.std.specs.Prelude.{◌≡◌, ℕ, ◌+◌, ◌<◌, ◌≤◌, List, [], ◌∷◌, length, map, slice_index_or, Contains}
+use Rattle.std.specs.Prelude.{◌≡◌, ℕ, ◌+◌, ◌<◌, List, [], ◌∷◌, length, map, slice_index_or, All, Contains}
 use Rattle.mp_task.specs.AgentTask.{AgentTask}
 use Rattle.mp_task.specs.Projected.{projected}
 use Rattle.mp_task.specs.Strips.{Operator}
@@ -38,9 +38,13 @@ abbrev pub HasUsers : List Operator → ℕ → List ℕ → Type 0
 HasUsers operators x users =
     (k : ℕ)
     → k < length operators
-    → times x (operator_at operators k).pre ≤ times k users
+    → times x (operator_at operators k).pre ≡ times k users
 
 -- a list of numbers of operators has each operator without preconditions
 abbrev pub HasFree : List Operator → List ℕ → Type 0
 HasFree operators free =
     (k : ℕ) → k < length operators → (operator_at operators k).pre ≡ [] → Contains free k
+
+-- each of a list of numbers of operators is without preconditions
+abbrev pub AreAllFree : List Operator → List ℕ → Type 0
+AreAllFree operators free = All (λ k. (operator_at operators k).pre ≡ []) free

@@ -1,10 +1,10 @@
 -- What a search for the values of facts has: a number for each fact, a queue of facts whose number has changed, and for
 -- each operator a count of preconditions that are open.
-use Rattle.std.specs.Prelude.{◌≡◌, ℕ, ◌+◌, ◌-◌, ◌*◌, ◌<◌, ◌≤◌, nat_lt, Option, Some, None, List, ◌∷◌, length, sum, slice_index_or, All, Contains, IsTrue, if◌then◌else◌}
-use Rattle.std.specs.declared.cmp.Reverse.{Reverse}
+use Rattle.std.specs.Prelude.{◌≡◌, ℕ, ◌+◌, ◌-◌, ◌*◌, ◌<◌, ◌≤◌, ◌==◌, ◌&&◌, nat_lt, Option, Some, None, List, [], ◌∷◌, length, sum, slice_index_or, All, Contains, IsTrue, if◌then◌else◌}
+use Rattle.std.specs.List.{count_by}
 use Rattle.mp_task.specs.Strips.{Operator}
 use Rattle.mp_hmax.specs.Estimates.{AtMost}
-use Rattle.mp_hmax.specs.Hmax.{Values, cost_by, adds}
+use Rattle.mp_hmax.specs.Hmax.{Values, cost_by, adds, greatest}
 use Rattle.mp_hmax.specs.Relaxed.{operator_at}
 use Rattle.mp_hmax.specs.Users.{times}
 
@@ -21,12 +21,12 @@ number_at numbers x = slice_index_or numbers x unknown
 abbrev pub value_at : List ℕ → Values
 value_at numbers x = known (number_at numbers x)
 
--- a fact with its number, the least first
+-- a number and the fact that has it
 abbrev pub Key : Type 0
-Key = Reverse (ℕ × ℕ)
+Key = ℕ × ℕ
 
 abbrev pub key : ℕ → ℕ → Key
-key n x = record { 0 = (n, x) }
+key n x = (n, x)
 
 -- a fact waits in the queue with the number that it has now
 abbrev pub Waits : List ℕ → List Key → ℕ → Type 0
@@ -53,6 +53,47 @@ CountOpen operators numbers queue counts =
     → k < length operators
     → AtLeast (IsOpen numbers queue) (operator_at operators k).pre (count_at counts k)
 
+-- all entries of a queue have a number of at least this one
+abbrev pub AreFrom : ℕ → List Key → Type 0
+AreFrom n queue = All (λ (k : Key). n ≤ k.0) queue
+
+-- A fact is settled: it does not wait, and its number is at most each one in the queue.
+abbrev pub IsSettled : List ℕ → List Key → ℕ → Type 0
+IsSettled numbers queue x = (¬ Waits numbers queue x) × AreFrom (number_at numbers x) queue
+
+-- all items of a list but at most so many are such
+pub data AllBut (P : ℕ → Type 0) : List ℕ → ℕ → Type 0 where
+  empty : (n : ℕ) → AllBut P [] n
+  such : (x : ℕ) (xs : List ℕ) (n : ℕ) → P x → AllBut P xs n → AllBut P (x ∷ xs) n
+  spared : (x : ℕ) (xs : List ℕ) (n : ℕ) → AllBut P xs n → AllBut P (x ∷ xs) (n + 1)
+
+-- counts are at least those of preconditions that are not settled
+abbrev pub CountUnsettled : List Operator → List ℕ → List Key → List ℕ → Type 0
+CountUnsettled operators numbers queue counts =
+    (k : ℕ)
+    → k < length operators
+    → AllBut (IsSettled numbers queue) (operator_at operators k).pre (count_at counts k)
+
+-- how often a queue has an entry
+abbrev pub entries : ℕ → ℕ → List Key → ℕ
+entries n x queue = count_by (λ (k : Key). (k.0 == n) && (k.1 == x)) queue
+
+-- No entry is less than its fact's number, and none that has it stands twice.
+pub record IsProper (numbers : List ℕ) (queue : List Key) : Type 0 where
+  pub current : All (λ (k : Key). number_at numbers k.1 ≤ k.0) queue
+  pub once : (x : ℕ) → entries (number_at numbers x) x queue ≤ 1
+
+-- numbers up to this one have stayed, their facts wait only where they did, and what came into the queue is no less
+pub record HaveStayed (n : ℕ) (old : List ℕ) (before : List Key) (new : List ℕ) (after : List Key) : Type 0 where
+  pub same : (x : ℕ) → number_at old x ≤ n → number_at new x ≡ number_at old x
+  pub calm : (x : ℕ) → number_at old x ≤ n → ¬ Waits old before x → ¬ Waits new after x
+  pub above : AreFrom n before → AreFrom n after
+
+-- a number is the greatest of some facts
+pub record IsMost (n : ℕ) (numbers : List ℕ) (facts : List ℕ) : Type 0 where
+  pub at_most : All (λ x. number_at numbers x ≤ n) facts
+  pub is : known n ≡ greatest (value_at numbers) facts
+
 -- a measure that falls
 abbrev pub weight : List ℕ → List Key → ℕ
 weight numbers queue = 2 * sum numbers + length queue
@@ -66,9 +107,10 @@ pub record HaveFallen (old : List ℕ) (before : List Key) (new : List ℕ) (aft
       → ¬ Waits new after x
       → (number_at new x ≡ number_at old x) × ¬ Waits old before x
   pub inside :
-      All (λ (k : Key). k.0.1 < length old) before
-      → All (λ (k : Key). k.0.1 < length old) after
+      All (λ (k : Key). k.1 < length old) before
+      → All (λ (k : Key). k.1 < length old) after
   pub lighter : weight new after ≤ weight old before
+  pub proper : IsProper old before → IsProper new after
 
 -- numbers beyond the greatest that a program has are as none
 abbrev pub capped : Option ℕ → Option ℕ

@@ -1,5 +1,5 @@
 -- Which rows have a number, and how many numbers each has.
-use Rattle.std.specs.Prelude.{◌≡◌, ℕ, ◌+◌, ◌==◌, ◌<◌, ◌≤◌, min, List, [], ◌∷◌, length, map, slice_index_or, All, Contains, if◌then◌else◌}
+use Rattle.std.specs.Prelude.{◌≡◌, ◌≢◌, ℕ, ◌+◌, ◌==◌, ◌<◌, List, [], ◌∷◌, length, map, slice_index_or, All, Contains, if◌then◌else◌}
 
 -- how often a number stands in a list
 abbrev pub times : ℕ → List ℕ → ℕ
@@ -13,16 +13,19 @@ pub record AreUsers (size : ℕ) (rows users : List (List ℕ)) : Type 0 where
   pub all :
       (k x : ℕ)
       → k < length rows
-      → times x (slice_index_or rows k []) ≤ times k (slice_index_or users x [])
+      → times x (slice_index_or rows k []) ≡ times k (slice_index_or users x [])
 
 -- lists after a number has been taken into those that another list names
 pub record Takes (old : List (List ℕ)) (places : List ℕ) (number : ℕ) (new : List (List ℕ)) : Type 0 where
   pub as_many : length new ≡ length old
-  pub kept : (x k : ℕ) → times k (slice_index_or old x []) ≤ times k (slice_index_or new x [])
+  pub kept :
+      (x k : ℕ)
+      → k ≢ number
+      → times k (slice_index_or new x []) ≡ times k (slice_index_or old x [])
   pub taken :
       (x : ℕ)
-      → times number (slice_index_or old x []) + times x places
-      ≤ times number (slice_index_or new x [])
+      → times number (slice_index_or new x [])
+      ≡ times number (slice_index_or old x []) + times x places
   pub bounded :
       (n : ℕ)
       → number < n
@@ -32,12 +35,9 @@ pub record Takes (old : List (List ℕ)) (places : List ℕ) (number : ℕ) (new
 -- the numbers of rows have each empty row
 pub record AreFree (rows : List (List ℕ)) (free : List ℕ) : Type 0 where
   pub rows_alone : All (λ k. k < length rows) free
+  pub empty_alone : All (λ k. slice_index_or rows k [] ≡ []) free
   pub all : (k : ℕ) → k < length rows → slice_index_or rows k [] ≡ [] → Contains free k
-
--- how many numbers a row has, as far as 32 bits can say it
-abbrev pub count_of : List ℕ → ℕ
-count_of row = min (length row) 4294967295
 
 -- how many numbers each row has
 abbrev pub AreCounts : List (List ℕ) → List ℕ → Type 0
-AreCounts rows counts = counts ≡ map count_of rows
+AreCounts rows counts = counts ≡ map length rows

@@ -2,13 +2,13 @@
 
 ghost use Rattle.std.specs.Prelude.{◌≡◌, ◌<◌, ◌^◌, length, vec_len};
 
+use crate::queue::Queue;
 use crate::relaxed::Relaxed;
-use crate::search::{Queue, estimate};
+use crate::search::estimate;
 use mp_list::OutOfMemory;
 use mp_sets::Bits;
 use mp_task::{Heuristic, Task};
 use std::alloc::Global;
-use std::collections::BinaryHeap;
 
 /// The heuristic hmax (Bonet and Geffner 2001): what it costs to make the dearest goal true, where nothing becomes
 /// false, and where of an operator's preconditions the dearest alone is paid for. None where a goal cannot be made
@@ -16,7 +16,7 @@ use std::collections::BinaryHeap;
 #[derive(Drop)]
 pub struct Hmax {
     problem: Relaxed,
-    counters: Vec<u32>,
+    counters: Vec<usize>,
     numbers: Vec<u64>,
     queue: Queue,
     ghost counted: { vec_len counters ≡ length problem.operators },
@@ -38,11 +38,12 @@ impl Heuristic for Hmax {
         let problem = Relaxed::of(alloc, task)?;
         let counters = vec![in alloc; 0; problem.counts().len()]?;
         let numbers = vec![in alloc; u64::MAX; problem.facts() as usize]?;
+        let queue = Queue::new(alloc)?;
         Ok(Hmax {
             problem,
             counters,
             numbers,
-            queue: BinaryHeap::new(alloc),
+            queue,
         })
     }
 

@@ -3,6 +3,8 @@
 
 mod hmax;
 mod laws;
+mod places;
+mod queue;
 mod relaxed;
 mod rows;
 mod search;

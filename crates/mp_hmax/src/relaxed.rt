@@ -1,9 +1,9 @@
 //! The delete relaxation of a projected problem in flat arrays.
 
-ghost use Rattle.std.specs.Prelude.{◌≡◌, ℕ, ◌<◌, ◌≤◌, ◌+◌, ◌^◌, All, length, map, IfOk};
+ghost use Rattle.std.specs.Prelude.{◌≡◌, ℕ, ◌<◌, ◌+◌, ◌^◌, All, length, map, IfOk};
 ghost use Rattle.mp_task.specs.Limits.{IsWithinLimits};
 ghost use Rattle.mp_task.specs.Projected.{projected};
-ghost use Rattle.mp_hmax.specs.Relaxed.{HasFree, HasUsers, delete_relaxation, operator_at};
+ghost use Rattle.mp_hmax.specs.Relaxed.{AreAllFree, HasFree, HasUsers, delete_relaxation, operator_at};
 ghost use Rattle.mp_hmax.specs.Search.{count_at};
 
 use crate::rows::{Rows, gather};
@@ -26,7 +26,7 @@ pub(crate) struct Relaxed {
     goals: Vec<u32>,
     users: Rows,
     free: Vec<u32>,
-    counts: Vec<u32>,
+    counts: Vec<usize>,
 }
 
 impl Model for Relaxed {
@@ -126,15 +126,6 @@ impl Relaxed {
         self.facts
     }
 
-    /// The preconditions of an operator.
-    pub(crate) fn pre(&self, k: u32) -> &[u32]
-        requires { k < length self.now.operators }
-        ensures value { result.now ≡ (operator_at self.now.operators k).pre }
-        ensures below { All (λ x. x < self.now.facts) result.now }
-    {
-        self.pres.row(k as usize)
-    }
-
     /// The facts that an operator adds.
     pub(crate) fn add(&self, k: u32) -> &[u32]
         requires { k < length self.now.operators }
@@ -172,15 +163,16 @@ impl Relaxed {
     /// The operators without preconditions.
     pub(crate) fn free(&self) -> &[u32]
         ensures all { HasFree self.now.operators result.now }
+        ensures empty { AreAllFree self.now.operators result.now }
         ensures below { All (λ k. k < length self.now.operators) result.now }
     {
         self.free.as_slice()
     }
 
     /// How many preconditions each operator has.
-    pub(crate) fn counts(&self) -> &[u32]
+    pub(crate) fn counts(&self) -> &[usize]
         ensures len { length result.now ≡ length self.now.operators }
-        ensures count { (k : ℕ) → count_at result.now k ≤ length (operator_at self.now.operators k).pre }
+        ensures count { (k : ℕ) → count_at result.now k ≡ length (operator_at self.now.operators k).pre }
     {
         self.counts.as_slice()
     }

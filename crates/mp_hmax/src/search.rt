@@ -1,24 +1,19 @@
 //! The search for the values of facts, those of the least cost first (Dijkstra 1959; Knuth 1977).
 
 ghost use Rattle.std.specs.Prelude.{◌≡◌, ℕ, ◌<◌, ◌≤◌, ◌+◌, ◌^◌, [], ◌∷◌, All, Contains, length, vec_len, IfOk, OnOk, IsTrue, Some};
-ghost use Rattle.std.specs.BinaryHeap.{heap_items};
 ghost use Rattle.std.specs.FinSet as set;
 ghost use Rattle.mp_task.specs.AgentTask.{AgentTask};
 ghost use Rattle.mp_task.specs.Limits.{IsWithinLimits};
 ghost use Rattle.mp_hmax.specs.Estimates.{AtMost};
 ghost use Rattle.mp_hmax.specs.Hmax.{Values, greatest, hmax};
-ghost use Rattle.mp_hmax.specs.Relaxed.{delete_relaxation, operator_at};
-ghost use Rattle.mp_hmax.specs.Search.{AreBelow, AreLow, AreLowered, HaveFallen, IsOpen, IsServed, Key, count_at, known, number_at, unknown, value_at};
+ghost use Rattle.mp_hmax.specs.Relaxed.{AreAllFree, delete_relaxation, operator_at};
+ghost use Rattle.mp_hmax.specs.Search.{AreBelow, AreLow, AreLowered, HaveFallen, HaveStayed, IsMost, IsOpen, IsProper, IsServed, Key, count_at, known, number_at, unknown, value_at};
 ghost use Rattle.mp_hmax.specs.Users.{times};
 
+use crate::queue::Queue;
 use crate::relaxed::Relaxed;
 use mp_list::OutOfMemory;
 use mp_sets::Bits;
-use std::cmp::Reverse;
-use std::collections::BinaryHeap;
-
-/// Facts with their numbers, the least first. An entry whose fact has another number by now is out of date.
-pub(crate) type Queue = BinaryHeap<Reverse<(u64, u32)>>;
 
 /// The greatest value of some facts.
 pub(crate) fn greatest_of(numbers: &[u64], facts: &[u32]) -> u64
@@ -35,8 +30,10 @@ pub(crate) fn greatest_of(numbers: &[u64], facts: &[u32]) -> u64
 /// Gives a fact a number where that is less than the one that it has.
 fn lower(numbers: &mut Vec<u64>, queue: &mut Queue, x: u32, cost: u64) -> Result<(), OutOfMemory>
     requires { x < vec_len numbers.old }
-    ensures fallen { OnOk result (HaveFallen numbers.old.items (heap_items queue.old)
-        numbers.new.items (heap_items queue.new)) }
+    ensures fallen { OnOk result (HaveFallen numbers.old.items queue.old
+        numbers.new.items queue.new) }
+    ensures stayed { OnOk result ((n : ℕ) → n ≤ cost
+        → HaveStayed n numbers.old.items queue.old numbers.new.items queue.new) }
     ensures lowered { OnOk result (number_at numbers.new.items x ≤ cost) }
     ensures below { OnOk result ((values : Values) → AtMost (values x) (known cost)
         → AreBelow values numbers.old.items → AreBelow values numbers.new.items) }
@@ -44,29 +41,31 @@ fn lower(numbers: &mut Vec<u64>, queue: &mut Queue, x: u32, cost: u64) -> Result
 {
     if cost < numbers[x as usize] {
         numbers[x as usize] = cost;
-        queue.push(Reverse((cost, x)))?;
+        queue.push(cost, x)?;
     }
     Ok(())
 }
 
-/// Gives what an operator adds the cost by it, where that is less.
+/// Gives what an operator adds the cost by it, where that is less, from the greatest value of its preconditions.
 fn relax(
     problem: &Relaxed,
     k: u32,
+    most: u64,
     numbers: &mut Vec<u64>,
     queue: &mut Queue,
 ) -> Result<(), OutOfMemory>
     requires operator { k < length problem.now.operators }
     requires sized { vec_len numbers.old ≡ problem.now.facts }
-    ensures fallen { OnOk result (HaveFallen numbers.old.items (heap_items queue.old)
-        numbers.new.items (heap_items queue.new)) }
+    requires reached { known most ≡ greatest (value_at numbers.old.items) (operator_at problem.now.operators k).pre }
+    ensures fallen { OnOk result (HaveFallen numbers.old.items queue.old
+        numbers.new.items queue.new) }
+    ensures stayed { OnOk result (HaveStayed most numbers.old.items queue.old numbers.new.items queue.new) }
     ensures served { OnOk result
-        (IsServed problem.now.operators numbers.new.items (heap_items queue.new) k) }
+        (IsServed problem.now.operators numbers.new.items queue.new k) }
     ensures below { OnOk result ((values : Values) → AreLow problem.now.operators values
         → AreBelow values numbers.old.items → AreBelow values numbers.new.items) }
     ensures len { vec_len numbers.new ≡ vec_len numbers.old }
 {
-    let most = greatest_of(numbers.as_slice(), problem.pre(k));
     let own = problem.cost(k);
     if own < u64::MAX - most {
         let cost = own + most;
@@ -77,45 +76,51 @@ fn relax(
     Ok(())
 }
 
-/// Relaxes some operators, one after another.
-fn relax_all(
+/// Relaxes some operators without preconditions, one after another.
+fn relax_free(
     problem: &Relaxed,
     operators: &[u32],
     numbers: &mut Vec<u64>,
     queue: &mut Queue,
 ) -> Result<(), OutOfMemory>
     requires operators { All (λ k. k < length problem.now.operators) operators.now }
+    requires free { AreAllFree problem.now.operators operators.now }
     requires sized { vec_len numbers.old ≡ problem.now.facts }
-    ensures fallen { OnOk result (HaveFallen numbers.old.items (heap_items queue.old)
-        numbers.new.items (heap_items queue.new)) }
+    ensures fallen { OnOk result (HaveFallen numbers.old.items queue.old
+        numbers.new.items queue.new) }
     ensures served { OnOk result ((k : ℕ) → Contains operators.now k
-        → IsServed problem.now.operators numbers.new.items (heap_items queue.new) k) }
+        → IsServed problem.now.operators numbers.new.items queue.new k) }
     ensures below { OnOk result ((values : Values) → AreLow problem.now.operators values
         → AreBelow values numbers.old.items → AreBelow values numbers.new.items) }
     ensures len { vec_len numbers.new ≡ vec_len numbers.old }
 {
     for k in operators {
-        relax(problem, *k, numbers, queue)?;
+        relax(problem, *k, 0, numbers, queue)?;
     }
     Ok(())
 }
 
-/// Counts one open precondition of an operator less. Where none is left, the operator is relaxed.
+/// Counts one open precondition of an operator less. Where none is left, that one has the greatest value of them, and
+/// the operator is relaxed.
 fn count_down(
     problem: &Relaxed,
     k: u32,
-    counters: &mut Vec<u32>,
+    cost: u64,
+    counters: &mut Vec<usize>,
     numbers: &mut Vec<u64>,
     queue: &mut Queue,
 ) -> Result<(), OutOfMemory>
     requires operator { k < length problem.now.operators }
     requires counted { vec_len counters.old ≡ length problem.now.operators }
     requires sized { vec_len numbers.old ≡ problem.now.facts }
-    ensures fallen { OnOk result (HaveFallen numbers.old.items (heap_items queue.old)
-        numbers.new.items (heap_items queue.new)) }
+    requires reached { count_at counters.old.items k ≤ 1
+        → known cost ≡ greatest (value_at numbers.old.items) (operator_at problem.now.operators k).pre }
+    ensures fallen { OnOk result (HaveFallen numbers.old.items queue.old
+        numbers.new.items queue.new) }
+    ensures stayed { OnOk result (HaveStayed cost numbers.old.items queue.old numbers.new.items queue.new) }
     ensures lowered { OnOk result (AreLowered counters.old.items (k ∷ []) counters.new.items) }
     ensures served { OnOk result (count_at counters.new.items k ≡ 0
-        → IsServed problem.now.operators numbers.new.items (heap_items queue.new) k) }
+        → IsServed problem.now.operators numbers.new.items queue.new k) }
     ensures below { OnOk result ((values : Values) → AreLow problem.now.operators values
         → AreBelow values numbers.old.items → AreBelow values numbers.new.items) }
     ensures counted { vec_len counters.new ≡ vec_len counters.old }
@@ -124,63 +129,71 @@ fn count_down(
     let left = counters[k as usize].saturating_sub(1);
     counters[k as usize] = left;
     if left == 0 {
-        relax(problem, k, numbers, queue)?;
+        relax(problem, k, cost, numbers, queue)?;
     }
     Ok(())
 }
 
-/// Counts down each of some operators, as often as it is named.
+/// Counts down each of some operators, as often as it is named, for a fact of a number.
 fn count_down_all(
     problem: &Relaxed,
     operators: &[u32],
-    counters: &mut Vec<u32>,
+    cost: u64,
+    counters: &mut Vec<usize>,
     numbers: &mut Vec<u64>,
     queue: &mut Queue,
 ) -> Result<(), OutOfMemory>
     requires operators { All (λ k. k < length problem.now.operators) operators.now }
     requires counted { vec_len counters.old ≡ length problem.now.operators }
     requires sized { vec_len numbers.old ≡ problem.now.facts }
-    ensures fallen { OnOk result (HaveFallen numbers.old.items (heap_items queue.old)
-        numbers.new.items (heap_items queue.new)) }
+    requires reached { (k : ℕ) → k < length problem.now.operators → 1 ≤ times k operators.now
+        → count_at counters.old.items k ≤ times k operators.now
+        → IsMost cost numbers.old.items (operator_at problem.now.operators k).pre }
+    ensures fallen { OnOk result (HaveFallen numbers.old.items queue.old
+        numbers.new.items queue.new) }
+    ensures stayed { OnOk result (HaveStayed cost numbers.old.items queue.old numbers.new.items queue.new) }
     ensures lowered { OnOk result (AreLowered counters.old.items operators.now counters.new.items) }
     ensures served { OnOk result ((k : ℕ) → 1 ≤ times k operators.now
         → count_at counters.new.items k ≡ 0
-        → IsServed problem.now.operators numbers.new.items (heap_items queue.new) k) }
+        → IsServed problem.now.operators numbers.new.items queue.new k) }
     ensures below { OnOk result ((values : Values) → AreLow problem.now.operators values
         → AreBelow values numbers.old.items → AreBelow values numbers.new.items) }
     ensures counted { vec_len counters.new ≡ vec_len counters.old }
     ensures len { vec_len numbers.new ≡ vec_len numbers.old }
 {
     for k in operators {
-        count_down(problem, *k, counters, numbers, queue)?;
+        count_down(problem, *k, cost, counters, numbers, queue)?;
     }
     Ok(())
 }
 
 /// Counts all preconditions as open.
-fn recount(problem: &Relaxed, counters: &mut Vec<u32>)
+fn recount(problem: &Relaxed, counters: &mut Vec<usize>)
     requires { vec_len counters.old ≡ length problem.now.operators }
     ensures count { (k : ℕ) → count_at counters.new.items k
-        ≤ length (operator_at problem.now.operators k).pre }
+        ≡ length (operator_at problem.now.operators k).pre }
     ensures len { vec_len counters.new ≡ vec_len counters.old }
 {
     counters.as_mut_slice().copy_from_slice(problem.counts());
 }
 
-/// Settles the fact of least cost that waits, until none does: it is no precondition that is open any more. An operator
-/// is relaxed where none of its preconditions is open.
+/// Settles the fact of least cost that waits, until none does: it is no precondition that is open any more. An entry
+/// whose fact has another number by now is out of date. An operator is relaxed where none of its preconditions is open:
+/// the last one of them that was settled has the greatest value, since numbers in the queue never get less than the
+/// one that was taken last.
 pub(crate) fn settle(
     problem: &Relaxed,
-    counters: &mut Vec<u32>,
+    counters: &mut Vec<usize>,
     numbers: &mut Vec<u64>,
     queue: &mut Queue,
 ) -> Result<(), OutOfMemory>
     requires counted { vec_len counters.old ≡ length problem.now.operators }
     requires sized { vec_len numbers.old ≡ problem.now.facts }
-    requires inside { All (λ (k : Key). k.0.1 < vec_len numbers.old) (heap_items queue.old) }
+    requires inside { All (λ (k : Key). k.1 < vec_len numbers.old) queue.old }
     requires served { (k : ℕ) → k < length problem.now.operators
-        → IsServed problem.now.operators numbers.old.items (heap_items queue.old) k }
-    requires all_open { (x : ℕ) → IsOpen numbers.old.items (heap_items queue.old) x }
+        → IsServed problem.now.operators numbers.old.items queue.old k }
+    requires all_open { (x : ℕ) → IsOpen numbers.old.items queue.old x }
+    requires proper { IsProper numbers.old.items queue.old }
     ensures lower { OnOk result ((x : ℕ) → number_at numbers.new.items x ≤ number_at numbers.old.items x) }
     ensures served { OnOk result ((k : ℕ) → k < length problem.now.operators
         → IsServed problem.now.operators numbers.new.items [] k) }
@@ -190,9 +203,9 @@ pub(crate) fn settle(
     ensures len { vec_len numbers.new ≡ vec_len numbers.old }
 {
     recount(problem, counters);
-    'pops: while let Some(Reverse((cost, x))) = queue.pop() {
+    'pops: while let Some((cost, x)) = queue.pop() {
         if cost == numbers[x as usize] {
-            count_down_all(problem, problem.users(x), counters, numbers, queue)?;
+            count_down_all(problem, problem.users(x), cost, counters, numbers, queue)?;
         }
     }
     Ok(())
@@ -215,8 +228,8 @@ fn mark(
 ) -> Result<(), OutOfMemory>
     requires room { offset + members.now.size ≤ vec_len numbers.old }
     requires few { vec_len numbers.old < 2 ^ 32 }
-    ensures fallen { OnOk result (HaveFallen numbers.old.items (heap_items queue.old)
-        numbers.new.items (heap_items queue.new)) }
+    ensures fallen { OnOk result (HaveFallen numbers.old.items queue.old
+        numbers.new.items queue.new) }
     ensures zero { OnOk result ((x : ℕ) → IsTrue (set.contains members.now.members x)
         → number_at numbers.new.items (offset + x) ≤ 0) }
     ensures below { OnOk result ((values : Values)
@@ -245,9 +258,9 @@ fn begin(
     requires few { problem.now.facts < 2 ^ 32 }
     requires publics { publics.now.size ≡ problem.now.publics }
     requires privates { problem.now.publics + privates.now.size ≡ problem.now.facts }
-    ensures inside { OnOk result (All (λ (k : Key). k.0.1 < vec_len numbers.new) (heap_items queue.new)) }
+    ensures inside { OnOk result (All (λ (k : Key). k.1 < vec_len numbers.new) queue.new) }
     ensures served { OnOk result ((k : ℕ) → k < length problem.now.operators
-        → IsServed problem.now.operators numbers.new.items (heap_items queue.new) k) }
+        → IsServed problem.now.operators numbers.new.items queue.new k) }
     ensures zero_publics { OnOk result ((x : ℕ) → IsTrue (set.contains publics.now.members x)
         → number_at numbers.new.items (0 + x) ≤ 0) }
     ensures zero_privates { OnOk result ((x : ℕ) → IsTrue (set.contains privates.now.members x)
@@ -258,14 +271,15 @@ fn begin(
         → ((x : ℕ) → x < privates.now.size → IsTrue (set.contains privates.now.members x)
         → AtMost (values (problem.now.publics + x)) (Some 0))
         → AreBelow values numbers.new.items) }
-    ensures all_open { OnOk result ((x : ℕ) → IsOpen numbers.new.items (heap_items queue.new) x) }
+    ensures all_open { OnOk result ((x : ℕ) → IsOpen numbers.new.items queue.new x) }
+    ensures proper { OnOk result (IsProper numbers.new.items queue.new) }
     ensures len { vec_len numbers.new ≡ vec_len numbers.old }
 {
     forget(numbers);
     queue.clear();
     mark(numbers, queue, publics, 0)?;
     mark(numbers, queue, privates, problem.publics())?;
-    relax_all(problem, problem.free(), numbers, queue)?;
+    relax_free(problem, problem.free(), numbers, queue)?;
     Ok(())
 }
 
@@ -274,7 +288,7 @@ pub(crate) fn estimate(
     problem: &Relaxed,
     publics: &Bits,
     privates: &Bits,
-    counters: &mut Vec<u32>,
+    counters: &mut Vec<usize>,
     numbers: &mut Vec<u64>,
     queue: &mut Queue,
 ) -> Result<Option<u64>, OutOfMemory>

@@ -61,12 +61,12 @@ pub(crate) fn free_of(alloc: Global, pres: &Rows) -> Result<Vec<u32>, OutOfMemor
 }
 
 /// How many preconditions each operator has.
-pub(crate) fn counts_of(alloc: Global, pres: &Rows) -> Result<Vec<u32>, OutOfMemory>
+pub(crate) fn counts_of(alloc: Global, pres: &Rows) -> Result<Vec<usize>, OutOfMemory>
     ensures { IfOk result (λ counts. AreCounts pres.now counts.items) }
 {
     let mut counts = Vec::with_capacity(alloc, pres.len())?;
     for k in 0..pres.len() {
-        counts.push(pres.row(k).len().min(u32::MAX as usize) as u32)?;
+        counts.push(pres.row(k).len())?;
     }
     Ok(counts)
 }

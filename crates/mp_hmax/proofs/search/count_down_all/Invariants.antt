@@ -1,7 +1,6 @@
 use Rattle.std.proofs.Common.{◌≡◌, take, vec_len}
-use Rattle.std.specs.BinaryHeap.{heap_items}
 use Rattle.mp_hmax.specs.Hmax.{Values}
-use Rattle.mp_hmax.specs.Search.{AreBelow, AreLow, AreLowered, HaveFallen}
+use Rattle.mp_hmax.specs.Search.{AreBelow, AreLow, AreLowered, HaveFallen, HaveStayed}
 use Rattle.mp_hmax.proofs.CountLemmas.{ServedSoFar}
 use Rattle.mp_hmax.proofs.search.count_down_all.Given as goal
 
@@ -9,8 +8,9 @@ abbrev pub invariant-loop-k : goal.invariant-loop-k
 invariant-loop-k l = record {
   len : vec_len l.numbers ≡ vec_len l.initial.numbers;
   counted : vec_len l.counters ≡ vec_len l.initial.counters;
-  fallen : HaveFallen l.initial.numbers.items (heap_items l.initial.queue) l.numbers.items (heap_items l.queue);
+  fallen : HaveFallen l.initial.numbers.items l.initial.queue l.numbers.items l.queue;
+  stayed : HaveStayed l.cost l.initial.numbers.items l.initial.queue l.numbers.items l.queue;
   lowered : AreLowered l.initial.counters.items (take l.k-index l.operators) l.counters.items;
-  served : ServedSoFar l.problem.operators (take l.k-index l.operators) l.numbers.items (heap_items l.queue) l.counters.items;
+  served : ServedSoFar l.problem.operators (take l.k-index l.operators) l.numbers.items l.queue l.counters.items;
   below : (values : Values) → AreLow l.problem.operators values → AreBelow values l.initial.numbers.items → AreBelow values l.numbers.items;
 }

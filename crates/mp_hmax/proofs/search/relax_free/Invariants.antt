@@ -1,13 +1,12 @@
 use Rattle.std.proofs.Common.{◌≡◌, ℕ, ◌<◌, get_or, vec_len}
-use Rattle.std.specs.BinaryHeap.{heap_items}
 use Rattle.mp_hmax.specs.Hmax.{Values}
 use Rattle.mp_hmax.specs.Search.{AreBelow, AreLow, HaveFallen, IsServed}
-use Rattle.mp_hmax.proofs.search.relax_all.Given as goal
+use Rattle.mp_hmax.proofs.search.relax_free.Given as goal
 
 abbrev pub invariant-loop-k : goal.invariant-loop-k
 invariant-loop-k l = record {
   len : vec_len l.numbers ≡ vec_len l.initial.numbers;
-  fallen : HaveFallen l.initial.numbers.items (heap_items l.initial.queue) l.numbers.items (heap_items l.queue);
-  served : (j : ℕ) → j < l.k-index → IsServed l.problem.operators l.numbers.items (heap_items l.queue) (get_or l.operators j 0);
+  fallen : HaveFallen l.initial.numbers.items l.initial.queue l.numbers.items l.queue;
+  served : (j : ℕ) → j < l.k-index → IsServed l.problem.operators l.numbers.items l.queue (get_or l.operators j 0);
   below : (values : Values) → AreLow l.problem.operators values → AreBelow values l.initial.numbers.items → AreBelow values l.numbers.items;
 }
