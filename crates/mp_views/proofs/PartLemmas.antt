@@ -1,14 +1,21 @@
 -- Parts with their lines, in the order of their lines.
-use Rattle.std.proofs.Common.{◌≡◌, List, [], ◌∷◌, ◌++◌, map, refl, sym, ap, ◌∙◌, Ordering, Less, Equal, Greater}
+use Rattle.std.proofs.Common.{◌≡◌, List, [], ◌∷◌, ◌++◌, map, reverse, refl, sym, ap, ◌∙◌, Ordering, Less, Equal, Greater}
 use Rattle.std.specs.Cmp.{IsTotalOrder, on_total}
-use Rattle.std.specs.Cmp.Lexicographic.{slice_cmp, nat_list_cmp_total}
-use Rattle.std.specs.Ordering.{match_ordering, nat_cmp, on}
+use Rattle.std.specs.Cmp.Lexicographic.{slice_cmp, nat_list_cmp_total, texts_ties}
+use Rattle.std.specs.Ordering.{eq_by_cmp, match_ordering, nat_cmp, on}
 use Rattle.std.specs.BTreeSet.{insert_key}
+use Rattle.std.specs.List.Retain.{IsFiltered, DiffersFromLast}
+use Rattle.std.specs.List.Sorted.{IsSorted, IsStable}
+use Rattle.std.specs.Str.{bytes_eq}
+use Rattle.std.proofs.lemmas.List.{map-append, reverse-append}
+use Rattle.std.proofs.lemmas.List.Filters.{dedup_is}
 use Rattle.mp_views.specs.declared.parts.LinedPart.{LinedPart}
 use Rattle.mp_views.specs.declared.view.Part.{Part}
 use Rattle.mp_views.specs.Lines.{part_line}
+use Rattle.mp_views.specs.Sorted.{sorted_by}
 use Rattle.mp_views.specs.Parts.{part_cmp, sorted_parts}
-use Rattle.mp_views.proofs.SortedLemmas.{with_all, with_last, all_sorted}
+use Rattle.mp_views.proofs.SortedLemmas.{with_all, all_sorted}
+use Rattle.mp_views.proofs.TiedLemmas.{each_once, first_tied, tied_stable}
 
 -- a part with its line
 abbrev pub lined : Part → LinedPart
@@ -44,12 +51,26 @@ back (p ∷ parts) = ap (λ (zs : List Part). p ∷ zs) (back parts)
 pub parts_sorted : (parts : List Part) → map part_of (with_all lined_cmp (map lined parts) []) ≡ sorted_parts parts
 parts_sorted parts = ap (map part_of) (lined_all parts) ∙ back (with_all part_cmp parts []) ∙ all_sorted part_total parts
 
-lined_last : (parts : List Part) (p : Part) → map lined (parts ++ p ∷ []) ≡ map lined parts ++ lined p ∷ []
-lined_last [] p = refl
-lined_last (q ∷ parts) p = ap (λ (zs : List LinedPart). lined q ∷ zs) (lined_last parts p)
+lined_total : IsTotalOrder lined_cmp
+lined_total = on_total (λ (p : LinedPart). p.line) nat_list_cmp_total
 
--- the last part of what is left is added
-pub one_added : (parts : List Part) (p : Part) (ks : List LinedPart) → with_all lined_cmp (map lined parts) (insert_key lined_cmp ks (lined p)) ≡ with_all lined_cmp (map lined (parts ++ p ∷ [])) ks
-one_added parts p ks = with_last lined_cmp (map lined parts) (lined p) ks ∙ ap (λ (zs : List LinedPart). with_all lined_cmp zs ks) (sym (lined_last parts p))
+lined_ties : (x y : LinedPart) → bytes_eq x.line y.line ≡ eq_by_cmp lined_cmp x y
+lined_ties x y = texts_ties x.line y.line
 
-pub ruleset part_steps = (one_added, parts_sorted)
+lined_sorted : (parts : List Part) → map part_of (sorted_by lined_cmp (map lined parts)) ≡ sorted_parts parts
+lined_sorted parts = ap (map part_of) (sym (all_sorted lined_total (map lined parts))) ∙ parts_sorted parts
+
+lined_back : (parts : List Part) → map lined (reverse parts) ≡ reverse (map lined parts)
+lined_back [] = refl
+lined_back (p ∷ parts) =
+    ap (map lined) (reverse-append (p ∷ []) parts) ∙ map-append lined (reverse parts) (p ∷ [])
+    ∙ ap (λ (zs : List LinedPart). zs ++ lined p ∷ []) (lined_back parts) ∙ sym (reverse-append (lined p ∷ []) (map lined parts))
+
+-- parts with their lines, the last one first, that are sorted and of which repetitions are left out
+pub parts_are : (parts : List Part) (made sorted kept : List LinedPart) → made ≡ map lined (reverse parts) → IsStable lined_cmp made sorted → IsSorted lined_cmp sorted
+    → IsFiltered (DiffersFromLast (λ x y. bytes_eq x.line y.line)) [] sorted kept → map part_of kept ≡ sorted_parts parts
+parts_are parts made sorted kept are stable up left =
+    ap (map part_of)
+    (dedup_is _ _ _ left
+    ∙ each_once lined_total lined_ties (map lined parts) sorted up (λ q. tied_stable lined_total made sorted stable q ∙ ap (first_tied lined_cmp q) (are ∙ lined_back parts)))
+    ∙ lined_sorted parts

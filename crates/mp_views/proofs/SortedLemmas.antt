@@ -1,5 +1,6 @@
 -- The items of a list in an order, added one by one.
 use Rattle.std.proofs.Common.{◌≡◌, List, [], ◌∷◌, ◌++◌, map, length, refl, sym, ap, ◌∙◌, Ordering, Less, Equal, Greater, arith}
+use Rattle.std.proofs.lemmas.Cmp.{tied_itself}
 use Rattle.std.specs.Cmp.{IsTotalOrder}
 use Rattle.std.specs.Cmp.Lexicographic.{slice_cmp, nat_list_cmp_total}
 use Rattle.std.specs.FinMap.{empty, entries, entries-insert, from_entries, len-empty, len-entries}
@@ -51,6 +52,27 @@ module _ {K : Type 0} {R : K → K → Ordering} (o : IsTotalOrder R) where
   pub all_sorted : (xs : List K) → with_all R xs [] ≡ sorted_by R xs
   all_sorted [] = sym (sorted_none R)
   all_sorted (x ∷ xs) = ap (λ (ks : List K). insert_key R ks x) (all_sorted xs) ∙ sym (sorted_one_more x xs)
+
+  twice : (ks : List K) (x : K) → insert_key R (insert_key R ks x) x ≡ insert_key R ks x
+  twice [] x = ap (λ (r : Ordering). match_ordering r (x ∷ x ∷ []) (x ∷ []) (x ∷ x ∷ [])) (tied_itself o x)
+  twice (y ∷ ks) x = by (R x y) refl (twice ks x)
+    where
+      by : (r : Ordering) → R x y ≡ r → insert_key R (insert_key R ks x) x ≡ insert_key R ks x
+          → insert_key R (match_ordering r (x ∷ y ∷ ks) (y ∷ ks) (y ∷ insert_key R ks x)) x ≡ match_ordering r (x ∷ y ∷ ks) (y ∷ ks) (y ∷ insert_key R ks x)
+      by Less e same = ap (λ (r : Ordering). match_ordering r (x ∷ x ∷ y ∷ ks) (x ∷ y ∷ ks) (x ∷ insert_key R (y ∷ ks) x)) (tied_itself o x)
+      by Equal e same = ap (λ (r : Ordering). match_ordering r (x ∷ y ∷ ks) (y ∷ ks) (y ∷ insert_key R ks x)) e
+      by Greater e same =
+          ap (λ (r : Ordering). match_ordering r (x ∷ y ∷ insert_key R ks x) (y ∷ insert_key R ks x) (y ∷ insert_key R (insert_key R ks x) x)) e
+          ∙ ap (λ (zs : List K). y ∷ zs) same
+
+  -- an item that stands twice in a row counts once
+  pub sorted_twice : (front : List K) (x : K) (rest : List K) → sorted_by R (front ++ x ∷ x ∷ rest) ≡ sorted_by R (front ++ x ∷ rest)
+  sorted_twice [] x rest =
+      let one = sorted_one_more x rest in
+      sorted_one_more x (x ∷ rest) ∙ ap (λ (ks : List K). insert_key R ks x) one ∙ twice (sorted_by R rest) x ∙ sym one
+  sorted_twice (y ∷ front) x rest =
+      sorted_one_more y (front ++ x ∷ x ∷ rest) ∙ ap (λ (ks : List K). insert_key R ks y) (sorted_twice front x rest)
+      ∙ sym (sorted_one_more y (front ++ x ∷ rest))
 
 -- the same of texts
 pub texts_sorted : (texts : List Text) → with_all (slice_cmp nat_cmp) texts [] ≡ sorted_once texts

@@ -1,6 +1,6 @@
 //! Public parts of actions in the order of their lines.
 
-ghost use Rattle.std.specs.Prelude.{◌≡◌, ◌==◌, map, IfOk};
+ghost use Rattle.std.specs.Prelude.{◌≡◌, ◌==◌, map, reverse, IfOk};
 ghost use Rattle.std.specs.Ordering.{nat_cmp, on, as_partial_cmp};
 ghost use Rattle.std.specs.Cmp.{partial_order_from_own_ties};
 ghost use Rattle.std.specs.Cmp.Rules.{comparing};
@@ -15,7 +15,6 @@ use mp_list::{List, OutOfMemory};
 use mp_messages::Bytes;
 use std::alloc::Global;
 use std::cmp::Ordering;
-use std::collections::BTreeSet;
 
 /// A part with its line, by which alone it is compared.
 #[derive(Drop)]
@@ -71,25 +70,25 @@ fn with_line(alloc: Global, part: Part) -> Result<LinedPart, OutOfMemory>
     Ok(LinedPart { line, part })
 }
 
-/// The set of some parts, each with its line: of those of one line it has the last.
-#[tactic(auto, using(crate::proofs::PartLemmas::part_steps))]
-fn set_of(alloc: Global, parts: Vec<Part>) -> Result<BTreeSet<LinedPart>, OutOfMemory>
-    ensures { IfOk result (λ set. map (λ p. p.part) set.keys ≡ parts_sorted parts.items) }
+/// Parts with their lines, the last one first: so that of those of one line the last one comes first.
+fn with_lines(alloc: Global, parts: Vec<Part>) -> Result<Vec<LinedPart>, OutOfMemory>
+    ensures { IfOk result (λ lined. lined.items
+        ≡ map (λ p. record { line = part_line p; part = p }) (reverse parts.items)) }
 {
-    let mut set = BTreeSet::new(alloc);
+    let mut lined = Vec::with_capacity(alloc, parts.len())?;
     let mut left = parts;
     while let Some(part) = left.pop() {
-        set.insert(with_line(alloc, part)?)?;
+        lined.push(with_line(alloc, part)?)?;
     }
-    Ok(set)
+    Ok(lined)
 }
 
-/// The parts of a set.
-fn list_of(alloc: Global, set: BTreeSet<LinedPart>) -> Result<PartList, OutOfMemory>
-    ensures { IfOk result (λ list. list ≡ map (λ p. p.part) set.keys) }
+/// The parts without their lines, as a list.
+fn list_of(alloc: Global, parts: Vec<LinedPart>) -> Result<PartList, OutOfMemory>
+    ensures { IfOk result (λ list. list ≡ map (λ p. p.part) parts.items) }
 {
-    let mut list = List::with_capacity(alloc, set.len())?;
-    for lined in set {
+    let mut list = List::with_capacity(alloc, parts.len())?;
+    for lined in parts {
         let LinedPart { line, part } = lined;
         drop(line);
         list.push(part)?;
@@ -101,6 +100,8 @@ fn list_of(alloc: Global, set: BTreeSet<LinedPart>) -> Result<PartList, OutOfMem
 pub fn sorted_parts(alloc: Global, parts: Vec<Part>) -> Result<PartList, OutOfMemory>
     ensures { IfOk result (λ sorted. sorted ≡ parts_sorted parts.items) }
 {
-    let set = set_of(alloc, parts)?;
-    list_of(alloc, set)
+    let mut sorted = with_lines(alloc, parts)?;
+    sorted.sort()?;
+    sorted.dedup();
+    list_of(alloc, sorted)
 }

@@ -21,12 +21,12 @@ pub(crate) fn set_of(alloc: Global, texts: Vec<Name>) -> Result<BTreeSet<Name>, 
     Ok(set)
 }
 
-/// The texts of a set.
-fn list_of(alloc: Global, set: BTreeSet<Name>) -> Result<NameList, OutOfMemory>
-    ensures { IfOk result (λ list. list ≡ set.keys) }
+/// The same texts as a list.
+fn list_of(alloc: Global, texts: Vec<Name>) -> Result<NameList, OutOfMemory>
+    ensures { IfOk result (λ list. list ≡ texts.items) }
 {
-    let mut list = List::with_capacity(alloc, set.len())?;
-    for text in set {
+    let mut list = List::with_capacity(alloc, texts.len())?;
+    for text in texts {
         list.push(text)?;
     }
     Ok(list)
@@ -36,6 +36,8 @@ fn list_of(alloc: Global, set: BTreeSet<Name>) -> Result<NameList, OutOfMemory>
 pub fn sorted_once(alloc: Global, texts: Vec<Name>) -> Result<NameList, OutOfMemory>
     ensures { IfOk result (λ sorted. sorted ≡ once_sorted texts.items) }
 {
-    let set = set_of(alloc, texts)?;
-    list_of(alloc, set)
+    let mut sorted = texts;
+    sorted.sort_unstable();
+    sorted.dedup();
+    list_of(alloc, sorted)
 }

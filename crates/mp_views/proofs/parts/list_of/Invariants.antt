@@ -1,6 +1,10 @@
-use Rattle.std.proofs.Common.{◌≡◌, ◌++◌, map}
+use Rattle.std.proofs.Common.{◌≡◌, ◌++◌, length, map}
+use Rattle.std.specs.Vec.Iter.{into_iter_items, into_iter_len}
 use Rattle.mp_views.proofs.PartLemmas.{part_of}
 use Rattle.mp_views.proofs.parts.list_of.Given as goal
 
 abbrev pub invariant-loop-lined : goal.invariant-loop-lined
-invariant-loop-lined l = l.list ++ map part_of l.lined-iterator ≡ map part_of l.fn.set.keys
+invariant-loop-lined l = record {
+  count : into_iter_len l.lined-iterator ≡ length (into_iter_items l.lined-iterator);
+  moved : l.list ++ map part_of (into_iter_items l.lined-iterator) ≡ map part_of l.fn.parts.items;
+}
