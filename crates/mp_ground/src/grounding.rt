@@ -85,5 +85,5 @@ pub fn ground(
     let list = all_instances(alloc, me, &lifted)?;
     let numbered = numbered(alloc, me, &lifted, list)?;
     let names = fact_names(alloc, factor.factor())?;
-    Ok(turned(alloc, me, &names, &numbered)?)
+    Ok(turned(alloc, me, &names, numbered)?)
 }

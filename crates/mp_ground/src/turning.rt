@@ -1,6 +1,6 @@
 //! What a factor that is grounded in numbers becomes.
 
-ghost use Rattle.std.specs.Prelude.{◌≡◌, ◌≤◌, length, map, IfOk};
+ghost use Rattle.std.specs.Prelude.{◌≡◌, ◌≤◌, ◌++◌, ◌∷◌, [], length, map, IfOk, OnOk};
 ghost use Rattle.mp_ground.specs.Numbered.{act_at, binding_at, ground_at};
 
 use crate::grounded::Ground;
@@ -9,7 +9,7 @@ use crate::places::{Places, private_places, public_places};
 use crate::texts::publics_of;
 use mp_atoms::{ActionBinding, ActionBindingList};
 use mp_ground_facts::{GroundAction, GroundFactor};
-use mp_list::{Copied, List, OutOfMemory};
+use mp_list::{List, OutOfMemory};
 use mp_sets::Agent;
 use mp_task::{Act, ActList};
 use std::alloc::Global;
@@ -37,38 +37,52 @@ fn act_of(
     })
 }
 
-/// Actions with their facts by their places.
-fn acts_of(alloc: Global, places: &Places, actions: &[GroundAction]) -> Result<ActList, OutOfMemory>
-    ensures { IfOk result (λ acts. acts ≡ map (act_at places.now) actions.now) }
+/// Adds an action with its facts by their places, and what it stands for. What `scratch` has is lost.
+fn add_action(
+    alloc: Global,
+    scratch: &mut Vec<u32>,
+    places: &Places,
+    action: GroundAction,
+    acts: &mut ActList,
+    steps: &mut ActionBindingList,
+) -> Result<(), OutOfMemory>
+    ensures act { OnOk result (acts.new ≡ acts.old ++ act_at places.now action ∷ []) }
+    ensures step { OnOk result (steps.new ≡ steps.old ++ binding_at action ∷ []) }
 {
-    let mut scratch = Vec::new(alloc);
-    let mut acts = List::with_capacity(alloc, actions.len())?;
-    for action in actions {
-        acts.push(act_of(alloc, &mut scratch, places, action)?)?;
-    }
-    Ok(acts)
-}
-
-/// What an action stands for.
-fn binding_of(action: &GroundAction) -> Result<ActionBinding, OutOfMemory>
-    ensures { IfOk result (λ binding. binding ≡ binding_at action.now) }
-{
-    Ok(ActionBinding {
+    acts.push(act_of(alloc, scratch, places, &action)?)?;
+    steps.push(ActionBinding {
         action: action.action,
-        objects: action.objects.copy()?,
+        objects: action.objects,
         cost: action.cost,
-    })
+    })?;
+    Ok(())
 }
 
-/// What actions stand for.
-fn bindings_of(alloc: Global, actions: &[GroundAction]) -> Result<ActionBindingList, OutOfMemory>
-    ensures { IfOk result (λ bindings. bindings ≡ map binding_at actions.now) }
+/// The own actions of an agent.
+#[derive(Drop)]
+struct OwnActions {
+    /// With their facts by their places.
+    acts: ActList,
+    /// What they stand for.
+    steps: ActionBindingList,
+}
+
+/// Actions with their facts by their places, and what they stand for. What `scratch` has is lost.
+fn own_actions(
+    alloc: Global,
+    scratch: &mut Vec<u32>,
+    places: &Places,
+    actions: List<GroundAction>,
+) -> Result<OwnActions, OutOfMemory>
+    ensures acts { IfOk result (λ own. own.acts ≡ map (act_at places.now) actions) }
+    ensures steps { IfOk result (λ own. own.steps ≡ map binding_at actions) }
 {
-    let mut bindings = List::with_capacity(alloc, actions.len())?;
-    for action in actions {
-        bindings.push(binding_of(action)?)?;
+    let mut acts = List::with_capacity(alloc, actions.len())?;
+    let mut steps = List::with_capacity(alloc, actions.len())?;
+    for action in actions.into_items() {
+        add_action(alloc, scratch, places, action, &mut acts, &mut steps)?;
     }
-    Ok(bindings)
+    Ok(OwnActions { acts, steps })
 }
 
 /// The factor of an agent that is grounded in numbers, with its facts by their places.
@@ -76,10 +90,10 @@ pub fn turned(
     alloc: Global,
     me: Agent,
     names: &FactNames<'_>,
-    numbered: &GroundFactor,
+    numbered: GroundFactor,
 ) -> Result<Ground, OutOfMemory>
-    requires { length numbered.now.facts ≤ 65535 }
-    ensures { IfOk result (λ made. made ≡ ground_at me names.now numbered.now) }
+    requires { length numbered.facts ≤ 65535 }
+    ensures { IfOk result (λ made. made ≡ ground_at me names.now numbered) }
 {
     let publics = publics_of(alloc, names, numbered.facts.as_slice())?;
     let places = &publics.places;
@@ -88,8 +102,7 @@ pub fn turned(
     let goals = numbered.goals.as_slice();
     let goal_pub = public_places(alloc, &mut scratch, places, goals)?;
     let goal_priv = private_places(alloc, &mut scratch, places, goals)?;
-    let acts = acts_of(alloc, places, numbered.actions.as_slice())?;
-    let steps = bindings_of(alloc, numbered.actions.as_slice())?;
+    let own = own_actions(alloc, &mut scratch, places, numbered.actions)?;
     Ok(Ground {
         me,
         privates: publics.places.privates,
@@ -97,7 +110,7 @@ pub fn turned(
         start,
         goal_pub,
         goal_priv,
-        acts,
-        steps,
+        acts: own.acts,
+        steps: own.steps,
     })
 }

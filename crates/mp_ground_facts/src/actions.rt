@@ -8,9 +8,9 @@ use crate::fact::GroundFact;
 use crate::grounded::GroundAction;
 use crate::numbers::{add_complements, add_numbers};
 use indexmap::IndexSet;
-use mp_atoms::ActionBinding;
+use mp_atoms::{ActionBinding, ActionBindingList};
 use mp_lifted::{LiftedAction, LiftedFactor};
-use mp_list::{Copied, List, OutOfMemory};
+use mp_list::{List, OutOfMemory};
 use std::alloc::Global;
 
 /// The numbers of what an action needs.
@@ -82,17 +82,17 @@ fn action_with(
     scratch: &mut Vec<u32>,
     facts: &IndexSet<GroundFact>,
     factor: &LiftedFactor,
-    instance: &ActionBinding,
+    instance: ActionBinding,
     action: &LiftedAction,
 ) -> Result<GroundAction, OutOfMemory>
     requires { length facts.now.keys ≤ 65535 }
     ensures { IfOk result (λ made. made ≡ record {
-      action = instance.now.action;
-      objects = instance.now.objects;
-      cost = instance.now.cost;
-      pre = numbers_of facts.now.keys (needed factor.now action.now instance.now.objects);
-      add = numbers_of facts.now.keys (added factor.now action.now instance.now.objects);
-      del = numbers_of facts.now.keys (deleted factor.now action.now instance.now.objects);
+      action = instance.action;
+      objects = instance.objects;
+      cost = instance.cost;
+      pre = numbers_of facts.now.keys (needed factor.now action.now instance.objects);
+      add = numbers_of facts.now.keys (added factor.now action.now instance.objects);
+      del = numbers_of facts.now.keys (deleted factor.now action.now instance.objects);
     }) }
 {
     let objects = instance.objects.as_slice();
@@ -101,7 +101,7 @@ fn action_with(
     let del = deleted_numbers(alloc, scratch, facts, factor, objects, action)?;
     Ok(GroundAction {
         action: instance.action,
-        objects: instance.objects.copy()?,
+        objects: instance.objects,
         cost: instance.cost,
         pre,
         add,
@@ -110,24 +110,24 @@ fn action_with(
 }
 
 /// An instance of an action that the factor does not have: it touches nothing.
-fn missing_action(alloc: Global, instance: &ActionBinding) -> Result<GroundAction, OutOfMemory>
-    ensures { IfOk result (λ made. made ≡ record {
-      action = instance.now.action;
-      objects = instance.now.objects;
-      cost = instance.now.cost;
+fn missing_action(alloc: Global, instance: ActionBinding) -> GroundAction
+    ensures { result ≡ record {
+      action = instance.action;
+      objects = instance.objects;
+      cost = instance.cost;
       pre = [];
       add = [];
       del = [];
-    }) }
+    } }
 {
-    Ok(GroundAction {
+    GroundAction {
         action: instance.action,
-        objects: instance.objects.copy()?,
+        objects: instance.objects,
         cost: instance.cost,
         pre: List::new(alloc),
         add: List::new(alloc),
         del: List::new(alloc),
-    })
+    }
 }
 
 /// An instance with the numbers of what it needs, adds and deletes.
@@ -136,15 +136,15 @@ fn ground_action(
     scratch: &mut Vec<u32>,
     facts: &IndexSet<GroundFact>,
     factor: &LiftedFactor,
-    instance: &ActionBinding,
+    instance: ActionBinding,
 ) -> Result<GroundAction, OutOfMemory>
     requires { length facts.now.keys ≤ 65535 }
     ensures { IfOk result (λ made. made
-        ≡ ground_action_of factor.now facts.now.keys instance.now) }
+        ≡ ground_action_of factor.now facts.now.keys instance) }
 {
     match factor.actions.get(instance.action) {
         Some(action) => action_with(alloc, scratch, facts, factor, instance, action),
-        None => missing_action(alloc, instance),
+        None => Ok(missing_action(alloc, instance)),
     }
 }
 
@@ -153,15 +153,15 @@ pub fn ground_actions(
     alloc: Global,
     facts: &IndexSet<GroundFact>,
     factor: &LiftedFactor,
-    instances: &[ActionBinding],
+    instances: ActionBindingList,
 ) -> Result<List<GroundAction>, OutOfMemory>
     requires { length facts.now.keys ≤ 65535 }
     ensures { IfOk result (λ made. made
-        ≡ map (ground_action_of factor.now facts.now.keys) instances.now) }
+        ≡ map (ground_action_of factor.now facts.now.keys) instances) }
 {
     let mut scratch = Vec::new(alloc);
     let mut made = List::with_capacity(alloc, instances.len())?;
-    for instance in instances {
+    for instance in instances.into_items() {
         made.push(ground_action(alloc, &mut scratch, facts, factor, instance)?)?;
     }
     Ok(made)

@@ -13,7 +13,7 @@ use crate::numbers::add_fact_numbers;
 use crate::refusal::FactRefusal;
 use crate::touched::sorted_facts;
 use indexmap::IndexSet;
-use mp_atoms::{ActionBinding, ActionBindingList, StartFacts};
+use mp_atoms::{ActionBindingList, StartFacts};
 use mp_lifted::LiftedFactor;
 use mp_list::{List, OutOfMemory};
 use std::alloc::Global;
@@ -85,11 +85,11 @@ fn ground_with(
     alloc: Global,
     factor: &LiftedFactor,
     facts: IndexSet<GroundFact>,
-    instances: &[ActionBinding],
+    instances: ActionBindingList,
 ) -> Result<GroundFactor, OutOfMemory>
     requires { length facts.keys ≤ 65535 }
     ensures { IfOk result (λ made. made
-        ≡ ground_with_facts factor.now facts.keys instances.now) }
+        ≡ ground_with_facts factor.now facts.keys instances) }
 {
     let actions = ground_actions(alloc, &facts, factor, instances)?;
     let start = start_numbers(alloc, factor, facts.as_slice())?;
@@ -120,5 +120,5 @@ pub fn ground_factor(
     if count > MAX_FACTS {
         return Err(FactRefusal::TooManyFacts(count as u64));
     }
-    Ok(ground_with(alloc, factor, facts, instances.as_slice())?)
+    Ok(ground_with(alloc, factor, facts, instances)?)
 }

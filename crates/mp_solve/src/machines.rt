@@ -8,38 +8,38 @@ ghost use Rattle.mp_solve.specs.Machines.{new_machines};
 ghost use Rattle.mp_task.specs.Agree.{Agree};
 ghost use Rattle.mp_task.specs.Limits.{IsWithinLimits};
 
-use mp_list::{Copied, OutOfMemory};
+use mp_list::OutOfMemory;
 use mp_machine::Machine;
 use mp_schedule::World;
-use mp_task::{Heuristic, Task};
+use mp_task::{Heuristic, Task, TaskList};
 use std::alloc::Global;
 
 /// A new machine for a task.
 fn machine_of<H: Heuristic>(
     alloc: Global,
-    task: &Task,
+    task: Task,
     limit: u64,
 ) -> Result<Machine<H>, OutOfMemory>
     requires from_1 { 1 ≤ limit }
     requires limit { limit ≤ 10000000 }
-    ensures { IfOk result (λ made. made ≡ new_machine H.value limit task.now) }
+    ensures { IfOk result (λ made. made ≡ new_machine H.value limit task) }
 {
-    let heuristic = H::make(alloc, task)?;
-    Machine::new(alloc, task.copy()?, heuristic, limit)
+    let heuristic = H::make(alloc, &task)?;
+    Machine::new(alloc, task, heuristic, limit)
 }
 
 /// A new machine for each task.
 fn machines_of<H: Heuristic>(
     alloc: Global,
-    tasks: &[Task],
+    tasks: TaskList,
     limit: u64,
 ) -> Result<Vec<Machine<H>>, OutOfMemory>
     requires from_1 { 1 ≤ limit }
     requires limit { limit ≤ 10000000 }
-    ensures { IfOk result (λ machines. machines.items ≡ new_machines H.value limit tasks.now) }
+    ensures { IfOk result (λ machines. machines.items ≡ new_machines H.value limit tasks) }
 {
     let mut machines = Vec::with_capacity(alloc, tasks.len())?;
-    for task in tasks {
+    for task in tasks.into_items() {
         machines.push(machine_of(alloc, task, limit)?)?;
     }
     Ok(machines)
@@ -64,18 +64,18 @@ fn are_within_limits(tasks: &[Task])
 /// A team of agents with these tasks, before they have done anything. Refuses only for want of memory.
 pub(crate) fn begun<H: Heuristic>(
     alloc: Global,
-    tasks: &[Task],
+    tasks: TaskList,
     limit: u64,
 ) -> Result<World<H>, OutOfMemory>
     requires from_1 { 1 ≤ limit }
     requires limit { limit ≤ 10000000 }
-    requires agree { Agree tasks.now }
-    requires some { 1 ≤ length tasks.now }
-    requires at_most { length tasks.now ≤ 16 }
-    ensures start { IfOk result (λ world. world ≡ start_run H.value limit tasks.now) }
-    ensures team { IfOk result (HasDoneAll H.value limit tasks.now []) }
+    requires agree { Agree tasks }
+    requires some { 1 ≤ length tasks }
+    requires at_most { length tasks ≤ 16 }
+    ensures start { IfOk result (λ world. world ≡ start_run H.value limit tasks) }
+    ensures team { IfOk result (HasDoneAll H.value limit tasks []) }
 {
-    are_within_limits(tasks);
+    are_within_limits(tasks.as_slice());
     let machines = machines_of(alloc, tasks, limit)?;
     let world = World::new(alloc, machines)?;
     world.comes_from_a_run();
@@ -85,15 +85,15 @@ pub(crate) fn begun<H: Heuristic>(
 /// The agents with these tasks take turns until all have ended. Refuses only for want of memory.
 pub(crate) fn ended<H: Heuristic>(
     alloc: Global,
-    tasks: &[Task],
+    tasks: TaskList,
     limit: u64,
 ) -> Result<World<H>, OutOfMemory>
     requires from_1 { 1 ≤ limit }
     requires limit { limit ≤ 10000000 }
-    requires agree { Agree tasks.now }
-    requires some { 1 ≤ length tasks.now }
-    requires at_most { length tasks.now ≤ 16 }
-    ensures { IfOk result (HasEnded H.value limit tasks.now) }
+    requires agree { Agree tasks }
+    requires some { 1 ≤ length tasks }
+    requires at_most { length tasks ≤ 16 }
+    ensures { IfOk result (HasEnded H.value limit tasks) }
 {
     let mut world = begun(alloc, tasks, limit)?;
     world.round_robin()?;

@@ -82,8 +82,7 @@ fn replayed<H: Heuristic>(
     are_checked(factors);
     tasks_stand_for_files();
     answers_are_right_for_files::<H>();
-    let mut world = begun::<H>(alloc, tasks.as_slice(), limit)?;
-    drop(tasks);
+    let mut world = begun::<H>(alloc, tasks, limit)?;
     match happen_all(&mut world, lines) {
         Ok(()) => Ok(told(alloc, factors, steps.as_slice(), views, world)?),
         Err(refusal) => Err(refusal),

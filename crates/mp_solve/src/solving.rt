@@ -50,8 +50,7 @@ fn solved<H: Heuristic>(
     are_checked(factors);
     tasks_stand_for_files();
     answers_are_right_for_files::<H>();
-    let world = ended::<H>(alloc, tasks.as_slice(), limit)?;
-    drop(tasks);
+    let world = ended::<H>(alloc, tasks, limit)?;
     told(alloc, factors, steps.as_slice(), views, world)
 }
 

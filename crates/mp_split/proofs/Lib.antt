@@ -10,6 +10,10 @@ pub mod TableNumbers
 pub mod InOrder
 -- a list that is made of what is taken from another one
 pub mod Taking
+-- actions whose numbers stay as they are
+pub mod InPlace
+-- parts of actions of which one that repeats the one before is left out
+pub mod Repeated
 -- what an agent shows: texts in their order, parts of its actions
 pub mod Showing
 -- what the agents of a team show together: the table of public facts, the parts of all actions

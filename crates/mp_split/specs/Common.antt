@@ -1,6 +1,6 @@
 -- The task of an agent from the table of the team's public facts and from what its tasks have in common, and what these
 -- have to fulfil.
-use Rattle.std.specs.Prelude.{◌≡◌, ℕ, ◌+◌, ◌≤◌, ◌==◌, [], ◌∷◌, not, true, List, All, length, map, filter, slice_index_or}
+use Rattle.std.specs.Prelude.{◌≡◌, ℕ, ◌+◌, ◌<◌, ◌≤◌, ◌==◌, [], ◌∷◌, not, true, List, All, length, map, filter, slice_index_or}
 use Rattle.std.specs.Cmp.Lexicographic.{slice_cmp}
 use Rattle.std.specs.List.{AllByRecursion, enumerate_from, flat_map}
 use Rattle.std.specs.List.Sorted.{IsStrictlyIncreasing, IsStrictlySortedBy}
@@ -61,6 +61,10 @@ act_at numbers act = record act {
   add_pub = map (λ n. slice_index_or numbers n 0) act.add_pub;
   del_pub = map (λ n. slice_index_or numbers n 0) act.del_pub;
 }
+
+-- the number at each place is that place
+abbrev pub ArePlaces : List ℕ → Type 0
+ArePlaces numbers = (n : ℕ) → n < length numbers → slice_index_or numbers n 0 ≡ n
 
 -- the task of an agent of a team with so many public facts that has these own actions and parts of the others' actions
 abbrev pub task_from : ℕ → Common → Ground → List Act → List Far → AgentTask

@@ -1,7 +1,9 @@
 //! What an agent shows of its factor after grounding.
 
-ghost use Rattle.std.specs.Prelude.{◌≡◌, ◌++◌, ◌∷◌, [], not, map, filter, slice_index_or, IfOk, OnOk};
+ghost use Rattle.std.specs.Prelude.{◌≡◌, ◌++◌, ◌∷◌, [], List, true, false, not, map, filter, option_copied, slice_index_or, Decides, IfOk, IsSomeAnd, OnOk};
+ghost use Rattle.mp_joint.specs.Fact.{Text};
 ghost use Rattle.mp_task.specs.Public.{is_public as is_public_act};
+ghost use Rattle.mp_views.specs.Parts.{sorted_parts as parts_in_order};
 ghost use Rattle.mp_ground.specs.Limits.{KeepsLimits};
 ghost use Rattle.mp_split.specs.Closed.{texts_at as texts_of, is_number_in, part_of as part_of_act, is_met as are_met, closed_view as view_of};
 
@@ -101,30 +103,42 @@ fn is_public(act: &Act) -> bool
     act.pre_pub.len() > 0 || act.add_pub.len() > 0 || act.del_pub.len() > 0
 }
 
-/// Adds the public part of an action, where it is public.
-fn add_part(
-    alloc: Global,
-    parts: &mut Vec<Part>,
-    table: &[Name],
-    act: &Act,
-) -> Result<(), OutOfMemory>
-    ensures { OnOk result (parts.new.items
-        ≡ parts.old.items ++ map (part_of_act table.now) (filter is_public_act (act.now ∷ []))) }
+/// Whether two actions have the same cost and the same public facts, so that they show the same part.
+fn shows_same(a: &Act, b: &Act) -> bool
+    ensures { Decides result ((a.now.cost ≡ b.now.cost) × (a.now.pre_pub ≡ b.now.pre_pub)
+        × (a.now.add_pub ≡ b.now.add_pub) × (a.now.del_pub ≡ b.now.del_pub)) }
 {
-    if is_public(act) {
-        parts.push(part_of(alloc, table, act)?)?;
-    }
-    Ok(())
+    a.cost == b.cost && a.pre_pub == b.pre_pub && a.add_pub == b.add_pub && a.del_pub == b.del_pub
 }
 
-/// The public parts of the public actions, as they come.
+/// Whether an action is public and shows another part than the last one that was shown, if there is one.
+fn is_new(last: Option<&Act>, act: &Act) -> bool
+    ensures public { result ≡ true → is_public_act act.now ≡ true }
+    ensures repeated { result ≡ false → is_public_act act.now ≡ true → IsSomeAnd (option_copied last.entry)
+        (λ b. (table : List Text) → part_of_act table b ≡ part_of_act table act.now) }
+{
+    if !is_public(act) {
+        return false;
+    }
+    match last {
+        Some(shown) => !shows_same(shown, act),
+        None => true,
+    }
+}
+
+/// Parts that are in order what the public parts of all public actions are. Actions that follow one another and show the
+/// same part have it made once.
 fn parts_of(alloc: Global, table: &[Name], acts: &[Act]) -> Result<Vec<Part>, OutOfMemory>
-    ensures { IfOk result (λ parts. parts.items
-        ≡ map (part_of_act table.now) (filter is_public_act acts.now)) }
+    ensures { IfOk result (λ parts. parts_in_order parts.items
+        ≡ parts_in_order (map (part_of_act table.now) (filter is_public_act acts.now))) }
 {
     let mut parts = Vec::new(alloc);
+    let mut last = None;
     for act in acts {
-        add_part(alloc, &mut parts, table, act)?;
+        if is_new(last, act) {
+            parts.push(part_of(alloc, table, act)?)?;
+            last = Some(act);
+        }
     }
     Ok(parts)
 }

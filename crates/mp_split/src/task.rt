@@ -1,8 +1,8 @@
 //! The tasks of a team from its grounded factors and from what the tasks have in common.
 
-ghost use Rattle.std.specs.Prelude.{◌≡◌, ◌++◌, ◌∷◌, ◌==◌, ◌≤◌, [], not, length, map, filter, All, IfOk, OnOk};
+ghost use Rattle.std.specs.Prelude.{◌≡◌, ◌++◌, ◌∷◌, ◌==◌, ◌≤◌, [], true, not, length, map, filter, All, IfOk, OnOk};
 ghost use Rattle.mp_task.specs.Limits.{ActFits, IsWithinLimits};
-ghost use Rattle.mp_split.specs.Common.{IsOfTeam, act_at, of_others, task_from, task_with};
+ghost use Rattle.mp_split.specs.Common.{ArePlaces, IsOfTeam, act_at, of_others, task_from, task_with};
 
 use crate::common::Common;
 use crate::numbers::{numbers_at, numbers_of};
@@ -13,6 +13,7 @@ use mp_names::NameTable;
 use mp_sets::{Agent, FactList};
 use mp_task::{Act, ActList, Far, FarList, Task, TaskList};
 use std::alloc::Global;
+use std::mem;
 
 /// An own action, with the numbers at its places for its public facts. What `scratch` has is lost.
 fn act_of(
@@ -20,41 +21,73 @@ fn act_of(
     scratch: &mut Vec<u32>,
     numbers: &FactList,
     privates: u32,
-    act: &Act,
+    act: Act,
 ) -> Result<Act, OutOfMemory>
-    requires { ActFits (length numbers.now) privates act.now }
-    ensures { IfOk result (λ made. made ≡ act_at numbers.now act.now) }
+    requires { ActFits (length numbers.now) privates act }
+    ensures { IfOk result (λ made. made ≡ act_at numbers.now act) }
 {
     let pre_pub = numbers_at(alloc, scratch, numbers, &act.pre_pub)?;
     let add_pub = numbers_at(alloc, scratch, numbers, &act.add_pub)?;
     let del_pub = numbers_at(alloc, scratch, numbers, &act.del_pub)?;
     Ok(Act {
         pre_pub,
-        pre_priv: act.pre_priv.copy()?,
+        pre_priv: act.pre_priv,
         add_pub,
-        add_priv: act.add_priv.copy()?,
+        add_priv: act.add_priv,
         del_pub,
-        del_priv: act.del_priv.copy()?,
+        del_priv: act.del_priv,
         cost: act.cost,
     })
 }
 
+/// Whether the number at each place is that place.
+fn are_places(numbers: &[u32]) -> bool
+    ensures { result ≡ true → ArePlaces numbers.now }
+{
+    let mut place = 0;
+    for number in numbers {
+        if *number as usize != place {
+            return false;
+        }
+        place += 1;
+    }
+    true
+}
+
 /// Own actions, with the numbers at their places for their public facts. What `scratch` has is lost.
+fn renumbered(
+    alloc: Global,
+    scratch: &mut Vec<u32>,
+    numbers: &FactList,
+    privates: u32,
+    acts: ActList,
+) -> Result<ActList, OutOfMemory>
+    requires { All (ActFits (length numbers.now) privates) acts }
+    ensures { IfOk result (λ made. made ≡ map (act_at numbers.now) acts) }
+{
+    let mut made = List::with_capacity(alloc, acts.len())?;
+    for act in acts.into_items() {
+        made.push(act_of(alloc, scratch, numbers, privates, act)?)?;
+    }
+    Ok(made)
+}
+
+/// Own actions, with the numbers at their places for their public facts: as they are, where each number is its place, as
+/// for a team whose agents all have the same public facts. What `scratch` has is lost.
 fn acts_of(
     alloc: Global,
     scratch: &mut Vec<u32>,
     numbers: &FactList,
     privates: u32,
-    acts: &[Act],
+    acts: ActList,
 ) -> Result<ActList, OutOfMemory>
-    requires { All (ActFits (length numbers.now) privates) acts.now }
-    ensures { IfOk result (λ made. made ≡ map (act_at numbers.now) acts.now) }
+    requires { All (ActFits (length numbers.now) privates) acts }
+    ensures { IfOk result (λ made. made ≡ map (act_at numbers.now) acts) }
 {
-    let mut made = List::with_capacity(alloc, acts.len())?;
-    for act in acts {
-        made.push(act_of(alloc, scratch, numbers, privates, act)?)?;
+    if are_places(numbers.as_slice()) {
+        return Ok(acts);
     }
-    Ok(made)
+    renumbered(alloc, scratch, numbers, privates, acts)
 }
 
 /// Adds a copy of a part, where it is another agent's.
@@ -105,25 +138,21 @@ fn task_from_parts(
     })
 }
 
-/// The task of an agent, where these are the public facts of the team.
+/// The task of an agent with these own actions, where these are the public facts of the team. The actions of the grounded
+/// factor itself are not looked at.
 fn task_of(
     alloc: Global,
     table: &NameTable<'_>,
     common: &Common,
     ground: &Ground,
+    acts: ActList,
 ) -> Result<Task, OutOfMemory>
-    requires { IsOfTeam table.now common.now ground.now }
-    ensures { IfOk result (λ task. task ≡ task_with table.now common.now ground.now) }
+    requires { IsOfTeam table.now common.now (record ground.now { acts = acts }) }
+    ensures { IfOk result (λ task. task ≡ task_with table.now common.now (record ground.now { acts = acts })) }
 {
     let mut scratch = Vec::new(alloc);
     let numbers = numbers_of(alloc, &mut scratch, table, ground.publics.as_slice())?;
-    let acts = acts_of(
-        alloc,
-        &mut scratch,
-        &numbers,
-        ground.privates,
-        ground.acts.as_slice(),
-    )?;
+    let acts = acts_of(alloc, &mut scratch, &numbers, ground.privates, acts)?;
     let far = others_of(alloc, ground.me, common.parts.as_slice())?;
     task_from_parts(table.len() as u32, common, ground, acts, far)
 }
@@ -133,7 +162,7 @@ fn add_task(
     alloc: Global,
     table: &NameTable<'_>,
     common: &Common,
-    ground: Ground,
+    mut ground: Ground,
     tasks: &mut TaskList,
     steps: &mut StepsList,
 ) -> Result<(), OutOfMemory>
@@ -141,7 +170,8 @@ fn add_task(
     ensures task { OnOk result (tasks.new ≡ tasks.old ++ task_with table.now common.now ground ∷ []) }
     ensures steps { OnOk result (steps.new ≡ steps.old ++ ground.steps ∷ []) }
 {
-    tasks.push(task_of(alloc, table, common, &ground)?)?;
+    let acts = mem::replace(&mut ground.acts, List::new(alloc));
+    tasks.push(task_of(alloc, table, common, &ground, acts)?)?;
     steps.push(ground.steps)?;
     Ok(())
 }

@@ -2,7 +2,6 @@ use Rattle.std.proofs.Common.{◌≡◌, List, ap, length, map, subst, sym, ◌�
 use Rattle.std.specs.Prelude.{All}
 use Rattle.mp_messages.specs.declared.history.Event.{Event}
 use Rattle.mp_schedule.specs.Happening.{IsOfTeam}
-use Rattle.mp_task.specs.Agree.{Agree}
 use Rattle.mp_text.specs.Outcome.{outcome_text}
 use Rattle.mp_text.specs.declared.schedule.EventLine.{EventLine}
 use Rattle.mp_world.specs.Answers.{outcome_of}
@@ -15,13 +14,13 @@ use Rattle.mp_solve.proofs.replaying.replayed.Goals as goal
 pub begun-requires-clause-agree : goal.begun-requires-clause-agree
 begun-requires-clause-agree g c =
     let stands = c.tasks_stand_for_files.ensures c.args.factors.now c.args.given c.are_checked.ensures c.requires.tasks in
-    subst Agree (sym c.as_slice.ensures) stands.2.agree
+    stands.2.agree
 
 pub happen_all-requires-clause-of_team : goal.happen_all-requires-clause-of_team
 happen_all-requires-clause-of_team g c =
     let stands = c.tasks_stand_for_files.ensures c.args.factors.now c.args.given c.are_checked.ensures c.requires.tasks in
     let size : length c.in_ok-world.world.tasks ≡ length c.args.factors.now =
-    ap length c.in_ok-world.ensures.team.tasks_are ∙ ap length c.as_slice.ensures ∙ stands.2.one_each in
+    ap length c.in_ok-world.ensures.team.tasks_are ∙ stands.2.one_each in
     subst (λ n. All (λ (line : EventLine). IsOfTeam n line.event) c.args.lines.now) (sym size) c.requires.of_team
 
 pub returns-in-Ok-clause-found : goal.returns-in-Ok-clause-found
@@ -33,11 +32,11 @@ returns-in-Ok-clause-found g c =
     let schedule : List Event = map (λ (line : EventLine). line.event) c.args.lines.now in
     let done : HasDoneAll value c.args.limit c.args.given.tasks schedule r =
     done_for value c.args.limit begun.limit c.args.given.tasks begun.tasks schedule r c.in_ok-world.ensures.team.limit_is
-    (c.in_ok-world.ensures.team.tasks_are ∙ c.as_slice.ensures) c.in-Ok.ensures.done in
+    c.in_ok-world.ensures.team.tasks_are c.in-Ok.ensures.done in
     let s = c.in_ok-told-in-Ok.field-0 in
     let told = c.in_ok-told-in-Ok.ensures in
     is_found value c.args.limit c.args.factors.now c.args.given schedule r law c.are_checked.ensures
     c.requires.some c.requires.tasks c.requires.limit done s told.answer told.log
     (subst (λ steps. s.text ≡ outcome_text (outcome_of r.world) (names_of c.args.factors.now steps) r.log)
-    c.as_slice-in-Ok.ensures told.text)
+    c.as_slice.ensures told.text)
     told.views

@@ -1,11 +1,9 @@
-use Rattle.std.proofs.Common.{◌≡◌, ◌≤◌, length, subst, sym, ap, ◌∙◌}
+use Rattle.std.proofs.Common.{◌≡◌, ◌≤◌, length, subst, sym}
 use Rattle.std.specs.Prelude.{IfOk}
-use Rattle.mp_task.specs.Agree.{Agree}
 use Rattle.mp_text.specs.Outcome.{outcome_text}
 use Rattle.mp_world.specs.Answers.{outcome_of}
 use Rattle.mp_outcome.specs.Names.{names_of}
 use Rattle.mp_solutions.specs.declared.solution.Solution.{Solution}
-use Rattle.mp_solve.specs.Ended.{HasEnded}
 use Rattle.mp_solve.proofs.Ends.{of_itself}
 use Rattle.mp_solve.proofs.Solutions.{AnswersAreRight, if_solution}
 use Rattle.mp_solve.proofs.solving.solved.Goals as goal
@@ -13,11 +11,11 @@ use Rattle.mp_solve.proofs.solving.solved.Goals as goal
 pub ended-requires : goal.ended-requires
 ended-requires g c =
     let stands = c.tasks_stand_for_files.ensures c.args.factors.now c.args.given c.are_checked.ensures c.requires.tasks in
-    let size : length c.as_slice.result.now ≡ length c.args.factors.now = ap length c.as_slice.ensures ∙ stands.2.one_each in
+    let size : length c.args.given.tasks ≡ length c.args.factors.now = stands.2.one_each in
     record {
       from_1 = c.requires.from_1;
       limit = c.requires.limit;
-      agree = subst Agree (sym c.as_slice.ensures) stands.2.agree;
+      agree = stands.2.agree;
       some = subst (λ n. 1 ≤ n) (sym size) c.requires.some;
       at_most = subst (λ n. n ≤ 16) (sym size) c.requires.at_most;
     }
@@ -27,7 +25,7 @@ told-requires g c =
     let r = c.in_ok-world.world in
     record {
       team = c.requires.at_most;
-      done = of_itself g.H.Heuristic.value c.args.limit c.as_slice.result.now r.schedule r c.in_ok-world.ensures.done;
+      done = of_itself g.H.Heuristic.value c.args.limit c.args.given.tasks r.schedule r c.in_ok-world.ensures.done;
     }
 
 pub returns : goal.returns
@@ -36,8 +34,8 @@ returns g c =
     let r = c.in_ok-world.world in
     if_solution g.H.Heuristic.value c.args.limit c.args.factors.now c.args.given r law c.are_checked.ensures
     c.requires.some c.requires.tasks c.requires.limit
-    (subst (λ ts. HasEnded g.H.Heuristic.value c.args.limit ts r) c.as_slice.ensures c.in_ok-world.ensures)
+    c.in_ok-world.ensures
     c.told.result c.told.ensures.views c.told.ensures.log c.told.ensures.answer
     (subst (λ steps. IfOk c.told.result (λ (s : Solution). s.text
-    ≡ outcome_text (outcome_of r.world) (names_of c.args.factors.now steps) r.log)) c.as_slice-2.ensures
+    ≡ outcome_text (outcome_of r.world) (names_of c.args.factors.now steps) r.log)) c.as_slice.ensures
     c.told.ensures.text)

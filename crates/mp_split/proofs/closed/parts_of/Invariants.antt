@@ -1,8 +1,6 @@
-use Rattle.std.proofs.Common.{◌≡◌, map, take}
-use Rattle.std.specs.Prelude.{filter}
-use Rattle.mp_task.specs.Public.{is_public}
-use Rattle.mp_split.specs.Closed.{part_of}
+use Rattle.std.proofs.Common.{take, option_copied}
+use Rattle.mp_split.proofs.Repeated.{AreShown}
 use Rattle.mp_split.proofs.closed.parts_of.Given as goal
 
 abbrev pub invariant-loop-act : goal.invariant-loop-act
-invariant-loop-act l = l.parts.items ≡ map (part_of l.table) (filter is_public (take l.act-index l.acts))
+invariant-loop-act l = AreShown l.table l.parts.items (take l.act-index l.acts) (option_copied l.last)

@@ -1,8 +1,6 @@
-use Rattle.std.proofs.Common.{◌≡◌, List, length, All, ap, subst, sym, ◌∙◌, map}
+use Rattle.std.proofs.Common.{◌≡◌, ap, ◌∙◌, length, map}
 use Rattle.std.proofs.lemmas.Result.{IfOk-weaker}
-use Rattle.mp_task.specs.declared.act.Act.{Act}
 use Rattle.mp_task.specs.AgentTask.{AgentTask}
-use Rattle.mp_task.specs.Limits.{ActFits}
 use Rattle.mp_ground.specs.Places.{text_places_in}
 use Rattle.mp_split.specs.Common.{act_at, of_others, task_from, task_with}
 use Rattle.mp_split.proofs.OneTask.{fits_numbers, put_together, put_within}
@@ -11,31 +9,30 @@ use Rattle.mp_split.proofs.task.task_of.Goals as goal
 pub acts_of-requires : goal.acts_of-requires
 acts_of-requires c =
     let table = c.args.table.now in
-    let g = c.args.ground.now in
+    let g = record c.args.ground.now { acts = c.args.acts } in
     let numbers = c.in_ok-numbers.numbers in
-    subst (λ (acts : List Act). All (ActFits (length numbers) g.privates) acts) (sym c.as_slice-2.ensures)
-    (fits_numbers table c.args.common.now g c.requires numbers (c.in_ok-numbers.ensures ∙ ap (text_places_in table) c.as_slice.ensures))
+    fits_numbers table c.args.common.now g c.requires numbers (c.in_ok-numbers.ensures ∙ ap (text_places_in table) c.as_slice.ensures)
 
 pub task_from_parts-requires-clause-within : goal.task_from_parts-requires-clause-within
 task_from_parts-requires-clause-within c =
     let table = c.args.table.now in
-    let g = c.args.ground.now in
+    let g = record c.args.ground.now { acts = c.args.acts } in
     let numbers = c.in_ok-numbers.numbers in
     put_within table c.args.common.now g c.requires c.len.result numbers c.in_ok-acts.acts c.in_ok-far.far c.len.ensures
     (c.in_ok-numbers.ensures ∙ ap (text_places_in table) c.as_slice.ensures)
-    (c.in_ok-acts.ensures ∙ ap (map (act_at numbers)) c.as_slice-2.ensures)
-    (c.in_ok-far.ensures ∙ ap (of_others g.me) c.as_slice-3.ensures)
+    c.in_ok-acts.ensures
+    (c.in_ok-far.ensures ∙ ap (of_others g.me) c.as_slice-2.ensures)
 
 pub returns : goal.returns
 returns c =
     let table = c.args.table.now in
     let common = c.args.common.now in
-    let g = c.args.ground.now in
+    let g = record c.args.ground.now { acts = c.args.acts } in
     let numbers = c.in_ok-numbers.numbers in
     let made = task_from c.len.result common g c.in_ok-acts.acts c.in_ok-far.far in
     let same = put_together table common g c.requires c.len.result numbers c.in_ok-acts.acts c.in_ok-far.far c.len.ensures
     (c.in_ok-numbers.ensures ∙ ap (text_places_in table) c.as_slice.ensures)
-    (c.in_ok-acts.ensures ∙ ap (map (act_at numbers)) c.as_slice-2.ensures)
-    (c.in_ok-far.ensures ∙ ap (of_others g.me) c.as_slice-3.ensures) in
+    c.in_ok-acts.ensures
+    (c.in_ok-far.ensures ∙ ap (of_others g.me) c.as_slice-2.ensures) in
     IfOk-weaker c.task_from_parts.result (λ (t : AgentTask). t ≡ made) (λ (t : AgentTask). t ≡ task_with table common g)
     (λ t is. is ∙ same) c.task_from_parts.ensures

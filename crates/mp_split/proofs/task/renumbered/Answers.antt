@@ -1,0 +1,22 @@
+use Rattle.std.proofs.Common.{arith, [], ◌∷◌, ◌++◌, length, map, ap, ◌∙◌}
+use Rattle.std.specs.Vec.Iter.{into_iter_items}
+use Rattle.mp_task.specs.declared.act.Act.{Act}
+use Rattle.mp_task.specs.Limits.{ActFits}
+use Rattle.mp_split.specs.Common.{act_at}
+use Rattle.mp_split.proofs.Taking.{one_taken, taken_tail}
+use Rattle.mp_split.proofs.task.renumbered.Goals as goal
+
+pub loop-act-preserved : goal.loop-act-preserved
+loop-act-preserved c =
+    let l = c.loop-act in
+    let numbers = c.args.numbers.now in
+    let before = into_iter_items l.act-iterator in
+    let rest = into_iter_items c.next.new.self in
+    let act = c.in-Some.act in
+    let step = c.in-Some.ensures.steps in
+    record {
+      count = let a = l.invariant.count in let b = step.1 in let d = ap length step.0 in omega arith;
+      made = one_taken (act_at numbers) l.made c.push.new.self _ before rest act step.0
+          (c.in_ok-push.ensures.ok ∙ ap (λ (x : Act). l.made ++ x ∷ []) c.in_ok-act_of.ensures) l.invariant.made;
+      fits = taken_tail (ActFits (length numbers) c.args.privates) before rest act step.0 l.invariant.fits;
+    }
