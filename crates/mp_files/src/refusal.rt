@@ -3,6 +3,7 @@
 use mp_factor::File;
 use mp_list::OutOfMemory;
 use mp_sexp::{Name, Place};
+use thiserror::Error;
 
 /// One of the files of a team.
 #[derive(Clone, Copy, Debug, PartialEq, Eq)]
@@ -14,7 +15,7 @@ pub struct FileOf {
 }
 
 /// What is wrong with a file.
-#[derive(Drop)]
+#[derive(Debug, Drop)]
 pub enum Fault {
     /// A byte outside a comment is none of a text's bytes.
     Char,
@@ -43,15 +44,19 @@ pub enum Fault {
 }
 
 /// Why the files of a team are refused.
-#[derive(Drop)]
+#[derive(Debug, Drop, Error)]
 pub enum Refusal {
     /// The file is not held, or reading it failed.
+    #[error("read")]
     Read(FileOf),
     /// The file has more than 4,194,304 bytes.
+    #[error("too large")]
     TooLarge(FileOf),
     /// The file has a fault, the first one at this place of it.
+    #[error("fault")]
     Fault(FileOf, Fault, Place),
     /// No memory was left.
+    #[error("out of memory")]
     OutOfMemory,
 }
 

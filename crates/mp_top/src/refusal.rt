@@ -18,26 +18,33 @@ use mp_list::OutOfMemory;
 use mp_outside::{Sink, put_all};
 use mp_sets::Agent;
 use mp_sexp::Place;
+use thiserror::Error;
 
 /// Why the file of a schedule is refused.
-#[derive(Clone, Copy, Debug, PartialEq, Eq)]
+#[derive(Clone, Copy, Debug, PartialEq, Eq, Error)]
 pub enum ScheduleRefusal {
     /// The file is not held, or reading it failed.
+    #[error("read")]
     Read,
     /// The file has more than 67,108,864 bytes.
+    #[error("too large")]
     TooLarge,
     /// The line of this number, from 1, is neither of an event nor of a message, or its event may not happen.
+    #[error("line {0}")]
     Line(u64),
 }
 
 /// Why a call of accepted words ends without an outcome, before anything is written.
-#[derive(Drop)]
+#[derive(Debug, Drop, Error)]
 pub enum Refusal {
     /// The files of the team are refused.
+    #[error("files")]
     Files(FilesRefusal),
     /// The factor of an agent is not grounded, since it is too large.
+    #[error("sizes")]
     Sizes(GroundRefusal),
     /// The file of the schedule is refused.
+    #[error("schedule")]
     Schedule(ScheduleRefusal),
 }
 
