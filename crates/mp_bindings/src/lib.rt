@@ -6,8 +6,6 @@ mod enumeration;
 mod laws;
 mod stop;
 mod takes;
-#[cfg(test)]
-mod tests;
 
 pub use choices::Choices;
 pub use enumeration::walk;

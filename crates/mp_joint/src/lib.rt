@@ -10,6 +10,3 @@ pub use fact::{NamedFact, SignedFact, SignedFactList};
 pub use laws::{worked_groundings, worked_plans, worked_predicates};
 pub use mp_sets::Agent;
 pub use plan::{JointPlan, Names, PlanStep};
-
-#[cfg(test)]
-mod tests;

@@ -11,6 +11,3 @@ pub use copied::Copied;
 pub use laws::{first_is_one, repeat_has_earlier};
 pub use list::List;
 pub use memory::OutOfMemory;
-
-#[cfg(test)]
-mod tests;

@@ -16,6 +16,3 @@ pub use laws::{
     spelling_is_one_to_one, spellings_are_read_from_left_to_right,
 };
 pub use message::{EndKind, Findings, Message, State};
-
-#[cfg(test)]
-mod tests;

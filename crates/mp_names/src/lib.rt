@@ -6,6 +6,3 @@ mod table;
 
 pub use laws::numbers_are_places;
 pub use table::NameTable;
-
-#[cfg(test)]
-mod tests;

@@ -26,17 +26,3 @@ pub struct NoGate;
 impl Gate for NoGate {
     fn pass(&self, _agent: Agent, _kind: Kind3) {}
 }
-
-#[cfg(test)]
-mod tests {
-    use super::*;
-    use std::test::Fail;
-
-    #[test]
-    fn lets_each_act_pass(_rt: HostRuntime) -> Result<(), Fail> {
-        for kind in [Kind3::Expand, Kind3::Take, Kind3::Start] {
-            NoGate.pass(Agent::first(), kind);
-        }
-        Ok(())
-    }
-}

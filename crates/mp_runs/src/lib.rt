@@ -3,8 +3,6 @@
 
 mod laws;
 mod takes;
-#[cfg(test)]
-mod tests;
 
 pub use laws::{
     costs_of_appended_plans, runs_have_what_steps_keep, runs_of_appended_lists,

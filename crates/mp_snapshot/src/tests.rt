@@ -1,12 +1,9 @@
-//! Verdicts, markers and reports of small teams, worked out by hand.
+//! Verdicts on small teams, worked out by hand.
 
-ghost use Rattle.mp_snapshot.specs.Rules.{IsAnother, IsSameTeam};
-
+use crate::Verdict;
 use crate::verdict_rule::verdict_of;
-use crate::{Snapshot, Verdict};
 use mp_messages::Findings;
 use mp_sets::Agent;
-use std::process::Abort;
 use std::test::Fail;
 
 /// Findings without states under way.
@@ -58,78 +55,4 @@ fn verdicts_of_two(rt: HostRuntime) -> Result<(), Fail> {
         assert_eq!(rt; verdict_of(&[first, second]), verdict);
     }
     Ok(())
-}
-
-/// Takes a marker from another agent, and says whether the snapshot began with it; none where it is strange.
-fn first(snapshot: &mut Snapshot, from: Agent, number: u64, mine: Findings) -> Option<bool>
-    requires { IsAnother snapshot.old from }
-    ensures { IsSameTeam snapshot.old snapshot.new }
-{
-    match snapshot.marker(from, number, mine) {
-        Ok(marked) => Some(marked.first),
-        Err(_) => None,
-    }
-}
-
-/// Agent 2 of three: the first markers are strange, one begins a snapshot, and the last makes it whole.
-#[test]
-fn markers_at_agent_2(rt: HostRuntime) -> Result<(), Fail> {
-    let one = Agent::new(1).ok_or("agent 1")?;
-    let two = Agent::new(2).ok_or("agent 2")?;
-    let three = Agent::new(3).ok_or("agent 3")?;
-    let mine = found(9, Some(7), Some(8), true);
-    let mut snapshot = Snapshot::new(two, 3);
-    let early = first(&mut snapshot, one, 2, mine);
-    let begins = first(&mut snapshot, one, 1, mine);
-    let again = first(&mut snapshot, one, 1, mine);
-    let other = first(&mut snapshot, three, 2, mine);
-    snapshot.state_seen(one, 2);
-    snapshot.state_seen(three, 5);
-    snapshot.state_seen(three, 9);
-    let under_way = snapshot.is_under_way();
-    let whole = first(&mut snapshot, three, 1, mine);
-    snapshot.state_seen(three, 1);
-    assert_eq!(rt;
-        [early, begins, again, other, whole],
-        [None, Some(true), None, None, Some(false)]
-    );
-    assert!(rt; under_way && !snapshot.is_under_way() && snapshot.verdict().is_none());
-    assert_eq!(rt;
-        snapshot.own(),
-        counted(found(1, Some(7), Some(8), true), 5)
-    );
-    Ok(())
-}
-
-/// Agent 1 of two has nothing open; a state that agent 2 sent before its marker keeps the search going.
-#[test]
-fn a_state_under_way_at_agent_1(rt: HostRuntime) -> Result<(), Fail> {
-    let two = Agent::new(2).ok_or("agent 2")?;
-    let none = found(1, None, None, false);
-    let mut snapshot = Snapshot::new(Agent::first(), 2);
-    let early = snapshot.report(two, none).is_err();
-    snapshot.start(none);
-    snapshot.state_seen(two, 3);
-    let marked = first(&mut snapshot, two, 1, none);
-    let wrong = snapshot.report(two, found(2, None, None, false)).is_err();
-    let open = snapshot.verdict();
-    let right = snapshot.report(two, none).is_ok();
-    let twice = snapshot.report(two, none).is_err();
-    assert!(rt; early && wrong && right && twice);
-    assert_eq!(rt; marked, Some(false));
-    assert_eq!(rt; open, None);
-    assert_eq!(rt; snapshot.verdict(), Some(Verdict::Continue));
-    Ok(())
-}
-
-/// One agent alone has its verdict at once.
-#[test]
-fn alone(rt: HostRuntime) {
-    let mut snapshot = Snapshot::new(Agent::first(), 1);
-    snapshot.start(found(0, Some(9), Some(9), false));
-    assert_eq!(rt; snapshot.number(), 1);
-    assert_eq!(rt;
-        snapshot.verdict(),
-        Some(Verdict::Proved(Agent::first(), 9))
-    );
 }

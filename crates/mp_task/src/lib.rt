@@ -14,6 +14,3 @@ pub use laws::{
     plans_are_seen_as_plans, steps_lead_to_joint_states, values_are_bounds_for_the_team,
 };
 pub use task::{Flags, Task, TaskList};
-
-#[cfg(test)]
-mod tests;

@@ -9,6 +9,3 @@ pub use laws::{
     tokens_count_first_uses, tokens_stay,
 };
 pub use tokens::Tokens;
-
-#[cfg(test)]
-mod tests;

@@ -8,6 +8,3 @@ mod trail;
 pub use laws::{times_of_share, walk_counts, walk_follows_origins};
 pub use steps::{Noted, Share, Timed, Walked};
 pub use trail::Trail;
-
-#[cfg(test)]
-mod tests;

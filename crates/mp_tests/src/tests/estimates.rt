@@ -1,5 +1,7 @@
 //! A table of small tasks whose values under hmax are known by hand.
 
+ghost use Rattle.mp_task.specs.Heuristic.{SizesFit};
+
 use crate::tests::teams::{Part, Row, Team, task};
 use mp_hmax::Hmax;
 use mp_list::OutOfMemory;
@@ -248,13 +250,25 @@ static CASES: [Case; 9] = [
     },
 ];
 
-/// The value of the start, made twice by one heuristic, which has to forget the first time.
+/// The value of a state, made twice by one heuristic, which has to forget the first time.
+fn twice<H: Heuristic>(
+    heuristic: &mut H,
+    publics: &Bits,
+    privates: &Bits,
+) -> Result<(Option<u64>, Option<u64>), OutOfMemory>
+    requires { SizesFit (H.is_for heuristic.old) publics.now.size privates.now.size }
+{
+    let first = heuristic.value(publics, privates)?;
+    let second = heuristic.value(publics, privates)?;
+    Ok((first, second))
+}
+
+/// The value of the start, made twice.
 fn value(alloc: Global, task: &Task) -> Result<(Option<u64>, Option<u64>), OutOfMemory> {
     let publics = Bits::from_list(alloc, task.publics, &task.start_pub)?;
     let privates = Bits::from_list(alloc, task.privates, &task.start_priv)?;
     let mut hmax = Hmax::make(alloc, task)?;
-    let first = hmax.value(&publics, &privates)?;
-    Ok((first, hmax.value(&publics, &privates)?))
+    twice(&mut hmax, &publics, &privates)
 }
 
 fn is_as_wanted(alloc: Global, case: &Case) -> Result<bool, OutOfMemory> {

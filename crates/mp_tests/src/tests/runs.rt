@@ -2,7 +2,7 @@
 
 ghost use Rattle.std.specs.Prelude.{◌+◌, ◌-◌, nat_lt, Bool, Option, Some, None, if◌then◌else◌};
 
-use crate::{Takes, take_front};
+use mp_runs::{Takes, take_front};
 use std::process::Abort;
 use std::test::Fail;
 

@@ -3,11 +3,10 @@
 ghost use Rattle.std.specs.Prelude.{◌≡◌, [], ◌∷◌, All, IfOk, length};
 ghost use Rattle.mp_task.specs.Limits.{ActFits, FarFits};
 
-use crate::{Act, ActList, Blind, Far, FarList, Flags, Heuristic, Task};
 use mp_list::{Copied, OutOfMemory};
 use mp_sets::{Agent, Bits, FactList};
+use mp_task::{Act, ActList, Blind, Far, FarList, Flags, Heuristic, Task};
 use std::alloc::Global;
-use std::process::Abort;
 use std::test::Fail;
 
 fn one(alloc: Global, number: u32) -> Result<FactList, OutOfMemory>
@@ -85,20 +84,20 @@ fn task(alloc: Global, me: Agent, acts: ActList, far: FarList, met: Flags) -> Ta
     }
 }
 
-fn check_copy(rt: &impl Abort, task: &Task) -> Result<(), OutOfMemory>
+/// Whether the copy of a task has its public fact.
+fn is_copied(task: &Task) -> Result<bool, OutOfMemory>
     requires { length task.now.acts ≡ 1 }
 {
     let copy = task.copy()?;
-    assert!(rt; copy.is_public(0));
-    Ok(())
+    Ok(copy.is_public(0))
 }
 
-fn check_blind(rt: &impl Abort, alloc: Global, task: &Task) -> Result<(), OutOfMemory> {
+/// Whether the value of no facts is 0 without a heuristic.
+fn is_blind(alloc: Global, task: &Task) -> Result<bool, OutOfMemory> {
     let publics = Bits::new(alloc, task.publics)?;
     let privates = Bits::new(alloc, task.privates)?;
     let mut blind = Blind::make(alloc, task)?;
-    assert_eq!(rt; blind.value(&publics, &privates)?, Some(0));
-    Ok(())
+    Ok(blind.value(&publics, &privates)? == Some(0))
 }
 
 fn made(alloc: Global, me: Agent, other: Agent) -> Result<Task, OutOfMemory>
@@ -112,11 +111,18 @@ fn made(alloc: Global, me: Agent, other: Agent) -> Result<Task, OutOfMemory>
     Ok(task(alloc, me, acts, far, met))
 }
 
+/// Whether the task answers as it should.
+fn is_right(alloc: Global, me: Agent, other: Agent) -> Result<bool, OutOfMemory>
+    requires me { me ≡ 1 }
+    requires other { other ≡ 2 }
+{
+    let task = made(alloc, me, other)?;
+    Ok(is_copied(&task)? && is_blind(alloc, &task)?)
+}
+
 #[test]
 fn a_task_of_two(rt: HostRuntime) -> Result<(), Fail> {
     let other = Agent::new(2).ok_or("agent 2")?;
-    let task = made(rt.alloc(), Agent::first(), other)?;
-    check_copy(&rt, &task)?;
-    check_blind(&rt, rt.alloc(), &task)?;
+    assert!(rt; is_right(rt.alloc(), Agent::first(), other)?);
     Ok(())
 }

@@ -9,7 +9,7 @@ ghost use Rattle.std.specs.BTreeMap as ordered;
 ghost use Rattle.std.specs.HashMap as hashed;
 ghost use Rattle.std.specs.List.Sorted.{IsSorted};
 
-use crate::{Copied, List, OutOfMemory};
+use mp_list::{Copied, List, OutOfMemory};
 use std::alloc::{AllocError, Global};
 use std::cmp::Ordering;
 use std::collections::{BTreeMap, HashMap};
@@ -93,6 +93,12 @@ fn hash_of(word: &List<u8>) -> u64 {
     state.finish()
 }
 
+/// Whether two words compare so in each way.
+fn is_order(alloc: Global, a: &str, b: &str, order: Ordering) -> Result<bool, OutOfMemory> {
+    let is_equal = order.is_eq();
+    Ok(compared(alloc, a, b)? == (order, is_equal, Some(order), is_equal))
+}
+
 #[test]
 fn comparisons(rt: HostRuntime) -> Result<(), Fail> {
     for (a, b, order) in [
@@ -104,9 +110,7 @@ fn comparisons(rt: HostRuntime) -> Result<(), Fail> {
         ("at", "as", Ordering::Greater),
         ("b", "ab", Ordering::Greater),
     ] {
-        let is_equal = order.is_eq();
-        let want = (order, is_equal, Some(order), is_equal);
-        assert_eq!(rt; compared(rt.alloc(), a, b)?, want, "{a} and {b}");
+        assert!(rt; is_order(rt.alloc(), a, b, order)?, "{a} and {b}");
     }
     Ok(())
 }
@@ -139,15 +143,40 @@ fn by_hash(alloc: Global, words: &[&str]) -> Result<HashMap<List<u8>, usize>, Ou
     Ok(numbers)
 }
 
-/// The place of a word among these in order, and its number in both maps.
-fn numbered(alloc: Global, words: &[&str], word: &str) -> Result<[Option<usize>; 3], OutOfMemory> {
+/// The place of a word among these in order.
+fn place(alloc: Global, words: &[&str], word: &str) -> Result<Option<usize>, OutOfMemory> {
     let wanted = list_of(alloc, word.as_bytes())?;
-    let place = in_order(alloc, words)?
-        .iter()
-        .position(|known| is_same(known, &wanted));
-    let ordered = number_of(&by_order(alloc, words)?, &wanted);
-    let hashed = number_by_hash(&by_hash(alloc, words)?, &wanted);
-    Ok([place, ordered, hashed])
+    let words = in_order(alloc, words)?;
+    Ok(words.iter().position(|known| is_same(known, &wanted)))
+}
+
+/// The number of a word in the map of these by their order.
+fn found_by_order(alloc: Global, words: &[&str], word: &str) -> Result<Option<usize>, OutOfMemory> {
+    let wanted = list_of(alloc, word.as_bytes())?;
+    let numbers = by_order(alloc, words)?;
+    Ok(number_of(&numbers, &wanted))
+}
+
+/// The number of a word in the map of these by their hashes.
+fn found_by_hash(alloc: Global, words: &[&str], word: &str) -> Result<Option<usize>, OutOfMemory> {
+    let wanted = list_of(alloc, word.as_bytes())?;
+    let numbers = by_hash(alloc, words)?;
+    Ok(number_by_hash(&numbers, &wanted))
+}
+
+/// Whether a word has this place among these in order, and these numbers in both maps.
+fn is_numbered(
+    alloc: Global,
+    words: &[&str],
+    word: &str,
+    want: [Option<usize>; 3],
+) -> Result<bool, OutOfMemory> {
+    let found = [
+        place(alloc, words, word)?,
+        found_by_order(alloc, words, word)?,
+        found_by_hash(alloc, words, word)?,
+    ];
+    Ok(found == want)
 }
 
 #[test]
@@ -161,7 +190,7 @@ fn keys(rt: HostRuntime) -> Result<(), Fail> {
         ("no", [None, None, None]),
         ("", [None, None, None]),
     ] {
-        assert_eq!(rt; numbered(rt.alloc(), &words, word)?, numbers, "{word}");
+        assert!(rt; is_numbered(rt.alloc(), &words, word, numbers)?, "{word}");
     }
     Ok(())
 }
@@ -182,20 +211,41 @@ fn copied<T: Copied + Drop>(alloc: Global, value: T) -> Result<List<T>, OutOfMem
     list.copy()
 }
 
-fn written<T: fmt::Debug + Drop>(alloc: Global, list: List<T>) -> Result<String, AllocError> {
-    format!(in alloc; "{list:?}")
+/// Whether `Debug` writes a list so.
+fn is_written<T: fmt::Debug + Drop>(
+    alloc: Global,
+    list: List<T>,
+    want: &str,
+) -> Result<bool, OutOfMemory> {
+    let text = format!(in alloc; "{list:?}")?;
+    Ok(text.as_str() == want)
 }
 
-/// A copy, as `Debug` writes it.
-fn written_copy(alloc: Global, of: &str) -> Result<String, OutOfMemory> {
-    Ok(match of {
-        "lists" => written(alloc, nested(alloc)?)?,
-        "bool" => written(alloc, copied(alloc, true)?)?,
-        "u8" => written(alloc, copied(alloc, 8_u8)?)?,
-        "u32" => written(alloc, copied(alloc, 9_u32)?)?,
-        "u64" => written(alloc, copied(alloc, 4294967296_u64)?)?,
-        _ => written(alloc, copied_bytes(&list_of(alloc, of.as_bytes())?, alloc)?)?,
-    })
+/// Whether the copy of a list of two equal values is written so.
+fn is_pair<T: Copied + fmt::Debug + Drop>(
+    alloc: Global,
+    value: T,
+    want: &str,
+) -> Result<bool, OutOfMemory> {
+    is_written(alloc, copied(alloc, value)?, want)
+}
+
+/// Whether the copy of a list of these bytes is written so.
+fn are_bytes(alloc: Global, bytes: &[u8], want: &str) -> Result<bool, OutOfMemory> {
+    let list = list_of(alloc, bytes)?;
+    is_written(alloc, copied_bytes(&list, alloc)?, want)
+}
+
+/// Whether a copy is as `Debug` should write it.
+fn is_copied(alloc: Global, of: &str, want: &str) -> Result<bool, OutOfMemory> {
+    match of {
+        "lists" => is_written(alloc, nested(alloc)?, want),
+        "bool" => is_pair(alloc, true, want),
+        "u8" => is_pair(alloc, 8_u8, want),
+        "u32" => is_pair(alloc, 9_u32, want),
+        "u64" => is_pair(alloc, 4294967296_u64, want),
+        _ => are_bytes(alloc, of.as_bytes(), want),
+    }
 }
 
 #[test]
@@ -208,8 +258,7 @@ fn copies(rt: HostRuntime) -> Result<(), Fail> {
         ("u64", "[4294967296, 4294967296]"),
         ("ab", "[97, 98]"),
     ] {
-        let text = written_copy(rt.alloc(), of)?;
-        assert_eq!(rt; text.as_str(), want);
+        assert!(rt; is_copied(rt.alloc(), of, want)?, "{of}");
     }
     Ok(())
 }

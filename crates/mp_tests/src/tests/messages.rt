@@ -1,19 +1,24 @@
 //! Messages of every kind, and bytes that are none. The bytes were worked out by hand.
 
-ghost use Rattle.std.specs.Prelude.{◌≡◌};
+ghost use Rattle.std.specs.Prelude.{◌^◌, ◌-◌};
+ghost use Rattle.mp_messages.specs.Spelling.{AreNumbers, FactsBelow};
 
-use crate::{DecodeRefusal, EndKind, Entry, Findings, Message, State, decode, encode};
 use mp_list::{Copied, OutOfMemory};
+use mp_messages::{DecodeRefusal, EndKind, Entry, Findings, Message, State, decode, encode};
 use mp_sets::{Agent, FactList, Tag, Tags};
 use std::alloc::Global;
-use std::process::Abort;
 use std::test::Fail;
 
-/// A state of two agents with three public facts.
-fn small_state(alloc: Global) -> Result<State, OutOfMemory> {
+/// Two facts.
+fn facts(alloc: Global) -> Result<FactList, OutOfMemory> {
     let mut facts = FactList::new(alloc);
     facts.push(0)?;
     facts.push(2)?;
+    Ok(facts)
+}
+
+/// The tags of two agents.
+fn tags(alloc: Global) -> Result<Tags, OutOfMemory> {
     let mut tags = Tags::new(alloc);
     tags.push(Tag {
         token: 4,
@@ -23,6 +28,13 @@ fn small_state(alloc: Global) -> Result<State, OutOfMemory> {
         token: 0,
         met: false,
     })?;
+    Ok(tags)
+}
+
+/// A state of two agents with three public facts.
+fn small_state(alloc: Global) -> Result<State, OutOfMemory> {
+    let facts = facts(alloc)?;
+    let tags = tags(alloc)?;
     Ok(State {
         sent: 5,
         g: 7,
@@ -52,20 +64,34 @@ fn expected(alloc: Global, row: usize) -> Result<Message, OutOfMemory> {
     })
 }
 
-/// Bytes are a message, and it is spelled by them.
-fn check_message(
-    rt: &impl Abort,
-    alloc: Global,
-    row: usize,
-    bytes: &[u8],
-) -> Result<(), OutOfMemory> {
-    let read = decode(alloc, 2, 3, bytes);
-    assert!(rt; read.is_ok(), "row {row}");
-    if let Ok(message) = read {
-        assert!(rt; message == expected(alloc, row)?, "row {row}");
-        assert_eq!(rt; encode(alloc, &message)?.as_slice(), bytes, "row {row}");
+/// Whether a message is that of a row.
+fn is_expected(alloc: Global, row: usize, message: &Message) -> Result<bool, OutOfMemory> {
+    let want = expected(alloc, row)?;
+    Ok(*message == want)
+}
+
+/// Whether a message is spelled by these bytes.
+fn is_spelled(alloc: Global, message: &Message, bytes: &[u8]) -> Result<bool, OutOfMemory>
+    requires numbers { AreNumbers message.now }
+    requires facts { FactsBelow (2 ^ 32 - 1) message.now }
+{
+    let spelled = encode(alloc, message)?;
+    Ok(spelled.as_slice() == bytes)
+}
+
+/// Whether bytes are the message of a row, and it is spelled by them.
+fn is_message(alloc: Global, row: usize, bytes: &[u8]) -> Result<bool, OutOfMemory> {
+    match decode(alloc, 2, 3, bytes) {
+        Ok(message) => {
+            Ok(is_expected(alloc, row, &message)? && is_spelled(alloc, &message, bytes)?)
+        }
+        Err(_) => Ok(false),
     }
-    Ok(())
+}
+
+/// Whether bytes are no message.
+fn is_damaged(alloc: Global, bytes: &[u8]) -> bool {
+    matches!(decode(alloc, 2, 3, bytes), Err(DecodeRefusal::NotAMessage))
 }
 
 #[test]
@@ -86,7 +112,7 @@ fn every_kind_of_message(rt: HostRuntime) -> Result<(), Fail> {
         &[7, 2],
     ];
     for (row, bytes) in rows.iter().enumerate() {
-        check_message(&rt, rt.alloc(), row, bytes)?;
+        assert!(rt; is_message(rt.alloc(), row, bytes)?, "row {row}");
     }
     Ok(())
 }
@@ -121,25 +147,31 @@ fn damaged_messages(rt: HostRuntime) -> Result<(), Fail> {
         &[7, 1, 0],
     ];
     for (row, bytes) in rows.iter().enumerate() {
-        let read = decode(rt.alloc(), 2, 3, bytes);
-        assert!(rt;
-            matches!(&read, Err(DecodeRefusal::NotAMessage)),
-            "row {row}"
-        );
+        assert!(rt; is_damaged(rt.alloc(), bytes), "row {row}");
     }
     Ok(())
 }
 
-#[test]
-fn copies(rt: HostRuntime) -> Result<(), Fail> {
-    let state = small_state(rt.alloc())?;
-    assert!(rt; state.copy()? == state);
-    let bytes = encode(rt.alloc(), &Message::Done(EndKind::Spent))?;
+fn is_state_copied(alloc: Global) -> Result<bool, OutOfMemory> {
+    let state = small_state(alloc)?;
+    let copy = state.copy()?;
+    Ok(copy == state)
+}
+
+fn is_entry_copied(alloc: Global) -> Result<bool, OutOfMemory> {
+    let bytes = encode(alloc, &Message::Done(EndKind::Spent))?;
     let entry = Entry::Took {
         by: Agent::first(),
         from: Agent::first(),
         bytes,
     };
-    assert!(rt; entry.copy()? == entry);
+    let copy = entry.copy()?;
+    Ok(copy == entry)
+}
+
+#[test]
+fn copies(rt: HostRuntime) -> Result<(), Fail> {
+    assert!(rt; is_state_copied(rt.alloc())?);
+    assert!(rt; is_entry_copied(rt.alloc())?);
     Ok(())
 }

@@ -2,15 +2,15 @@
 
 ghost use Rattle.mp_store.specs.Laws.{IsEarlier};
 
-use crate::{Timed, Trail, Walked};
 use mp_list::{Copied, OutOfMemory};
 use mp_sets::{Agent, Bits, Tags};
 use mp_store::{Key, Origin, Store};
+use mp_trail::{Timed, Trail, Walked};
 use std::alloc::Global;
 use std::test::Fail;
 
 /// A call, and what it answers.
-#[derive(Clone, Copy, Debug)]
+#[derive(Clone, Copy)]
 enum Step {
     /// Whether the noted actions fit a length.
     Fits(u64, bool),
@@ -78,9 +78,8 @@ fn answers(trail: &mut Trail, store: &Store, step: Step) -> Result<bool, OutOfMe
     })
 }
 
-#[test]
-fn walks_by_hand(rt: HostRuntime) -> Result<(), Fail> {
-    let alloc = rt.alloc();
+/// The store of two walks: from the initial state by two actions, and from a message by one.
+fn store(alloc: Global) -> Result<Store, OutOfMemory> {
     let agent = Agent::first();
     let origins = [
         Origin::Root,
@@ -98,8 +97,24 @@ fn walks_by_hand(rt: HostRuntime) -> Result<(), Fail> {
             parent: 3,
         },
     ];
-    let store = store_of(alloc, &origins)?;
+    store_of(alloc, &origins)
+}
+
+/// The first step of those that does not answer as it should.
+fn first_wrong(alloc: Global, steps: &[Step]) -> Result<Option<usize>, OutOfMemory> {
+    let store = store(alloc)?;
     let mut trail = Trail::new(alloc);
+    for (i, step) in steps.iter().enumerate() {
+        if !answers(&mut trail, &store, *step)? {
+            return Ok(Some(i));
+        }
+    }
+    Ok(None)
+}
+
+#[test]
+fn walks_by_hand(rt: HostRuntime) -> Result<(), Fail> {
+    let agent = Agent::first();
     let steps = [
         Step::Fits(0, true),
         // from the goal to a message, by one action
@@ -127,9 +142,6 @@ fn walks_by_hand(rt: HostRuntime) -> Result<(), Fail> {
         Step::Share(9, 0, Some(Timed { time: 4, action: 3 })),
         Step::Share(9, 2, Some(Timed { time: 9, action: 7 })),
     ];
-    for step in steps {
-        let right = answers(&mut trail, &store, step)?;
-        assert!(rt; right, "{step:?}");
-    }
+    assert_eq!(rt; first_wrong(rt.alloc(), &steps)?, None);
     Ok(())
 }
