@@ -30,7 +30,7 @@ use Rattle.mp_store.specs.Keys.{same_key}
 use Rattle.mp_store.specs.Named.{named, named_entry}
 use Rattle.mp_store.specs.Record.{Record, gives_way, is_known, is_open, kept, new_entry, offered}
 use Rattle.mp_store.specs.Minima.{Numbered, best, closed, is_cheaper, least_open, popped, those}
-use Rattle.mp_store.proofs.KeyLemmas.{Decides-key}
+use Rattle.mp_store.specs.KeyLaws.{Decides-key}
 use Rattle.mp_store.proofs.Mapped.{map-agree}
 use Rattle.mp_store.proofs.RankLemmas.{IsThat, cheaper_strict, none_found, those_have}
 use Rattle.mp_search.specs.AgentState.{AgentState, same_state, same_tag}

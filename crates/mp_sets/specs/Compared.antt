@@ -1,9 +1,10 @@
 -- How sets are compared: sets of one size as the binary numbers whose ones are the members.
-use Rattle.std.specs.Prelude.{ℕ, zero, suc, ◌+◌, ◌^◌, Bool, ◌==◌, List, [], ◌∷◌, ◌++◌, max, if◌then◌else◌}
+use Rattle.std.specs.Prelude.{ℕ, zero, suc, ◌+◌, ◌^◌, Bool, ◌==◌, List, [], ◌∷◌, max, if◌then◌else◌}
 use Rattle.std.specs.Ordering.{nat_cmp, on, then_cmp, eq_of_both}
 use Rattle.std.specs.declared.cmp.Ordering.{Ordering}
 use Rattle.std.specs.Simd.Lanes.{digits_l}
 use Rattle.std.specs.FinSet as set
+use Rattle.std.specs.List.{flat_map}
 use Rattle.std.specs.Hash as fed
 use Rattle.mp_sets.specs.Numbers.{Numbers, SizedSet}
 use Rattle.mp_sets.specs.Words.{words_for}
@@ -31,6 +32,6 @@ sized_eq = eq_of_both (on (λ s. s.size) ◌==◌) (on (λ s. binary s.members) 
 abbrev pub sized_cmp : SizedSet → SizedSet → Ordering
 sized_cmp = then_cmp (on (λ s. s.size) nat_cmp) (on (λ s. binary s.members) nat_cmp)
 
--- what a set feeds a hash function: its size, and its binary number in digits of 64 bits, the least first
+-- what a set feeds a hash function: its binary number in digits of 64 bits, the least first
 abbrev pub sized_writes : SizedSet → List (List ℕ)
-sized_writes s = fed.u32 s.size ++ fed.slice fed.u64 (digits_l (2 ^ 64) (words_for s.size) (binary s.members))
+sized_writes s = flat_map fed.u64 (digits_l (2 ^ 64) (words_for s.size) (binary s.members))

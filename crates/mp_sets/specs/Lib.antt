@@ -1,3 +1,4 @@
 pub mod Compared
+pub mod Data
 pub mod Numbers
 pub mod Words

@@ -57,7 +57,6 @@ impl Hash for Bits {
     ghost respects_eq = { Prim.search (hashing, rules) };
 
     fn hash<H: Hasher>(&self, state: &mut H) {
-        self.size().hash(state);
-        self.words().hash(state);
+        u64::hash_slice(self.words(), state);
     }
 }

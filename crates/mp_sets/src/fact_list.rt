@@ -12,16 +12,18 @@ ghost use Rattle.std.specs.Hash as fed;
 ghost use Rattle.std.proofs.Common.{rules};
 ghost use Rattle.mp_sets.specs.Numbers.{IsAboveLast};
 
+use crate::small_list::SmallList;
 use mp_list::{Copied, OutOfMemory};
 use std::alloc::Global;
 use std::cmp::Ordering;
 use std::hash::{Hash, Hasher};
 use std::marker::Model;
 
-/// Numbers of facts, each above the one before it. Contracts see it as the list of them.
+/// Numbers of facts, each above the one before it. Contracts see it as the list of them. A list of at most
+/// one number takes no memory beside itself.
 #[derive(Debug, Drop)]
 pub struct FactList {
-    numbers: Vec<u32>,
+    numbers: SmallList,
 }
 
 impl Model for FactList {
@@ -30,18 +32,18 @@ impl Model for FactList {
 
     ghost Value = { List ℕ };
 
-    ghost view = { λ l. l.numbers.items };
+    ghost view = { λ l. l.numbers };
 
-    ghost invariant = { λ l. IsStrictlyIncreasing l.numbers.items };
+    ghost invariant = { λ l. IsStrictlyIncreasing l.numbers };
 }
 
 impl FactList {
-    /// The empty list, which takes no memory yet.
+    /// The empty list.
     pub fn new(alloc: Global) -> FactList
         ensures { result ≡ [] }
     {
         FactList {
-            numbers: Vec::new(alloc),
+            numbers: SmallList::new(alloc),
         }
     }
 
@@ -51,22 +53,21 @@ impl FactList {
         ensures ok { OnOk result (self.new ≡ self.old ++ number ∷ []) }
         ensures err { OnErr result (self.new ≡ self.old) }
     {
-        self.numbers.push(number)?;
-        Ok(())
+        self.numbers.push(number)
     }
 
     /// How many numbers the list has.
     pub fn len(&self) -> usize
         ensures { result ≡ length self.now }
     {
-        self.numbers.len()
+        self.as_slice().len()
     }
 
     /// The number at a place, counted from 0: none exactly where the list is not longer than that.
     pub fn get(&self, at: usize) -> Option<&u32>
         ensures { option_copied result ≡ slice_get self.now at }
     {
-        self.numbers.get(at)
+        self.as_slice().get(at)
     }
 
     /// The numbers, least one first.
@@ -80,9 +81,8 @@ impl FactList {
 
 impl Copied for FactList {
     fn copy(&self) -> Result<FactList, OutOfMemory> {
-        let alloc = *self.numbers.allocator();
         Ok(FactList {
-            numbers: Vec::from_slice(alloc, self.numbers.as_slice())?,
+            numbers: self.numbers.copy()?,
         })
     }
 }

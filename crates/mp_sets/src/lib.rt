@@ -6,6 +6,7 @@ mod bits;
 mod compared;
 mod fact_list;
 mod laws;
+mod small_list;
 mod tag;
 mod words;
 
@@ -14,6 +15,3 @@ pub use bits::Bits;
 pub use fact_list::FactList;
 pub use laws::equal_sets_are_one;
 pub use tag::{Tag, Tags};
-
-#[cfg(test)]
-mod tests;

@@ -14,7 +14,7 @@ use Rattle.mp_store.specs.Named.{named, named_entry}
 use Rattle.mp_store.specs.NumberFields.{nothing}
 use Rattle.mp_store.specs.Record.{Record}
 use Rattle.mp_store.specs.StoreFields.{key_at, no_key}
-use Rattle.mp_store.proofs.KeyLemmas.{Decides-key}
+use Rattle.mp_store.specs.KeyLaws.{Decides-key}
 use Rattle.mp_store.proofs.Mapped.{map-agree}
 use Rattle.mp_store.proofs.RankLemmas.{IsThat, none_found, those_have}
 use Rattle.mp_store.proofs.Sound.{none_at}

@@ -1,5 +1,3 @@
--- keys are told apart
-pub mod KeyLemmas
 -- entries that are replaced one by one
 pub mod Mapped
 -- the rules over numbers are those over the keys that they stand for

@@ -8,6 +8,8 @@ pub mod Sent
 pub mod Laws
 -- which keys are the same
 pub mod Keys
+-- keys are told apart, and equal ones are hashed alike
+pub mod KeyLaws
 -- records over numbered keys
 pub mod Numbered
 -- the indices of a store over numbered keys

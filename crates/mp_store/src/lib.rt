@@ -15,6 +15,3 @@ pub use laws::{
     last_entry_tells_of_its_key, records_stay_sound, sent_states_stay_sent,
 };
 pub use store::Store;
-
-#[cfg(test)]
-mod tests;
