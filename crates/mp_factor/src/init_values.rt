@@ -50,7 +50,7 @@ fn add_fact(alloc: Global, out: &mut AtomList, tree: &Tree) -> Result<(), OutOfM
 pub fn facts_in(alloc: Global, trees: &[Tree]) -> Result<AtomList, OutOfMemory>
     ensures { IfOk result (λ facts. facts ≡ fact_values (nodes_in trees.now)) }
 {
-    let mut out = List::new(alloc);
+    let mut out = List::with_capacity(alloc, trees.len())?;
     for tree in trees {
         add_fact(alloc, &mut out, tree)?;
     }

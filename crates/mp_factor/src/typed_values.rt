@@ -194,7 +194,8 @@ impl Declares for ObjectItems {
 pub fn objects_in(alloc: Global, trees: &[Tree]) -> Result<TypedList, OutOfMemory>
     ensures { IfOk result (λ objects. objects ≡ object_values (nodes_in trees.now)) }
 {
-    let mut out = List::new(alloc);
+    // An object with a type of its own takes three trees.
+    let mut out = List::with_capacity(alloc, trees.len() / 3)?;
     add_declared(alloc, &mut out, &ObjectItems, trees)?;
     Ok(out)
 }

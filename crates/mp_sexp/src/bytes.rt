@@ -4,6 +4,7 @@ ghost use Rattle.std.specs.Prelude.{◌≡◌, ◌↔◌, IsTrue};
 ghost use Rattle.mp_sexp.specs.Bytes.{folded_byte, is_space as space_of};
 ghost use Rattle.mp_sexp.specs.Kinds.{kind_of};
 ghost use Rattle.mp_sexp.specs.Name.{IsCapital};
+ghost use Rattle.mp_sexp.specs.Reading.{is_word};
 
 /// What a byte is in a text, outside a comment.
 #[derive(Clone, Copy)]
@@ -46,6 +47,22 @@ pub fn kind_of_byte(byte: u8) -> Kind
         Kind::Word
     } else {
         Kind::Foreign
+    }
+}
+
+/// Whether a byte is one of a word. It is asked of every byte of every word, so that the letters, which
+/// are most of them, are told apart first.
+#[inline]
+#[tactic(auto, unfolding(crate::specs::Kinds::kind_of))]
+pub fn is_word_byte(byte: u8) -> bool
+    ensures { result ≡ is_word byte }
+{
+    if byte > b';' {
+        byte <= 126
+    } else if byte > b')' {
+        byte != b';'
+    } else {
+        33 <= byte && byte < b'('
     }
 }
 

@@ -14,6 +14,3 @@ pub use name::{Name, NameList};
 pub use reading::{read, tree_or_fault};
 pub use refusal::ReadRefusal;
 pub use tree::{Place, Tree, TreeList};
-
-#[cfg(test)]
-mod tests;

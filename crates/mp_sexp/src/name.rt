@@ -76,19 +76,6 @@ fn folded_bytes(alloc: Global, bytes: &[u8]) -> Result<Vec<u8>, OutOfMemory>
     Ok(out)
 }
 
-/// At most 22 bytes, folded.
-fn folded_few(alloc: Global, bytes: &[u8]) -> Short
-    requires { length bytes.now ≤ 22 }
-    ensures value { result ≡ folded bytes.now }
-    ensures small { HasNoCapitals result }
-{
-    let mut out = Short::new(alloc);
-    for byte in bytes {
-        out.push(fold(*byte));
-    }
-    out
-}
-
 impl Name {
     /// The empty name.
     pub fn new(alloc: Global) -> Name
@@ -105,7 +92,7 @@ impl Name {
     {
         if bytes.len() <= MOST {
             return Ok(Name {
-                data: Data::Few(folded_few(alloc, bytes)),
+                data: Data::Few(Short::folded(alloc, bytes)),
             });
         }
         many(folded_bytes(alloc, bytes)?)

@@ -6,7 +6,7 @@ ghost use Rattle.mp_sexp.specs.Node.{node_of};
 ghost use Rattle.mp_sexp.specs.Spelling.{next_place as place_after_byte};
 ghost use Rattle.mp_sexp.specs.Reading.{Gives, Fails, GoesOn, state_of, run, node_at, is_word, is_within_line, further as place_further};
 
-use crate::bytes::{Kind, kind_of_byte};
+use crate::bytes::{Kind, is_word_byte, kind_of_byte};
 use crate::open_lists::{Lists, misplaced};
 use crate::refusal::ReadRefusal;
 use crate::tree::{Place, Tree};
@@ -37,7 +37,7 @@ fn word_len(text: &[u8]) -> usize
     ensures within { result ≤ length text.now }
 {
     for (len, byte) in text.iter().enumerate() {
-        if !matches!(kind_of_byte(*byte), Kind::Word) {
+        if !is_word_byte(*byte) {
             return len;
         }
     }

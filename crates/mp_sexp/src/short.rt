@@ -1,7 +1,10 @@
 //! The bytes of a short name, in the name itself.
 
 ghost use Rattle.std.specs.Prelude.{◌≡◌, ◌++◌, ◌∷◌, ◌<◌, ◌≤◌, ◌↔◌, IsTrue, [], length};
+ghost use Rattle.mp_sexp.specs.Bytes.{folded};
+ghost use Rattle.mp_sexp.specs.Name.{HasNoCapitals};
 
+use crate::bytes::fold;
 use std::alloc::Global;
 use std::marker::Model;
 
@@ -35,6 +38,24 @@ impl Short {
         Short {
             len: 0,
             bytes: [0; 22],
+            alloc,
+        }
+    }
+
+    /// These bytes, folded. They go to the places that they have in the text, so that no length is counted up
+    /// beside them.
+    pub(crate) fn folded(alloc: Global, bytes: &[u8]) -> Short
+        requires { length bytes.now ≤ 22 }
+        ensures value { result ≡ folded bytes.now }
+        ensures small { HasNoCapitals result }
+    {
+        let mut room = [0; 22];
+        for (at, byte) in bytes.iter().enumerate() {
+            room[at] = fold(*byte);
+        }
+        Short {
+            len: bytes.len() as u8,
+            bytes: room,
             alloc,
         }
     }

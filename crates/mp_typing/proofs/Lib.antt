@@ -13,6 +13,8 @@ pub mod ParameterLemmas
 pub mod CheckLemmas
 -- the first declaration of each name
 pub mod Listing
+-- objects with names of their own
+pub mod DistinctLemmas
 -- the order of types: its laws, sets that are closed under declarations, the test whether an object is of a type
 pub mod Ordering
 pub mod Reaching

@@ -7,6 +7,7 @@ ghost use Rattle.mp_typing.specs.Hierarchy.{IsHierarchy};
 ghost use Rattle.mp_typing.specs.Lookups.{factor_of, objects_of};
 ghost use Rattle.mp_typing.specs.ObjectList.{object_list};
 ghost use Rattle.mp_typing.specs.CheckFaults.{owner_faults, schema_faults as faults_of_schema, declared_faults as faults_of_declared, value_faults as faults_of_value, problem_faults as faults_of_problem, check_faults};
+ghost use Rattle.mp_typing.specs.Repeats.{object_faults};
 ghost use Rattle.mp_typing.specs.Refused.{RestsOn, refusal_of};
 
 use crate::checked::CheckedFactor;
@@ -114,6 +115,23 @@ fn values_fault(
     Ok(first)
 }
 
+/// The first fault, with those of a problem's objects. Where each object has a name of its own, as in nearly every
+/// problem, each is the first of its name, and none is looked up. Refuses only for want of memory.
+#[tactic(auto, using(crate::proofs::DistinctLemmas::none_unlike))]
+fn problem_objects_fault(
+    least: Option<Fault>,
+    declared: &Declared,
+    problem: &Problem,
+) -> Result<Option<Fault>, OutOfMemory>
+    requires { declared.now.problem ≡ problem.now }
+    ensures { IfOk result (λ first. first ≡ leftmost least (flat_map (object_faults File.Problem (objects_of declared.now)) problem.now.objects)) }
+{
+    if declared.is_distinct() {
+        return Ok(least);
+    }
+    objects_fault(least, File::Problem, declared, problem.objects.as_slice())
+}
+
 /// The first fault, with those of a problem. Refuses only for want of memory.
 #[tactic(auto, using(crate::proofs::FirstLemmas::leftmost_append), unfolding(crate::specs::CheckFaults::problem_faults))]
 fn problem_fault(
@@ -125,7 +143,7 @@ fn problem_fault(
     ensures { IfOk result (λ first. first ≡ leftmost least (faults_of_problem declared.now)) }
 {
     let file = File::Problem;
-    let objects = objects_fault(least, file, declared, problem.objects.as_slice())?;
+    let objects = problem_objects_fault(least, declared, problem)?;
     let init = atoms_fault(objects, file, &[], declared, problem.init.as_slice())?;
     let values = values_fault(init, declared, problem.values.as_slice())?;
     literals_fault(values, file, &[], declared, problem.goals.as_slice())

@@ -1,6 +1,6 @@
 //! What the two files of a factor declare.
 
-ghost use Rattle.std.specs.Prelude.{◌≡◌, ◌+◌, ◌<◌, ◌^◌, ◌++◌, ◌∷◌, [], List, map, length, slice_get, find as find_in, IfOk, OnOk};
+ghost use Rattle.std.specs.Prelude.{◌≡◌, ◌==◌, ◌+◌, ◌<◌, ◌^◌, ◌++◌, ◌∷◌, [], List, map, length, slice_get, find as find_in, IfOk, OnOk};
 ghost use Rattle.std.specs.Option.{option_copied};
 ghost use Rattle.std.specs.Str.{bytes_eq};
 ghost use Rattle.mp_factor.specs.declared.typed_values.Typed.{Typed as TypedValue};
@@ -150,6 +150,18 @@ impl<'a> Declared<'a> {
         self.listed
     }
 
+    /// Whether each object has a name of its own.
+    #[tactic(auto, using(crate::proofs::DistinctLemmas::as_many))]
+    pub fn is_distinct(&self) -> bool
+        ensures { result ≡ (length (object_list self.now.domain self.now.problem) == length (objects_of self.now)) }
+    {
+        let domain = self.domain;
+        let problem = self.problem;
+        let constants = domain.constants.as_slice();
+        let objects = problem.objects.as_slice();
+        self.listed.len() == constants.len() + objects.len()
+    }
+
     /// The first object that has this name, constants before objects.
     pub fn object(&self, name: &Name) -> Option<&'a Typed>
         ensures { option_copied result ≡ find_in (λ o. bytes_eq o.word.name name.now) (objects_of self.now) }
@@ -174,6 +186,24 @@ impl<'a> Declared<'a> {
         ensures { result ≡ arity_of self.now.domain.predicates name.now }
     {
         self.predicates.find(name.as_slice())
+    }
+
+    /// The same, where it is known of another name: facts of one predicate most often stand together, and so a name is
+    /// looked up only where it is not the other one.
+    pub fn predicate_beside(
+        &self,
+        other: &Name,
+        number: Option<usize>,
+        name: &Name,
+    ) -> Option<usize>
+        requires { number ≡ arity_of self.now.domain.predicates other.now }
+        ensures { result ≡ arity_of self.now.domain.predicates name.now }
+    {
+        if other.as_slice() == name.as_slice() {
+            number
+        } else {
+            self.predicate(name)
+        }
     }
 
     /// The number of parameters of the first function that has this name.

@@ -4,6 +4,7 @@ ghost use Rattle.std.specs.Prelude.{◌≡◌, IfOk, length, codes};
 ghost use Rattle.std.specs.List.{flat_map, list_any};
 ghost use Rattle.std.specs.Str.{bytes_eq};
 ghost use Rattle.mp_typing.specs.Faults.{leftmost};
+ghost use Rattle.mp_typing.specs.Lookups.{arity_of};
 ghost use Rattle.mp_typing.specs.Uses.{is_declared, term_faults as faults_of_term, applied_faults as faults_applied, called_faults as faults_called, atom_faults as faults_of_atom, literal_faults as faults_of_literal, function_faults as faults_of_function, increase_faults as faults_of_increase};
 
 use crate::declared::Declared;
@@ -93,8 +94,25 @@ fn applied_fault(
     }
 }
 
-/// The first fault, with those of an atom. Refuses only for want of memory.
+/// The first fault, with those of an atom, whose predicate was declared with this number of parameters, or not at all.
+/// Refuses only for want of memory.
 #[tactic(auto, using(crate::proofs::FirstLemmas::leftmost_append), unfolding(crate::specs::Uses::atom_faults))]
+fn numbered_fault(
+    least: Option<Fault>,
+    file: File,
+    params: &[Typed],
+    declared: &Declared,
+    number: Option<usize>,
+    atom: &Atom,
+) -> Result<Option<Fault>, OutOfMemory>
+    requires { number ≡ arity_of declared.now.domain.predicates atom.now.word.name }
+    ensures { IfOk result (λ first. first ≡ leftmost least (faults_of_atom file params.now declared.now atom.now)) }
+{
+    let applied = applied_fault(least, file, &atom.word, atom.terms.len(), number)?;
+    terms_fault(applied, file, params, declared, atom.terms.as_slice())
+}
+
+/// The first fault, with those of an atom. Refuses only for want of memory.
 fn atom_fault(
     least: Option<Fault>,
     file: File,
@@ -105,8 +123,30 @@ fn atom_fault(
     ensures { IfOk result (λ first. first ≡ leftmost least (faults_of_atom file params.now declared.now atom.now)) }
 {
     let number = declared.predicate(&atom.word.name);
-    let applied = applied_fault(least, file, &atom.word, atom.terms.len(), number)?;
-    terms_fault(applied, file, params, declared, atom.terms.as_slice())
+    numbered_fault(least, file, params, declared, number, atom)
+}
+
+/// The first fault, with those of atoms. The predicate of the atom that is given first is looked up, and after it each
+/// that differs from the one before. Refuses only for want of memory.
+fn atoms_fault_from(
+    least: Option<Fault>,
+    file: File,
+    params: &[Typed],
+    declared: &Declared,
+    head: &Atom,
+    atoms: &[Atom],
+) -> Result<Option<Fault>, OutOfMemory>
+    ensures { IfOk result (λ first. first ≡ leftmost least (flat_map (faults_of_atom file params.now declared.now) atoms.now)) }
+{
+    let mut first = least;
+    let mut name = &head.word.name;
+    let mut number = declared.predicate(name);
+    for atom in atoms {
+        number = declared.predicate_beside(name, number, &atom.word.name);
+        name = &atom.word.name;
+        first = numbered_fault(first, file, params, declared, number, atom)?;
+    }
+    Ok(first)
 }
 
 /// The first fault, with those of atoms. Refuses only for want of memory.
@@ -119,11 +159,10 @@ pub fn atoms_fault(
 ) -> Result<Option<Fault>, OutOfMemory>
     ensures { IfOk result (λ first. first ≡ leftmost least (flat_map (faults_of_atom file params.now declared.now) atoms.now)) }
 {
-    let mut first = least;
-    for atom in atoms {
-        first = atom_fault(first, file, params, declared, atom)?;
+    match atoms {
+        [] => Ok(least),
+        [head, ..] => atoms_fault_from(least, file, params, declared, head, atoms),
     }
-    Ok(first)
 }
 
 /// The first fault, with those of a literal's atom, whatever its sign. Refuses only for want of memory.

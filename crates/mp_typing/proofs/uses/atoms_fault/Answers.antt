@@ -1,9 +1,0 @@
-use Rattle.mp_typing.specs.Uses.{atom_faults}
-use Rattle.mp_list.proofs.Steps.{goes_on}
-use Rattle.mp_typing.specs.Faults.{is_earlier}
-use Rattle.mp_typing.proofs.uses.atoms_fault.Goals as goal
-
-pub loop-atom-preserved : goal.loop-atom-preserved
-loop-atom-preserved c =
-    goes_on is_earlier (atom_faults c.args.file c.args.params.now c.args.declared.now) _ _ _ c.args.atoms.now c.loop-atom.atom-index c.atom-item.result
-    c.loop-atom-test.true c.atom-item.is c.in_ok-first.ensures c.loop-atom.invariant

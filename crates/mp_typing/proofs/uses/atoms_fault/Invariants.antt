@@ -1,9 +1,0 @@
-use Rattle.std.proofs.Common.{◌≡◌, drop}
-use Rattle.std.specs.List.{flat_map}
-use Rattle.mp_typing.specs.Faults.{leftmost}
-use Rattle.mp_typing.specs.Uses.{atom_faults}
-use Rattle.mp_typing.proofs.uses.atoms_fault.Given as goal
-
-abbrev pub invariant-loop-atom : goal.invariant-loop-atom
-invariant-loop-atom l =
-    leftmost l.first (flat_map (atom_faults l.file l.params l.declared) (drop l.atom-index l.atoms)) ≡ leftmost l.fn.least (flat_map (atom_faults l.fn.file l.fn.params l.fn.declared) l.fn.atoms)

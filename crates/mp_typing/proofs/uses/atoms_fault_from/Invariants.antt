@@ -1,0 +1,12 @@
+use Rattle.std.proofs.Common.{◌≡◌, drop}
+use Rattle.std.specs.List.{flat_map}
+use Rattle.mp_typing.specs.Faults.{leftmost}
+use Rattle.mp_typing.specs.Lookups.{arity_of}
+use Rattle.mp_typing.specs.Uses.{atom_faults}
+use Rattle.mp_typing.proofs.uses.atoms_fault_from.Given as goal
+
+abbrev pub invariant-loop-atom : goal.invariant-loop-atom
+invariant-loop-atom l = record {
+  found : leftmost l.first (flat_map (atom_faults l.file l.params l.declared) (drop l.atom-index l.atoms)) ≡ leftmost l.fn.least (flat_map (atom_faults l.fn.file l.fn.params l.fn.declared) l.fn.atoms);
+  known : l.number ≡ arity_of l.declared.domain.predicates l.name;
+}
