@@ -19,6 +19,6 @@ pub record IsSound (r : Inside) : Type 0 where
   pub pres_below : All (All (λ x. x < r.facts)) r.pres
   pub adds_below : All (All (λ x. x < r.facts)) r.adds
   pub goals_below : All (λ x. x < r.facts) r.goals.items
-  pub users_right : AreUsers r.facts r.pres r.users
+  pub users_right : AreUsers r.facts r.pres r.users.items
   pub free_right : AreFree r.pres r.free.items
   pub counts_right : AreCounts r.pres r.counts.items

@@ -16,7 +16,7 @@ use std::alloc::Global;
 #[derive(Drop)]
 pub struct Hmax {
     problem: Relaxed,
-    counters: Vec<usize>,
+    counters: Vec<u32>,
     numbers: Vec<u64>,
     queue: Queue,
     ghost counted: { vec_len counters ≡ length problem.operators },

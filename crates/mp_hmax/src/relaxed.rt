@@ -8,7 +8,7 @@ ghost use Rattle.mp_hmax.specs.Search.{count_at};
 
 use crate::rows::{Rows, gather};
 use crate::users::{counts_of, free_of, users_of};
-use mp_list::OutOfMemory;
+use mp_list::{List, OutOfMemory};
 use mp_task::Task;
 use std::alloc::Global;
 use std::marker::Model;
@@ -24,9 +24,9 @@ pub(crate) struct Relaxed {
     adds: Rows,
     costs: Vec<u64>,
     goals: Vec<u32>,
-    users: Rows,
+    users: Vec<List<u32>>,
     free: Vec<u32>,
-    counts: Vec<usize>,
+    counts: Vec<u32>,
 }
 
 impl Model for Relaxed {
@@ -40,14 +40,37 @@ impl Model for Relaxed {
     ghost invariant = { IsSound };
 }
 
-/// The preconditions of the operators.
-fn pres_of(alloc: Global, task: &Task, buffer: &mut Vec<u32>) -> Result<Rows, OutOfMemory>
+/// How many operators there are.
+fn operators_of(task: &Task) -> usize {
+    task.acts.len().saturating_add(task.far.len())
+}
+
+/// How many preconditions and how many adds the operators have. All of them are in memory, so no sum is too great.
+fn count_facts(task: &Task) -> (usize, usize) {
+    let mut pres: usize = 0;
+    let mut adds: usize = 0;
+    for act in task.acts.as_slice() {
+        pres = pres
+            .saturating_add(act.pre_pub.len())
+            .saturating_add(act.pre_priv.len());
+        adds = adds
+            .saturating_add(act.add_pub.len())
+            .saturating_add(act.add_priv.len());
+    }
+    for part in task.far.as_slice() {
+        pres = pres.saturating_add(part.pre.len());
+        adds = adds.saturating_add(part.add.len());
+    }
+    (pres, adds)
+}
+
+/// The preconditions of the operators, with memory for this many.
+fn pres_of(alloc: Global, task: &Task, count: usize) -> Result<Rows, OutOfMemory>
     ensures { IfOk result (λ rows. rows ≡ map (λ o. o.pre) (projected task.now).operators) }
 {
-    let mut rows = Rows::new(alloc);
+    let mut rows = Rows::with_capacity(alloc, operators_of(task), count)?;
     for act in task.acts.as_slice() {
-        gather(buffer, task.publics, &act.pre_pub, &act.pre_priv)?;
-        rows.push(buffer.as_slice())?;
+        rows.push_facts(task.publics, &act.pre_pub, &act.pre_priv)?;
     }
     for part in task.far.as_slice() {
         rows.push(part.pre.as_slice())?;
@@ -55,14 +78,13 @@ fn pres_of(alloc: Global, task: &Task, buffer: &mut Vec<u32>) -> Result<Rows, Ou
     Ok(rows)
 }
 
-/// The facts that the operators add.
-fn adds_of(alloc: Global, task: &Task, buffer: &mut Vec<u32>) -> Result<Rows, OutOfMemory>
+/// The facts that the operators add, with memory for this many.
+fn adds_of(alloc: Global, task: &Task, count: usize) -> Result<Rows, OutOfMemory>
     ensures { IfOk result (λ rows. rows ≡ map (λ o. o.add) (projected task.now).operators) }
 {
-    let mut rows = Rows::new(alloc);
+    let mut rows = Rows::with_capacity(alloc, operators_of(task), count)?;
     for act in task.acts.as_slice() {
-        gather(buffer, task.publics, &act.add_pub, &act.add_priv)?;
-        rows.push(buffer.as_slice())?;
+        rows.push_facts(task.publics, &act.add_pub, &act.add_priv)?;
     }
     for part in task.far.as_slice() {
         rows.push(part.add.as_slice())?;
@@ -74,7 +96,7 @@ fn adds_of(alloc: Global, task: &Task, buffer: &mut Vec<u32>) -> Result<Rows, Ou
 fn costs_of(alloc: Global, task: &Task) -> Result<Vec<u64>, OutOfMemory>
     ensures { IfOk result (λ costs. costs.items ≡ map (λ o. o.cost) (projected task.now).operators) }
 {
-    let mut costs = Vec::new(alloc);
+    let mut costs = Vec::with_capacity(alloc, operators_of(task))?;
     for act in task.acts.as_slice() {
         costs.push(act.cost)?;
     }
@@ -90,11 +112,12 @@ impl Relaxed {
         ensures made { IfOk result (λ made. made ≡ delete_relaxation task.now) }
         ensures limits { IfOk result (λ _. IsWithinLimits task.now) }
     {
-        let mut buffer = Vec::new(alloc);
-        let pres = pres_of(alloc, task, &mut buffer)?;
-        let adds = adds_of(alloc, task, &mut buffer)?;
+        let (pre_count, add_count) = count_facts(task);
+        let pres = pres_of(alloc, task, pre_count)?;
+        let adds = adds_of(alloc, task, add_count)?;
         let costs = costs_of(alloc, task)?;
-        gather(&mut buffer, task.publics, &task.goal_pub, &task.goal_priv)?;
+        let mut goals = Vec::new(alloc);
+        gather(&mut goals, task.publics, &task.goal_pub, &task.goal_priv)?;
         let facts = task.publics + task.privates;
         let users = users_of(alloc, facts, &pres)?;
         let free = free_of(alloc, &pres)?;
@@ -105,7 +128,7 @@ impl Relaxed {
             pres,
             adds,
             costs,
-            goals: buffer,
+            goals,
             users,
             free,
             counts,
@@ -157,7 +180,7 @@ impl Relaxed {
         ensures all { HasUsers self.now.operators x result.now }
         ensures below { All (λ k. k < length self.now.operators) result.now }
     {
-        self.users.row(x as usize)
+        self.users[x as usize].as_slice()
     }
 
     /// The operators without preconditions.
@@ -170,7 +193,7 @@ impl Relaxed {
     }
 
     /// How many preconditions each operator has.
-    pub(crate) fn counts(&self) -> &[usize]
+    pub(crate) fn counts(&self) -> &[u32]
         ensures len { length result.now ≡ length self.now.operators }
         ensures count { (k : ℕ) → count_at result.now k ≡ length (operator_at self.now.operators k).pre }
     {

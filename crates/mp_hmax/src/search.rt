@@ -106,7 +106,7 @@ fn count_down(
     problem: &Relaxed,
     k: u32,
     cost: u64,
-    counters: &mut Vec<usize>,
+    counters: &mut Vec<u32>,
     numbers: &mut Vec<u64>,
     queue: &mut Queue,
 ) -> Result<(), OutOfMemory>
@@ -139,7 +139,7 @@ fn count_down_all(
     problem: &Relaxed,
     operators: &[u32],
     cost: u64,
-    counters: &mut Vec<usize>,
+    counters: &mut Vec<u32>,
     numbers: &mut Vec<u64>,
     queue: &mut Queue,
 ) -> Result<(), OutOfMemory>
@@ -168,7 +168,7 @@ fn count_down_all(
 }
 
 /// Counts all preconditions as open.
-fn recount(problem: &Relaxed, counters: &mut Vec<usize>)
+fn recount(problem: &Relaxed, counters: &mut Vec<u32>)
     requires { vec_len counters.old ≡ length problem.now.operators }
     ensures count { (k : ℕ) → count_at counters.new.items k
         ≡ length (operator_at problem.now.operators k).pre }
@@ -183,7 +183,7 @@ fn recount(problem: &Relaxed, counters: &mut Vec<usize>)
 /// one that was taken last.
 pub(crate) fn settle(
     problem: &Relaxed,
-    counters: &mut Vec<usize>,
+    counters: &mut Vec<u32>,
     numbers: &mut Vec<u64>,
     queue: &mut Queue,
 ) -> Result<(), OutOfMemory>
@@ -288,7 +288,7 @@ pub(crate) fn estimate(
     problem: &Relaxed,
     publics: &Bits,
     privates: &Bits,
-    counters: &mut Vec<usize>,
+    counters: &mut Vec<u32>,
     numbers: &mut Vec<u64>,
     queue: &mut Queue,
 ) -> Result<Option<u64>, OutOfMemory>

@@ -1,9 +1,5 @@
-use Rattle.std.proofs.Common.{◌≡◌, take}
 use Rattle.mp_hmax.proofs.UserLemmas.{Noted}
 use Rattle.mp_hmax.proofs.users.users_of.Given as goal
 
 abbrev pub invariant-loop-k : goal.invariant-loop-k
 invariant-loop-k l = Noted l.facts l.pres l.k l.lists.items
-
-abbrev pub invariant-loop-list : goal.invariant-loop-list
-invariant-loop-list l = l.users ≡ take l.list-index l.list-items

@@ -1,4 +1,4 @@
-use Rattle.std.proofs.Common.{◌≡◌, ◌<◌, ◌+◌, length, map, All, ap, subst, sym, ◌∙◌}
+use Rattle.std.proofs.Common.{◌≡◌, ◌<◌, ◌+◌, ◌++◌, length, map, All, ap, subst, sym, ◌∙◌}
 use Rattle.std.proofs.lemmas.List.{length-map}
 use Rattle.mp_task.specs.AgentTask.{AgentTask}
 use Rattle.mp_task.specs.Projected.{projected}
@@ -22,6 +22,7 @@ invariant_of-result c =
     let pres = subst (λ (u : AgentTask). c.in_ok-pres.pres ≡ map (λ o. o.pre) (projected u).operators) (sym c.task.view_is) c.in_ok-pres.ensures in
     let adds = subst (λ (u : AgentTask). c.in_ok-adds.adds ≡ map (λ o. o.add) (projected u).operators) (sym c.task.view_is) c.in_ok-adds.ensures in
     let costs = subst (λ (u : AgentTask). c.in_ok-costs.costs.items ≡ map (λ o. o.cost) (projected u).operators) (sym c.task.view_is) c.in_ok-costs.ensures in
+    let goals : c.gather.new.facts.items ≡ (projected t).goals = c.in_ok-gather.ensures.ok ∙ ap (λ xs. xs ++ (projected t).goals) c.new-goals.ensures.items in
     let os = (projected t).operators in
     let long = ap length pres ∙ length-map os (λ o. o.pre) in
     record {
@@ -29,7 +30,7 @@ invariant_of-result c =
       cost_each = ap length costs ∙ length-map os (λ o. o.cost) ∙ sym long;
       pres_below = subst (All (All (λ x. x < t.publics + t.privates))) (sym pres) (pres_fit t c.task.invariant);
       adds_below = subst (All (All (λ x. x < t.publics + t.privates))) (sym adds) (adds_fit t c.task.invariant);
-      goals_below = subst (All (λ x. x < t.publics + t.privates)) (sym c.in_ok-gather.ensures) (goals_fit t c.task.invariant);
+      goals_below = subst (All (λ x. x < t.publics + t.privates)) (sym goals) (goals_fit t c.task.invariant);
       users_right = c.in_ok-users.ensures;
       free_right = c.in_ok-free.ensures;
       counts_right = c.in_ok-counts.ensures;
@@ -41,6 +42,7 @@ returns-clause-made c =
     let pres = subst (λ (u : AgentTask). c.in_ok-pres.pres ≡ map (λ o. o.pre) (projected u).operators) (sym c.task.view_is) c.in_ok-pres.ensures in
     let adds = subst (λ (u : AgentTask). c.in_ok-adds.adds ≡ map (λ o. o.add) (projected u).operators) (sym c.task.view_is) c.in_ok-adds.ensures in
     let costs = subst (λ (u : AgentTask). c.in_ok-costs.costs.items ≡ map (λ o. o.cost) (projected u).operators) (sym c.task.view_is) c.in_ok-costs.ensures in
+    let goals : c.gather.new.facts.items ≡ (projected t).goals = c.in_ok-gather.ensures.ok ∙ ap (λ xs. xs ++ (projected t).goals) c.new-goals.ensures.items in
     let operators = (λ i. zipped (pres i) (adds i) (costs i)) ∙ zipped_is (projected t).operators in
-    let inside : relaxed_problem (record { publics = c.task.inside.publics; facts = c.task.inside.publics + c.task.inside.privates; pres = c.in_ok-pres.pres; adds = c.in_ok-adds.adds; costs = c.in_ok-costs.costs; goals = c.gather.new.buffer; users = c.in_ok-users.users; free = c.in_ok-free.free; counts = c.in_ok-counts.counts }) ≡ delete_relaxation t = (λ i. record { publics = t.publics; facts = t.publics + t.privates; operators = operators i; goals = c.in_ok-gather.ensures i }) in
+    let inside : relaxed_problem (record { publics = c.task.inside.publics; facts = c.task.inside.publics + c.task.inside.privates; pres = c.in_ok-pres.pres; adds = c.in_ok-adds.adds; costs = c.in_ok-costs.costs; goals = c.gather.new.facts; users = c.in_ok-users.users; free = c.in_ok-free.free; counts = c.in_ok-counts.counts }) ≡ delete_relaxation t = (λ i. record { publics = t.publics; facts = t.publics + t.privates; operators = operators i; goals = goals i }) in
     inside ∙ ap delete_relaxation c.task.view_is
