@@ -3,9 +3,11 @@
 #![tactic(auto)]
 
 mod atoms;
-mod binding;
+mod bindings;
+mod bound;
 mod start;
 
 pub use atoms::{add_objects, is_among_at, is_private, object_at};
-pub use binding::{ActionBinding, ActionBindingList};
+pub use bindings::ActionBindingList;
+pub use bound::BoundAction;
 pub use start::StartFacts;

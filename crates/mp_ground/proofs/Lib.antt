@@ -1,5 +1,6 @@
 -- in reading order: lists in an order by their members; members and places of lists; parted lists; numbers of facts as
--- places; texts in order; facts that are the same; numbers of names; what instances cost; what is grounded in numbers by names
+-- places; texts in order; facts that are the same; numbers of names; what instances cost; what actions
+-- stand for; what is grounded in numbers by names
 pub mod Rising
 pub mod Members
 pub mod Parted
@@ -9,4 +10,5 @@ pub mod SameFacts
 pub mod Refused
 pub mod NumberBounds
 pub mod CheapActions
+pub mod Steps
 pub mod Standing

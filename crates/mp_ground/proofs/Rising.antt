@@ -1,10 +1,10 @@
 -- Lists in an order are told by their members; lists of places rise.
-use Rattle.std.proofs.Common.{arith, eqb, ◌≡◌, ℕ, zero, suc, ◌+◌, ◌<◌, ◌≤◌, Bool, true, false, cond, List, [], ◌∷◌, map, length, Option, Some, None, slice_get, refl, sym, ap, ◌∙◌, subst, inl, inr, Less, Equal, Ordering}
-use Rattle.std.specs.Prelude.{Contains, ◌⊎◌}
-use Rattle.std.specs.Cmp.{IsTotalOrder, Equal-is, nat_cmp_is}
+use Rattle.std.proofs.Common.{arith, eqb, ◌≡◌, ℕ, zero, suc, ◌+◌, ◌<◌, ◌≤◌, Bool, true, false, cond, List, [], ◌∷◌, length, Some, slice_get, refl, sym, ap, ◌∙◌, subst, inl, inr, Less, Ordering}
+use Rattle.std.specs.Prelude.{Contains}
+use Rattle.std.specs.Cmp.{IsTotalOrder, nat_cmp_is}
 use Rattle.std.specs.FinMap.{IsAntisymmetric, nat_cmp-IsAntisymmetric}
 use Rattle.std.specs.List.{list_any, AllByRecursion, dedup}
-use Rattle.std.specs.List.Sorted.{IsPermutation, IsSorted, IsStrictlySortedBy}
+use Rattle.std.specs.List.Sorted.{IsPermutation, IsSorted, IsStrictlyIncreasing, IsStrictlySortedBy}
 use Rattle.std.specs.Ordering.{eq_by_cmp, nat_cmp}
 use Rattle.std.proofs.lemmas.Bool.{cases_Bool}
 use Rattle.std.proofs.lemmas.Cmp.{nat_cmp_total}
@@ -134,3 +134,15 @@ sorted_numbers ns sorted moved up =
     (sorted_from_strictly_increasing (dedup eqb sorted) (IsStrictlyIncreasing-dedup sorted up))
     (λ n found. Contains-permutation sorted ns n (IsPermutation-sym ns sorted moved) (Contains-from_dedup eqb sorted n found))
     (λ n found. Contains-dedup_nat sorted n (Contains-permutation ns sorted n moved found))
+
+-- one number, or none, rises as it is
+few_sorted : (ns : List ℕ) → length ns ≤ 1 → ns ≡ sorted_by nat_cmp ns
+few_sorted ns few =
+    let rises : IsStrictlyIncreasing ns = λ k lt. absurd (omega (arith, few, lt)) in
+    sorted_is nat_cmp_total nat_cmp-IsAntisymmetric ns ns (sorted_from_strictly_increasing ns rises) (λ n found. found) (λ n found. found)
+
+pub none_rises : [] ≡ sorted_by nat_cmp []
+none_rises = few_sorted [] (omega arith)
+
+pub one_rises : (n : ℕ) → n ∷ [] ≡ sorted_by nat_cmp (n ∷ [])
+one_rises n = few_sorted (n ∷ []) (omega arith)

@@ -8,10 +8,9 @@ use Rattle.mp_joint.specs.Fact.{Text}
 use Rattle.mp_task.specs.declared.act.Act.{Act}
 use Rattle.mp_lifted.specs.Texts.{signed_text}
 use Rattle.mp_lifted.specs.Vocabulary.{vocabulary_of}
-use Rattle.mp_atoms.specs.declared.binding.ActionBinding.{ActionBinding}
+use Rattle.mp_atoms.specs.Binding.{ActionBinding}
 use Rattle.mp_ground_facts.specs.declared.fact.GroundFact.{GroundFact}
-use Rattle.mp_ground_facts.specs.declared.grounded.GroundAction.{GroundAction}
-use Rattle.mp_ground_facts.specs.declared.grounded.GroundFactor.{GroundFactor}
+use Rattle.mp_ground_facts.specs.Ground.{GroundAction, GroundFactor}
 use Rattle.mp_views.specs.Sorted.{sorted_by, sorted_once}
 use Rattle.mp_ground.specs.declared.grounded.Ground.{Ground}
 use Rattle.mp_ground.specs.declared.names.FactNames.{FactNames}
@@ -65,17 +64,20 @@ place_at places n = slice_index_or places.publics (n - places.privates) 0
 abbrev pub public_numbers : Places → List ℕ → List ℕ
 public_numbers places numbers = map (place_at places) (filter (λ n. not (nat_lt n places.privates)) numbers)
 
--- an action with its facts by their places
-abbrev pub act_at : Places → GroundAction → Act
-act_at places a = record {
-  pre_pub = rising (public_numbers places a.pre);
-  pre_priv = rising (private_numbers places a.pre);
-  add_pub = rising (public_numbers places a.add);
-  add_priv = rising (private_numbers places a.add);
-  del_pub = rising (public_numbers places a.del);
-  del_priv = rising (private_numbers places a.del);
-  cost = a.cost;
+-- an action with what it needs, adds and deletes by their places
+abbrev pub act_with : Places → List ℕ → List ℕ → List ℕ → ℕ → Act
+act_with places pre add del cost = record {
+  pre_pub = rising (public_numbers places pre);
+  pre_priv = rising (private_numbers places pre);
+  add_pub = rising (public_numbers places add);
+  add_priv = rising (private_numbers places add);
+  del_pub = rising (public_numbers places del);
+  del_priv = rising (private_numbers places del);
+  cost = cost;
 }
+
+abbrev pub act_at : Places → GroundAction → Act
+act_at places a = act_with places a.pre a.add a.del a.cost
 
 -- what an action stands for
 abbrev pub binding_at : GroundAction → ActionBinding

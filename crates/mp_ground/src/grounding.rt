@@ -7,7 +7,7 @@ ghost use Rattle.mp_lifted.specs.Factors.{lifted_factor};
 ghost use Rattle.mp_instances.specs.Costs.{HasSmallCosts};
 ghost use Rattle.mp_instances.specs.Counts.{tries};
 ghost use Rattle.mp_instances.specs.Instances.{instances as instances_of};
-ghost use Rattle.mp_ground_facts.specs.Ground.{ground_factor as ground_factor_of};
+ghost use Rattle.mp_ground_facts.specs.Ground.{facts_of};
 ghost use Rattle.mp_ground.specs.Grounded.{IsGrounded};
 ghost use Rattle.mp_ground.specs.Limits.{IsRefusedBy, IsWithin, KeepsLimits};
 
@@ -15,8 +15,9 @@ use crate::grounded::Ground;
 use crate::names::fact_names;
 use crate::refusal::GroundRefusal;
 use crate::turning::turned;
+use indexmap::IndexSet;
 use mp_atoms::ActionBindingList;
-use mp_ground_facts::{FactRefusal, GroundFactor, ground_factor};
+use mp_ground_facts::{FactRefusal, GroundFact, numbered_facts};
 use mp_grounder::laws::checked_factor_is_checked;
 use mp_instances::{InstanceRefusal, instances};
 use mp_lifted::{LiftedFactor, OpenView, lift};
@@ -44,23 +45,23 @@ fn all_instances(
     }
 }
 
-/// The factor of an agent in numbers, grounded to its instances.
+/// The facts of an agent's factor, with numbers.
 fn numbered(
     alloc: Global,
     me: Agent,
     lifted: &LiftedFactor,
-    list: ActionBindingList,
-) -> Result<GroundFactor, GroundRefusal>
+    list: &ActionBindingList,
+) -> Result<IndexSet<GroundFact>, GroundRefusal>
     requires tries { tries lifted.now ≤ 50000000 }
-    requires all { list ≡ instances_of lifted.now }
-    requires few { length list ≤ 200000 }
-    ensures given { IfOk result (λ made. made ≡ ground_factor_of lifted.now (instances_of lifted.now)) }
-    ensures within { IfOk result (λ made. length made.facts ≤ 65535) }
+    requires all { list.now ≡ instances_of lifted.now }
+    requires few { length list.now ≤ 200000 }
+    ensures given { IfOk result (λ facts. facts.keys ≡ facts_of lifted.now (instances_of lifted.now)) }
+    ensures within { IfOk result (λ facts. length facts.keys ≤ 65535) }
     ensures refused { (factor : Factor) (view : View) → lifted.now ≡ lifted_factor factor view
         → IfErr result (IsRefusedBy (record { me = me; factor = factor; view = view })) }
 {
-    match ground_factor(alloc, lifted, list) {
-        Ok(made) => Ok(made),
+    match numbered_facts(alloc, lifted, list) {
+        Ok(facts) => Ok(facts),
         Err(FactRefusal::TooManyFacts(n)) => Err(GroundRefusal::TooManyFacts(me, n)),
         Err(FactRefusal::OutOfMemory) => Err(GroundRefusal::OutOfMemory),
     }
@@ -83,7 +84,7 @@ pub fn ground(
     checked_factor_is_checked(factor);
     let lifted = lift(alloc, factor, known)?;
     let list = all_instances(alloc, me, &lifted)?;
-    let numbered = numbered(alloc, me, &lifted, list)?;
+    let facts = numbered(alloc, me, &lifted, &list)?;
     let names = fact_names(alloc, factor.factor())?;
-    Ok(turned(alloc, me, &names, numbered)?)
+    Ok(turned(alloc, me, &names, &lifted, &facts, list)?)
 }

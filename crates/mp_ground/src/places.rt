@@ -86,7 +86,40 @@ fn add_public(out: &mut Vec<u32>, places: &Places, numbers: &[u32]) -> Result<()
     Ok(())
 }
 
-/// The private ones of some facts by their numbers.
+/// The list of one number.
+#[tactic(auto, using(crate::proofs::Rising::one_rises))]
+fn list_of_one(alloc: Global, number: u32) -> Result<FactList, OutOfMemory>
+    ensures { IfOk result (λ list. list ≡ rising (number ∷ [])) }
+{
+    let mut list = FactList::new(alloc);
+    list.push(number)?;
+    Ok(list)
+}
+
+/// The list of a number where it is that of a private fact.
+#[tactic(auto, using(crate::proofs::Rising::none_rises))]
+fn one_private(alloc: Global, places: &Places, number: u32) -> Result<FactList, OutOfMemory>
+    ensures { IfOk result (λ list. list ≡ rising (private_numbers places.now (number ∷ []))) }
+{
+    if number < places.privates {
+        return list_of_one(alloc, number);
+    }
+    Ok(FactList::new(alloc))
+}
+
+/// The list of the place of a number where it is that of a public fact.
+#[tactic(auto, using(crate::proofs::Rising::none_rises))]
+fn one_public(alloc: Global, places: &Places, number: u32) -> Result<FactList, OutOfMemory>
+    ensures { IfOk result (λ list. list ≡ rising (public_numbers places.now (number ∷ []))) }
+{
+    if number < places.privates {
+        return Ok(FactList::new(alloc));
+    }
+    list_of_one(alloc, public_place(places, number))
+}
+
+/// The private ones of some facts by their numbers. Most actions have no or one number, which needs no
+/// `scratch`.
 pub fn private_places(
     alloc: Global,
     scratch: &mut Vec<u32>,
@@ -95,12 +128,19 @@ pub fn private_places(
 ) -> Result<FactList, OutOfMemory>
     ensures { IfOk result (λ list. list ≡ rising (private_numbers places.now numbers.now)) }
 {
-    scratch.clear();
-    add_private(scratch, places, numbers)?;
-    rising_list(alloc, scratch)
+    match numbers {
+        [] => Ok(FactList::new(alloc)),
+        [number] => one_private(alloc, places, *number),
+        _ => {
+            scratch.clear();
+            add_private(scratch, places, numbers)?;
+            rising_list(alloc, scratch)
+        }
+    }
 }
 
-/// The public ones of some facts by the places of their texts.
+/// The public ones of some facts by the places of their texts. Most actions have no or one number, which
+/// needs no `scratch`.
 pub fn public_places(
     alloc: Global,
     scratch: &mut Vec<u32>,
@@ -109,7 +149,13 @@ pub fn public_places(
 ) -> Result<FactList, OutOfMemory>
     ensures { IfOk result (λ list. list ≡ rising (public_numbers places.now numbers.now)) }
 {
-    scratch.clear();
-    add_public(scratch, places, numbers)?;
-    rising_list(alloc, scratch)
+    match numbers {
+        [] => Ok(FactList::new(alloc)),
+        [number] => one_public(alloc, places, *number),
+        _ => {
+            scratch.clear();
+            add_public(scratch, places, numbers)?;
+            rising_list(alloc, scratch)
+        }
+    }
 }

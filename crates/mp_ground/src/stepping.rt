@@ -1,11 +1,12 @@
 //! Own actions by their names.
 
 ghost use Rattle.std.specs.Prelude.{◌≡◌, map, IfOk};
+ghost use Rattle.mp_atoms.specs.Bound.{binding};
 ghost use Rattle.mp_names.specs.Numbers.{name_at};
 ghost use Rattle.mp_grounder.specs.Named.{step_of};
 
 use crate::names::{copied_names, object_names};
-use mp_atoms::ActionBinding;
+use mp_atoms::BoundAction;
 use mp_factor::SchemaList;
 use mp_joint::PlanStep;
 use mp_list::{Copied, OutOfMemory};
@@ -30,14 +31,14 @@ pub fn step_name(
     alloc: Global,
     factor: &CheckedFactor,
     me: Agent,
-    step: &ActionBinding,
+    step: BoundAction<'_>,
 ) -> Result<PlanStep, OutOfMemory>
-    ensures { IfOk result (λ named. named ≡ step_of me factor.now step.now) }
+    ensures { IfOk result (λ named. named ≡ step_of me factor.now (binding step.entry)) }
 {
     let whole = factor.factor();
     let objects = object_names(alloc, whole)?;
     let action = action_name(alloc, &whole.domain.schemas, step.action)?;
-    let args = copied_names(alloc, &objects, step.objects.as_slice())?;
+    let args = copied_names(alloc, &objects, step.objects)?;
     Ok(PlanStep {
         agent: me,
         action,

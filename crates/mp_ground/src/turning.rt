@@ -1,31 +1,36 @@
 //! What a factor that is grounded in numbers becomes.
 
-ghost use Rattle.std.specs.Prelude.{◌≡◌, ◌≤◌, ◌++◌, ◌∷◌, [], length, map, IfOk, OnOk};
-ghost use Rattle.mp_ground.specs.Numbered.{act_at, binding_at, ground_at};
+ghost use Rattle.std.specs.Prelude.{◌≡◌, ◌≤◌, length, map, IfOk};
+ghost use Rattle.mp_ground_facts.specs.Ground.{ground_action, ground_with};
+ghost use Rattle.mp_ground.specs.Numbered.{act_at, act_with, ground_at};
 
 use crate::grounded::Ground;
 use crate::names::FactNames;
 use crate::places::{Places, private_places, public_places};
 use crate::texts::publics_of;
-use mp_atoms::{ActionBinding, ActionBindingList};
-use mp_ground_facts::{GroundAction, GroundFactor};
+use indexmap::IndexSet;
+use mp_atoms::{ActionBindingList, BoundAction};
+use mp_ground_facts::{ActionNumbers, GroundFact, goal_numbers, number_action, start_numbers};
+use mp_lifted::LiftedFactor;
 use mp_list::{List, OutOfMemory};
 use mp_sets::Agent;
 use mp_task::{Act, ActList};
 use std::alloc::Global;
 
-/// An action with its facts by their places.
+/// An action with these facts, by their places.
 fn act_of(
     alloc: Global,
     scratch: &mut Vec<u32>,
     places: &Places,
-    action: &GroundAction,
+    numbers: &ActionNumbers,
+    cost: u64,
 ) -> Result<Act, OutOfMemory>
-    ensures { IfOk result (λ act. act ≡ act_at places.now action.now) }
+    ensures { IfOk result (λ act. act
+        ≡ act_with places.now numbers.now.pre.items numbers.now.add.items numbers.now.del.items cost) }
 {
-    let pre = action.pre.as_slice();
-    let add = action.add.as_slice();
-    let del = action.del.as_slice();
+    let pre = numbers.pre.as_slice();
+    let add = numbers.add.as_slice();
+    let del = numbers.del.as_slice();
     Ok(Act {
         pre_pub: public_places(alloc, scratch, places, pre)?,
         pre_priv: private_places(alloc, scratch, places, pre)?,
@@ -33,76 +38,60 @@ fn act_of(
         add_priv: private_places(alloc, scratch, places, add)?,
         del_pub: public_places(alloc, scratch, places, del)?,
         del_priv: private_places(alloc, scratch, places, del)?,
-        cost: action.cost,
+        cost,
     })
 }
 
-/// Adds an action with its facts by their places, and what it stands for. What `scratch` has is lost.
-fn add_action(
+/// Instances with their facts by their places. What `scratch` has is lost.
+fn own_acts(
     alloc: Global,
     scratch: &mut Vec<u32>,
     places: &Places,
-    action: GroundAction,
-    acts: &mut ActList,
-    steps: &mut ActionBindingList,
-) -> Result<(), OutOfMemory>
-    ensures act { OnOk result (acts.new ≡ acts.old ++ act_at places.now action ∷ []) }
-    ensures step { OnOk result (steps.new ≡ steps.old ++ binding_at action ∷ []) }
+    facts: &IndexSet<GroundFact>,
+    lifted: &LiftedFactor,
+    instances: &ActionBindingList,
+) -> Result<ActList, OutOfMemory>
+    requires { length facts.now.keys ≤ 65535 }
+    ensures { IfOk result (λ acts. acts
+        ≡ map (act_at places.now) (map (ground_action lifted.now facts.now.keys) instances.now)) }
 {
-    acts.push(act_of(alloc, scratch, places, &action)?)?;
-    steps.push(ActionBinding {
-        action: action.action,
-        objects: action.objects,
-        cost: action.cost,
-    })?;
-    Ok(())
-}
-
-/// The own actions of an agent.
-#[derive(Drop)]
-struct OwnActions {
-    /// With their facts by their places.
-    acts: ActList,
-    /// What they stand for.
-    steps: ActionBindingList,
-}
-
-/// Actions with their facts by their places, and what they stand for. What `scratch` has is lost.
-fn own_actions(
-    alloc: Global,
-    scratch: &mut Vec<u32>,
-    places: &Places,
-    actions: List<GroundAction>,
-) -> Result<OwnActions, OutOfMemory>
-    ensures acts { IfOk result (λ own. own.acts ≡ map (act_at places.now) actions) }
-    ensures steps { IfOk result (λ own. own.steps ≡ map binding_at actions) }
-{
-    let mut acts = List::with_capacity(alloc, actions.len())?;
-    let mut steps = List::with_capacity(alloc, actions.len())?;
-    for action in actions.into_items() {
-        add_action(alloc, scratch, places, action, &mut acts, &mut steps)?;
+    let mut numbers = ActionNumbers::new(alloc);
+    let mut acts = List::with_capacity(alloc, instances.len())?;
+    for at in 0..instances.len() {
+        let BoundAction {
+            action,
+            objects,
+            cost,
+        } = instances.at(at);
+        number_action(&mut numbers, scratch, facts, lifted, action, objects)?;
+        acts.push(act_of(alloc, scratch, places, &numbers, cost)?)?;
     }
-    Ok(OwnActions { acts, steps })
+    Ok(acts)
 }
 
-/// The factor of an agent that is grounded in numbers, with its facts by their places.
+/// The factor of an agent that is grounded to these instances with these facts, by their places.
+#[tactic(auto, using(crate::proofs::Steps::instances_stay))]
 pub fn turned(
     alloc: Global,
     me: Agent,
     names: &FactNames<'_>,
-    numbered: GroundFactor,
+    lifted: &LiftedFactor,
+    facts: &IndexSet<GroundFact>,
+    instances: ActionBindingList,
 ) -> Result<Ground, OutOfMemory>
-    requires { length numbered.facts ≤ 65535 }
-    ensures { IfOk result (λ made. made ≡ ground_at me names.now numbered) }
+    requires { length facts.now.keys ≤ 65535 }
+    ensures { IfOk result (λ made. made
+        ≡ ground_at me names.now (ground_with lifted.now facts.now.keys instances)) }
 {
-    let publics = publics_of(alloc, names, numbered.facts.as_slice())?;
+    let publics = publics_of(alloc, names, facts.as_slice())?;
     let places = &publics.places;
     let mut scratch = Vec::new(alloc);
-    let start = private_places(alloc, &mut scratch, places, numbered.start.as_slice())?;
-    let goals = numbered.goals.as_slice();
-    let goal_pub = public_places(alloc, &mut scratch, places, goals)?;
-    let goal_priv = private_places(alloc, &mut scratch, places, goals)?;
-    let own = own_actions(alloc, &mut scratch, places, numbered.actions)?;
+    let at_start = start_numbers(alloc, lifted, facts.as_slice())?;
+    let start = private_places(alloc, &mut scratch, places, at_start.as_slice())?;
+    let goals = goal_numbers(alloc, facts, lifted)?;
+    let goal_pub = public_places(alloc, &mut scratch, places, goals.as_slice())?;
+    let goal_priv = private_places(alloc, &mut scratch, places, goals.as_slice())?;
+    let acts = own_acts(alloc, &mut scratch, places, facts, lifted, &instances)?;
     Ok(Ground {
         me,
         privates: publics.places.privates,
@@ -110,7 +99,7 @@ pub fn turned(
         start,
         goal_pub,
         goal_priv,
-        acts: own.acts,
-        steps: own.steps,
+        acts,
+        steps: instances,
     })
 }

@@ -4,12 +4,34 @@ use Rattle.std.specs.List.{position_or_len}
 use Rattle.std.specs.FinMap.{from_entries, keys}
 use Rattle.mp_typing.specs.Places.{numbers_where}
 use Rattle.mp_lifted.specs.declared.lifted.LiftedFactor.{LiftedFactor}
-use Rattle.mp_atoms.specs.declared.binding.ActionBinding.{ActionBinding}
+use Rattle.mp_atoms.specs.Binding.{ActionBinding}
 use Rattle.mp_ground_facts.specs.declared.fact.GroundFact.{GroundFact}
-use Rattle.mp_ground_facts.specs.declared.grounded.GroundAction.{GroundAction}
-use Rattle.mp_ground_facts.specs.declared.grounded.GroundFactor.{GroundFactor}
 use Rattle.mp_ground_facts.specs.Facts.{fact_cmp, is_initial, same_fact}
 use Rattle.mp_ground_facts.specs.Touched.{needed, added, deleted, of_action, goal_facts, counted}
+
+-- An action with objects for its parameters. Facts are numbers: places among those of the factor.
+pub record GroundAction : Type 0 where
+  -- the place of the action in its factor, from 0
+  pub action : ℕ
+  -- the object for each parameter, by its number
+  pub objects : List ℕ
+  pub cost : ℕ
+  -- what has to be true
+  pub pre : List ℕ
+  -- what it makes true
+  pub add : List ℕ
+  -- what it makes false, unless it also makes it true
+  pub del : List ℕ
+
+-- a factor that is grounded
+pub record GroundFactor : Type 0 where
+  -- the facts and complements that an action touches or a goal names, each once, in their order
+  pub facts : List GroundFact
+  pub actions : List GroundAction
+  -- the numbers of what is true at the start
+  pub start : List ℕ
+  -- the numbers of what the goals ask for
+  pub goals : List ℕ
 
 -- an entry of a map that has nothing at its keys
 abbrev pub with_nothing : GroundFact → GroundFact × Unit {0}

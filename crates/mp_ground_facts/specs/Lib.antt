@@ -1,4 +1,5 @@
 pub mod Facts
 pub mod Keys
+pub mod Mixed
 pub mod Touched
 pub mod Ground

@@ -6,7 +6,7 @@ use Rattle.std.specs.Option.{option_map_or}
 use Rattle.mp_lifted.specs.declared.lifted.GroundAtom.{GroundAtom}
 use Rattle.mp_lifted.specs.declared.lifted.LiftedAction.{LiftedAction}
 use Rattle.mp_lifted.specs.declared.lifted.LiftedFactor.{LiftedFactor}
-use Rattle.mp_atoms.specs.declared.binding.ActionBinding.{ActionBinding}
+use Rattle.mp_atoms.specs.Binding.{ActionBinding}
 use Rattle.mp_atoms.specs.Atoms.{atoms_at, is_among}
 use Rattle.mp_ground_facts.specs.declared.fact.GroundFact.{GroundFact}
 use Rattle.mp_ground_facts.specs.Facts.{plain, complement, has_complement}
@@ -39,14 +39,23 @@ abbrev pub touched : LiftedFactor → LiftedAction → List ℕ → List GroundF
 touched factor action objects =
     needed factor action objects ++ added factor action objects ++ deleted factor action objects
 
--- the same for an instance, which names its action by its place
+-- the same for the action at a place, with these objects
+abbrev pub of_place
+    : LiftedFactor
+    → (LiftedFactor → LiftedAction → List ℕ → List GroundFact)
+    → ℕ
+    → List ℕ
+    → List GroundFact
+of_place factor facts place objects =
+    option_map_or (λ action. facts factor action objects) (slice_get factor.actions place) []
+
+-- the same for an instance
 abbrev pub of_action
     : LiftedFactor
     → (LiftedFactor → LiftedAction → List ℕ → List GroundFact)
     → ActionBinding
     → List GroundFact
-of_action factor facts i =
-    option_map_or (λ action. facts factor action i.objects) (slice_get factor.actions i.action) []
+of_action factor facts i = of_place factor facts i.action i.objects
 
 -- what the goals ask for: facts, and complements of the facts that they negate
 abbrev pub goal_facts : LiftedFactor → List GroundFact

@@ -1,168 +1,153 @@
-//! Actions with objects for their parameters, in numbers.
+//! The numbers of what actions with objects need, add and delete.
 
-ghost use Rattle.std.specs.Prelude.{◌≡◌, ◌≤◌, [], length, map, IfOk};
-ghost use Rattle.mp_ground_facts.specs.Touched.{needed, added, deleted};
-ghost use Rattle.mp_ground_facts.specs.Ground.{numbers_of, ground_action as ground_action_of};
+ghost use Rattle.std.specs.Prelude.{◌≡◌, ◌≤◌, [], length, OnOk};
+ghost use Rattle.mp_ground_facts.specs.Touched.{needed, added, deleted, of_place};
+ghost use Rattle.mp_ground_facts.specs.Ground.{numbers_of};
 
 use crate::fact::GroundFact;
-use crate::grounded::GroundAction;
 use crate::numbers::{add_complements, add_numbers};
 use indexmap::IndexSet;
-use mp_atoms::{ActionBinding, ActionBindingList};
 use mp_lifted::{LiftedAction, LiftedFactor};
-use mp_list::{List, OutOfMemory};
+use mp_list::OutOfMemory;
 use std::alloc::Global;
+
+/// The numbers of what one action needs, adds and deletes, in memory that serves for the next one,
+/// too.
+#[derive(Drop)]
+pub struct ActionNumbers {
+    /// What has to be true.
+    pub pre: Vec<u32>,
+    /// What it makes true.
+    pub add: Vec<u32>,
+    /// What it makes false, unless it also makes it true.
+    pub del: Vec<u32>,
+}
+
+impl ActionNumbers {
+    /// No numbers, which take no memory yet.
+    pub fn new(alloc: Global) -> ActionNumbers
+        ensures pre { result.pre.items ≡ [] }
+        ensures add { result.add.items ≡ [] }
+        ensures del { result.del.items ≡ [] }
+    {
+        ActionNumbers {
+            pre: Vec::new(alloc),
+            add: Vec::new(alloc),
+            del: Vec::new(alloc),
+        }
+    }
+}
 
 /// The numbers of what an action needs.
 fn needed_numbers(
-    alloc: Global,
+    out: &mut Vec<u32>,
     scratch: &mut Vec<u32>,
     facts: &IndexSet<GroundFact>,
     factor: &LiftedFactor,
     objects: &[u32],
     action: &LiftedAction,
-) -> Result<List<u32>, OutOfMemory>
+) -> Result<(), OutOfMemory>
     requires { length facts.now.keys ≤ 65535 }
-    ensures { IfOk result (λ out. out
+    ensures { OnOk result (out.new.items
         ≡ numbers_of facts.now.keys (needed factor.now action.now objects.now)) }
 {
     let positive = action.positive.as_slice();
     let negative = action.negative.as_slice();
-    let mut out = List::with_capacity(alloc, positive.len().saturating_add(negative.len()))?;
-    add_numbers(&mut out, scratch, facts, factor, objects, false, positive)?;
-    add_numbers(&mut out, scratch, facts, factor, objects, true, negative)?;
-    Ok(out)
+    out.clear();
+    add_numbers(out, scratch, facts, factor, objects, false, positive)?;
+    add_numbers(out, scratch, facts, factor, objects, true, negative)?;
+    Ok(())
 }
 
 /// The numbers of what an action adds.
 fn added_numbers(
-    alloc: Global,
+    out: &mut Vec<u32>,
     scratch: &mut Vec<u32>,
     facts: &IndexSet<GroundFact>,
     factor: &LiftedFactor,
     objects: &[u32],
     action: &LiftedAction,
-) -> Result<List<u32>, OutOfMemory>
+) -> Result<(), OutOfMemory>
     requires { length facts.now.keys ≤ 65535 }
-    ensures { IfOk result (λ out. out
+    ensures { OnOk result (out.new.items
         ≡ numbers_of facts.now.keys (added factor.now action.now objects.now)) }
 {
     let adds = action.add.as_slice();
     let dels = action.del.as_slice();
-    let mut out = List::with_capacity(alloc, adds.len())?;
-    add_numbers(&mut out, scratch, facts, factor, objects, false, adds)?;
-    add_complements(&mut out, scratch, facts, factor, objects, adds, dels)?;
-    Ok(out)
+    out.clear();
+    add_numbers(out, scratch, facts, factor, objects, false, adds)?;
+    add_complements(out, scratch, facts, factor, objects, adds, dels)?;
+    Ok(())
 }
 
 /// The numbers of what an action deletes.
 fn deleted_numbers(
-    alloc: Global,
+    out: &mut Vec<u32>,
     scratch: &mut Vec<u32>,
     facts: &IndexSet<GroundFact>,
     factor: &LiftedFactor,
     objects: &[u32],
     action: &LiftedAction,
-) -> Result<List<u32>, OutOfMemory>
+) -> Result<(), OutOfMemory>
     requires { length facts.now.keys ≤ 65535 }
-    ensures { IfOk result (λ out. out
+    ensures { OnOk result (out.new.items
         ≡ numbers_of facts.now.keys (deleted factor.now action.now objects.now)) }
 {
     let dels = action.del.as_slice();
     let adds = action.add.as_slice();
-    let mut out = List::with_capacity(alloc, dels.len())?;
-    add_numbers(&mut out, scratch, facts, factor, objects, false, dels)?;
-    add_complements(&mut out, scratch, facts, factor, objects, &[], adds)?;
-    Ok(out)
+    out.clear();
+    add_numbers(out, scratch, facts, factor, objects, false, dels)?;
+    add_complements(out, scratch, facts, factor, objects, &[], adds)?;
+    Ok(())
 }
 
-/// An instance of this action.
-fn action_with(
-    alloc: Global,
+/// The numbers of what this action needs, adds and deletes.
+fn number_lifted(
+    numbers: &mut ActionNumbers,
     scratch: &mut Vec<u32>,
     facts: &IndexSet<GroundFact>,
     factor: &LiftedFactor,
-    instance: ActionBinding,
+    objects: &[u32],
     action: &LiftedAction,
-) -> Result<GroundAction, OutOfMemory>
+) -> Result<(), OutOfMemory>
     requires { length facts.now.keys ≤ 65535 }
-    ensures { IfOk result (λ made. made ≡ record {
-      action = instance.action;
-      objects = instance.objects;
-      cost = instance.cost;
-      pre = numbers_of facts.now.keys (needed factor.now action.now instance.objects);
-      add = numbers_of facts.now.keys (added factor.now action.now instance.objects);
-      del = numbers_of facts.now.keys (deleted factor.now action.now instance.objects);
-    }) }
+    ensures pre { OnOk result (numbers.new.pre.items
+        ≡ numbers_of facts.now.keys (needed factor.now action.now objects.now)) }
+    ensures add { OnOk result (numbers.new.add.items
+        ≡ numbers_of facts.now.keys (added factor.now action.now objects.now)) }
+    ensures del { OnOk result (numbers.new.del.items
+        ≡ numbers_of facts.now.keys (deleted factor.now action.now objects.now)) }
 {
-    let objects = instance.objects.as_slice();
-    let pre = needed_numbers(alloc, scratch, facts, factor, objects, action)?;
-    let add = added_numbers(alloc, scratch, facts, factor, objects, action)?;
-    let del = deleted_numbers(alloc, scratch, facts, factor, objects, action)?;
-    Ok(GroundAction {
-        action: instance.action,
-        objects: instance.objects,
-        cost: instance.cost,
-        pre,
-        add,
-        del,
-    })
+    needed_numbers(&mut numbers.pre, scratch, facts, factor, objects, action)?;
+    added_numbers(&mut numbers.add, scratch, facts, factor, objects, action)?;
+    deleted_numbers(&mut numbers.del, scratch, facts, factor, objects, action)
 }
 
-/// An instance of an action that the factor does not have: it touches nothing.
-fn missing_action(alloc: Global, instance: ActionBinding) -> GroundAction
-    ensures { result ≡ record {
-      action = instance.action;
-      objects = instance.objects;
-      cost = instance.cost;
-      pre = [];
-      add = [];
-      del = [];
-    } }
-{
-    GroundAction {
-        action: instance.action,
-        objects: instance.objects,
-        cost: instance.cost,
-        pre: List::new(alloc),
-        add: List::new(alloc),
-        del: List::new(alloc),
-    }
-}
-
-/// An instance with the numbers of what it needs, adds and deletes.
-fn ground_action(
-    alloc: Global,
+/// The numbers of what the action at a place needs, adds and deletes with these objects: none where
+/// there is no such action. What `scratch` has is lost.
+pub fn number_action(
+    numbers: &mut ActionNumbers,
     scratch: &mut Vec<u32>,
     facts: &IndexSet<GroundFact>,
     factor: &LiftedFactor,
-    instance: ActionBinding,
-) -> Result<GroundAction, OutOfMemory>
+    action: usize,
+    objects: &[u32],
+) -> Result<(), OutOfMemory>
     requires { length facts.now.keys ≤ 65535 }
-    ensures { IfOk result (λ made. made
-        ≡ ground_action_of factor.now facts.now.keys instance) }
+    ensures pre { OnOk result (numbers.new.pre.items
+        ≡ numbers_of facts.now.keys (of_place factor.now needed action objects.now)) }
+    ensures add { OnOk result (numbers.new.add.items
+        ≡ numbers_of facts.now.keys (of_place factor.now added action objects.now)) }
+    ensures del { OnOk result (numbers.new.del.items
+        ≡ numbers_of facts.now.keys (of_place factor.now deleted action objects.now)) }
 {
-    match factor.actions.get(instance.action) {
-        Some(action) => action_with(alloc, scratch, facts, factor, instance, action),
-        None => Ok(missing_action(alloc, instance)),
+    match factor.actions.get(action) {
+        Some(lifted) => number_lifted(numbers, scratch, facts, factor, objects, lifted),
+        None => {
+            numbers.pre.clear();
+            numbers.add.clear();
+            numbers.del.clear();
+            Ok(())
+        }
     }
-}
-
-/// Instances with the numbers of what they need, add and delete.
-pub fn ground_actions(
-    alloc: Global,
-    facts: &IndexSet<GroundFact>,
-    factor: &LiftedFactor,
-    instances: ActionBindingList,
-) -> Result<List<GroundAction>, OutOfMemory>
-    requires { length facts.now.keys ≤ 65535 }
-    ensures { IfOk result (λ made. made
-        ≡ map (ground_action_of factor.now facts.now.keys) instances) }
-{
-    let mut scratch = Vec::new(alloc);
-    let mut made = List::with_capacity(alloc, instances.len())?;
-    for instance in instances.into_items() {
-        made.push(ground_action(alloc, &mut scratch, facts, factor, instance)?)?;
-    }
-    Ok(made)
 }

@@ -1,15 +1,37 @@
 //! Facts by parts that are borrowed, to look them up without memory.
 
+ghost use Rattle.std.specs.Hash as fed;
+ghost use Rattle.std.specs.Cmp.Rules.{hashing};
+ghost use Rattle.std.proofs.Common.{rules};
+ghost use Rattle.mp_ground_facts.specs.Mixed.{mixed as mixed_parts};
+
 use crate::fact::GroundFact;
+use crate::mixed::mixed;
 use indexmap::Equivalent;
+use std::hash::{Hash, Hasher};
 
 /// A fact or the complement of one whose objects are borrowed.
-#[derive(Clone, Copy, PartialEq, Eq, Hash)]
+#[derive(Clone, Copy, PartialEq, Eq)]
 pub struct FactKey<'a> {
     pub is_public: bool,
     pub is_complement: bool,
     pub predicate: u32,
     pub objects: &'a [u32],
+}
+
+impl Hash for FactKey<'_> {
+    ghost hash_input = { λ k. fed.u64 (mixed_parts k.is_public k.is_complement k.predicate k.objects.now) };
+
+    ghost respects_eq = { Prim.search (hashing, rules) };
+
+    fn hash<H: Hasher>(&self, state: &mut H) {
+        state.write_u64(mixed(
+            self.is_public,
+            self.is_complement,
+            self.predicate,
+            self.objects,
+        ));
+    }
 }
 
 impl Equivalent<GroundFact> for FactKey<'_> {

@@ -4,11 +4,9 @@ ghost use Rattle.std.specs.Prelude.{◌≡◌, ◌<◌, ◌≤◌, length, IfOk,
 ghost use Rattle.mp_typing.specs.Places.{numbers_where};
 ghost use Rattle.mp_ground_facts.specs.Facts.{is_initial as is_initial_fact};
 ghost use Rattle.mp_ground_facts.specs.Touched.{goal_facts};
-ghost use Rattle.mp_ground_facts.specs.Ground.{facts_of, numbers_of, ground_with as ground_with_facts, ground_factor as ground_factor_of};
+ghost use Rattle.mp_ground_facts.specs.Ground.{facts_of, numbers_of};
 
-use crate::actions::ground_actions;
 use crate::fact::GroundFact;
-use crate::grounded::GroundFactor;
 use crate::numbers::add_fact_numbers;
 use crate::refusal::FactRefusal;
 use crate::touched::sorted_facts;
@@ -22,7 +20,7 @@ use std::alloc::Global;
 const MAX_FACTS: usize = 65_535;
 
 /// The numbers of what the goals ask for.
-fn goal_numbers(
+pub fn goal_numbers(
     alloc: Global,
     facts: &IndexSet<GroundFact>,
     factor: &LiftedFactor,
@@ -49,7 +47,7 @@ fn is_initial(start: &StartFacts<'_>, fact: &GroundFact) -> bool
 }
 
 /// The numbers of the facts and complements that are true at the start.
-fn start_numbers(
+pub fn start_numbers(
     alloc: Global,
     factor: &LiftedFactor,
     facts: &[GroundFact],
@@ -69,56 +67,22 @@ fn start_numbers(
     Ok(out)
 }
 
-/// The facts of a set as a list.
-fn list_of(alloc: Global, facts: IndexSet<GroundFact>) -> Result<List<GroundFact>, OutOfMemory>
-    ensures { IfOk result (λ list. list ≡ facts.keys) }
-{
-    let mut list = List::with_capacity(alloc, facts.len())?;
-    for fact in facts {
-        list.push(fact)?;
-    }
-    Ok(list)
-}
-
-/// Grounds a factor to these instances with these facts.
-fn ground_with(
+/// The facts and complements that these instances touch or goals name, each once, in their order:
+/// their places are their numbers. Refuses where there are more than 65,535, with their number.
+pub fn numbered_facts(
     alloc: Global,
     factor: &LiftedFactor,
-    facts: IndexSet<GroundFact>,
-    instances: ActionBindingList,
-) -> Result<GroundFactor, OutOfMemory>
-    requires { length facts.keys ≤ 65535 }
-    ensures { IfOk result (λ made. made
-        ≡ ground_with_facts factor.now facts.keys instances) }
-{
-    let actions = ground_actions(alloc, &facts, factor, instances)?;
-    let start = start_numbers(alloc, factor, facts.as_slice())?;
-    let goals = goal_numbers(alloc, &facts, factor)?;
-    let facts = list_of(alloc, facts)?;
-    Ok(GroundFactor {
-        facts,
-        actions,
-        start,
-        goals,
-    })
-}
-
-/// Grounds a factor to these instances: numbers the facts and complements that they touch or goals
-/// name. Refuses where there are more than 65,535, with their number.
-pub fn ground_factor(
-    alloc: Global,
-    factor: &LiftedFactor,
-    instances: ActionBindingList,
-) -> Result<GroundFactor, FactRefusal>
-    ensures given { IfOk result (λ made. made ≡ ground_factor_of factor.now instances) }
-    ensures within { IfOk result (λ made. length made.facts ≤ 65535) }
+    instances: &ActionBindingList,
+) -> Result<IndexSet<GroundFact>, FactRefusal>
+    ensures given { IfOk result (λ facts. facts.keys ≡ facts_of factor.now instances.now) }
+    ensures within { IfOk result (λ facts. length facts.keys ≤ 65535) }
     ensures facts { (n : ℕ) → result ≡ Err (FactRefusal.TooManyFacts n)
-        → (n ≡ length (facts_of factor.now instances)) × (65535 < n) }
+        → (n ≡ length (facts_of factor.now instances.now)) × (65535 < n) }
 {
-    let facts = sorted_facts(alloc, factor, instances.as_slice())?;
+    let facts = sorted_facts(alloc, factor, instances)?;
     let count = facts.len();
     if count > MAX_FACTS {
         return Err(FactRefusal::TooManyFacts(count as u64));
     }
-    Ok(ground_with(alloc, factor, facts, instances)?)
+    Ok(facts)
 }

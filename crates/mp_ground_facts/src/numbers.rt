@@ -43,7 +43,7 @@ fn number(
 /// Adds the number of the fact of an atom, or of its complement, where these objects stand for the
 /// parameters.
 fn add_number(
-    out: &mut List<u32>,
+    out: &mut Vec<u32>,
     scratch: &mut Vec<u32>,
     facts: &IndexSet<GroundFact>,
     factor: &LiftedFactor,
@@ -52,7 +52,7 @@ fn add_number(
     atom: &LiftedAtom,
 ) -> Result<(), OutOfMemory>
     requires { length facts.now.keys ≤ 65535 }
-    ensures { OnOk result (out.new ≡ out.old ++ number_of facts.now.keys
+    ensures { OnOk result (out.new.items ≡ out.old.items ++ number_of facts.now.keys
         (fact_of factor.now is_complement (atom_at objects.now atom.now)) ∷ []) }
 {
     scratch.clear();
@@ -63,13 +63,14 @@ fn add_number(
         is_complement,
         atom.symbol,
         scratch.as_slice(),
-    ))
+    ))?;
+    Ok(())
 }
 
 /// Adds the numbers of the facts of atoms, or of their complements, where these objects stand for
 /// the parameters.
 pub fn add_numbers(
-    out: &mut List<u32>,
+    out: &mut Vec<u32>,
     scratch: &mut Vec<u32>,
     facts: &IndexSet<GroundFact>,
     factor: &LiftedFactor,
@@ -78,7 +79,7 @@ pub fn add_numbers(
     atoms: &[LiftedAtom],
 ) -> Result<(), OutOfMemory>
     requires { length facts.now.keys ≤ 65535 }
-    ensures { OnOk result (out.new ≡ out.old ++ numbers_of facts.now.keys
+    ensures { OnOk result (out.new.items ≡ out.old.items ++ numbers_of facts.now.keys
         (map (fact_of factor.now is_complement) (atoms_at objects.now atoms.now))) }
 {
     for atom in atoms {
@@ -89,7 +90,7 @@ pub fn add_numbers(
 
 /// Adds the number of the complement of an atom that has one and is none of others.
 fn add_complement(
-    out: &mut List<u32>,
+    out: &mut Vec<u32>,
     scratch: &mut Vec<u32>,
     facts: &IndexSet<GroundFact>,
     factor: &LiftedFactor,
@@ -98,7 +99,7 @@ fn add_complement(
     atom: &LiftedAtom,
 ) -> Result<(), OutOfMemory>
     requires { length facts.now.keys ≤ 65535 }
-    ensures { OnOk result (out.new ≡ out.old ++ numbers_of facts.now.keys
+    ensures { OnOk result (out.new.items ≡ out.old.items ++ numbers_of facts.now.keys
         (map (complement factor.now) (with_complements factor.now (atoms_at objects.now others.now)
         (atom_at objects.now atom.now ∷ [])))) }
 {
@@ -110,7 +111,7 @@ fn add_complement(
 
 /// Adds the numbers of the complements of those atoms that have one and are none of others.
 pub fn add_complements(
-    out: &mut List<u32>,
+    out: &mut Vec<u32>,
     scratch: &mut Vec<u32>,
     facts: &IndexSet<GroundFact>,
     factor: &LiftedFactor,
@@ -119,7 +120,7 @@ pub fn add_complements(
     atoms: &[LiftedAtom],
 ) -> Result<(), OutOfMemory>
     requires { length facts.now.keys ≤ 65535 }
-    ensures { OnOk result (out.new ≡ out.old ++ numbers_of facts.now.keys
+    ensures { OnOk result (out.new.items ≡ out.old.items ++ numbers_of facts.now.keys
         (map (complement factor.now) (with_complements factor.now (atoms_at objects.now others.now)
         (atoms_at objects.now atoms.now)))) }
 {

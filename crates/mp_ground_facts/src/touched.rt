@@ -4,13 +4,13 @@ ghost use Rattle.std.specs.Prelude.{◌≡◌, [], IfOk, OnOk};
 ghost use Rattle.std.specs.List.{flat_map};
 ghost use Rattle.indexmap.specs.IndexSet.{insert_all};
 ghost use Rattle.mp_ground_facts.specs.Facts.{same_fact};
-ghost use Rattle.mp_ground_facts.specs.Touched.{needed, added, deleted, touched, of_action, goal_facts, counted};
+ghost use Rattle.mp_ground_facts.specs.Touched.{needed, added, deleted, touched, of_action, of_place, goal_facts, counted};
 ghost use Rattle.mp_ground_facts.specs.Ground.{facts_of};
 
 use crate::fact::GroundFact;
 use crate::touch::{touch_atoms, touch_complements, touch_facts};
 use indexmap::IndexSet;
-use mp_atoms::ActionBinding;
+use mp_atoms::ActionBindingList;
 use mp_lifted::{LiftedAction, LiftedFactor};
 use mp_list::OutOfMemory;
 use std::alloc::Global;
@@ -102,18 +102,19 @@ fn touch_action(
     touch_deleted(facts, scratch, factor, objects, action)
 }
 
-/// Adds what an instance touches.
-fn touch_instance(
+/// Adds what the action at a place touches with these objects.
+fn touch_place(
     facts: &mut IndexSet<GroundFact>,
     scratch: &mut Vec<u32>,
     factor: &LiftedFactor,
-    instance: &ActionBinding,
+    action: usize,
+    objects: &[u32],
 ) -> Result<(), OutOfMemory>
     ensures { OnOk result (facts.new.keys
-        ≡ insert_all same_fact facts.old.keys (of_action factor.now touched instance.now)) }
+        ≡ insert_all same_fact facts.old.keys (of_place factor.now touched action objects.now)) }
 {
-    match factor.actions.get(instance.action) {
-        Some(action) => touch_action(facts, scratch, factor, instance.objects.as_slice(), action),
+    match factor.actions.get(action) {
+        Some(lifted) => touch_action(facts, scratch, factor, objects, lifted),
         None => Ok(()),
     }
 }
@@ -124,13 +125,14 @@ fn touch_instances(
     facts: &mut IndexSet<GroundFact>,
     scratch: &mut Vec<u32>,
     factor: &LiftedFactor,
-    instances: &[ActionBinding],
+    instances: &ActionBindingList,
 ) -> Result<(), OutOfMemory>
     ensures { OnOk result (facts.new.keys ≡ insert_all same_fact facts.old.keys
         (flat_map (of_action factor.now touched) instances.now)) }
 {
-    for instance in instances {
-        touch_instance(facts, scratch, factor, instance)?;
+    for at in 0..instances.len() {
+        let instance = instances.at(at);
+        touch_place(facts, scratch, factor, instance.action, instance.objects)?;
     }
     Ok(())
 }
@@ -150,7 +152,7 @@ fn touch_goals(facts: &mut IndexSet<GroundFact>, factor: &LiftedFactor) -> Resul
 fn counted_facts(
     alloc: Global,
     factor: &LiftedFactor,
-    instances: &[ActionBinding],
+    instances: &ActionBindingList,
 ) -> Result<IndexSet<GroundFact>, OutOfMemory>
     ensures { IfOk result (λ facts. facts.keys
         ≡ insert_all same_fact [] (counted factor.now instances.now)) }
@@ -166,7 +168,7 @@ fn counted_facts(
 pub fn sorted_facts(
     alloc: Global,
     factor: &LiftedFactor,
-    instances: &[ActionBinding],
+    instances: &ActionBindingList,
 ) -> Result<IndexSet<GroundFact>, OutOfMemory>
     ensures { IfOk result (λ facts. facts.keys ≡ facts_of factor.now instances.now) }
 {

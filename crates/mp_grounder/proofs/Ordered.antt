@@ -15,7 +15,7 @@ use Rattle.mp_lifted.specs.declared.view.OpenView.{OpenView}
 use Rattle.mp_lifted.specs.Factors.{lifted_factor}
 use Rattle.mp_lifted.specs.Views.{setting_of}
 use Rattle.mp_lifted.specs.Vocabulary.{vocabulary_of}
-use Rattle.mp_atoms.specs.declared.binding.ActionBinding.{ActionBinding}
+use Rattle.mp_atoms.specs.Binding.{ActionBinding}
 use Rattle.mp_atoms.specs.Start.{is_private}
 use Rattle.mp_instances.specs.Instances.{instances}
 use Rattle.mp_ground_facts.specs.declared.fact.GroundFact.{GroundFact}

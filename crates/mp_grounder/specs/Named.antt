@@ -16,7 +16,7 @@ use Rattle.mp_lifted.specs.Factors.{lifted_factor}
 use Rattle.mp_lifted.specs.Lifting.{lifted_action}
 use Rattle.mp_lifted.specs.Views.{is_changed}
 use Rattle.mp_lifted.specs.Vocabulary.{vocabulary_of}
-use Rattle.mp_atoms.specs.declared.binding.ActionBinding.{ActionBinding}
+use Rattle.mp_atoms.specs.Binding.{ActionBinding}
 use Rattle.mp_atoms.specs.Start.{is_private}
 use Rattle.mp_ground_facts.specs.declared.fact.GroundFact.{GroundFact}
 use Rattle.mp_ground_facts.specs.Facts.{atom_of}

@@ -5,7 +5,7 @@ ghost use Rattle.mp_grounder.specs.Named.{step_of};
 ghost use Rattle.mp_outcome.specs.Renumbered.{IsRenumbered};
 ghost use Rattle.mp_trail.specs.declared.steps.Timed.{Timed as TimedOf};
 
-use mp_atoms::ActionBinding;
+use mp_atoms::ActionBindingList;
 use mp_ground::step_name;
 use mp_joint::Names;
 use mp_list::{List, OutOfMemory};
@@ -41,7 +41,7 @@ impl Named {
         alloc: Global,
         factor: &CheckedFactor,
         me: Agent,
-        steps: &[ActionBinding],
+        steps: &ActionBindingList,
         timed: Timed,
     ) -> Result<(), OutOfMemory>
         ensures { (share : ListOf TimedOf)
@@ -68,7 +68,7 @@ pub(crate) fn named_share(
     alloc: Global,
     factor: &CheckedFactor,
     me: Agent,
-    steps: &[ActionBinding],
+    steps: &ActionBindingList,
     share: &[Timed],
 ) -> Result<Named, OutOfMemory>
     ensures { IfOk result (λ named. IsRenumbered (map (step_of me factor.now) steps.now) share.now

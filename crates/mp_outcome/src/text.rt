@@ -40,7 +40,7 @@ fn named_at(
     let Some(me) = Agent::new(place as u16 + 1) else {
         return Ok(Named::new(alloc));
     };
-    named_share(alloc, factor, me, own.as_slice(), share)
+    named_share(alloc, factor, me, own, share)
 }
 
 /// The shares of all agents by names.

@@ -9,12 +9,11 @@ use Rattle.mp_typing.specs.Places.{numbers_where}
 use Rattle.mp_typing.proofs.Passing.{taken_passes}
 use Rattle.mp_lifted.specs.declared.lifted.GroundAtom.{GroundAtom}
 use Rattle.mp_lifted.specs.declared.lifted.LiftedFactor.{LiftedFactor}
-use Rattle.mp_atoms.specs.declared.binding.ActionBinding.{ActionBinding}
+use Rattle.mp_atoms.specs.Binding.{ActionBinding}
 use Rattle.mp_instances.specs.Instances.{instances}
 use Rattle.mp_ground_facts.specs.declared.fact.GroundFact.{GroundFact}
-use Rattle.mp_ground_facts.specs.declared.grounded.GroundFactor.{GroundFactor}
 use Rattle.mp_ground_facts.specs.Facts.{fact_cmp, is_initial}
-use Rattle.mp_ground_facts.specs.Ground.{facts_of, numbers_of, ground_action, ground_factor}
+use Rattle.mp_ground_facts.specs.Ground.{GroundFactor, facts_of, numbers_of, ground_action, ground_factor}
 use Rattle.mp_ground_facts.specs.Touched.{goal_facts}
 use Rattle.mp_ground_facts.proofs.FactsOf.{facts_rise}
 use Rattle.mp_views.specs.Sorted.{sorted_once}

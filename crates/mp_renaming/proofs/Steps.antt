@@ -10,7 +10,7 @@ use Rattle.mp_joint.specs.Fact.{Text}
 use Rattle.mp_lifted.specs.declared.view.OpenView.{OpenView}
 use Rattle.mp_lifted.specs.Factors.{lifted_factor}
 use Rattle.mp_lifted.specs.Vocabulary.{vocabulary_of}
-use Rattle.mp_atoms.specs.declared.binding.ActionBinding.{ActionBinding}
+use Rattle.mp_atoms.specs.Binding.{ActionBinding}
 use Rattle.mp_instances.specs.Instances.{instances}
 use Rattle.mp_grounder.specs.Checked.{IsChecked}
 use Rattle.mp_grounder.specs.Named.{action_names, named_objects, step_of, IsInstance, IsObject}

@@ -1,11 +1,11 @@
 use Rattle.std.proofs.Common.{◌≡◌, ◌≤◌, ℕ, List, length, sym, ap, ◌∙◌, subst}
 use Rattle.mp_lifted.specs.declared.lifted.LiftedFactor.{LiftedFactor}
 use Rattle.mp_lifted.specs.Factors.{lifted_factor}
-use Rattle.mp_atoms.specs.declared.binding.ActionBinding.{ActionBinding}
+use Rattle.mp_atoms.specs.Binding.{ActionBinding}
 use Rattle.mp_instances.specs.Costs.{HasSmallCosts}
 use Rattle.mp_instances.specs.Instances.{instances}
-use Rattle.mp_ground_facts.specs.declared.grounded.GroundFactor.{GroundFactor}
-use Rattle.mp_ground_facts.specs.Ground.{ground_factor}
+use Rattle.mp_ground_facts.specs.declared.fact.GroundFact.{GroundFact}
+use Rattle.mp_ground_facts.specs.Ground.{facts_of, ground_with}
 use Rattle.mp_grounder.proofs.SmallCosts.{small_costs}
 use Rattle.mp_ground.specs.Grounded.{IsGrounded}
 use Rattle.mp_ground.specs.Limits.{KeepsLimits}
@@ -23,28 +23,29 @@ returns-in_err-list-clause-refused c =
     refused_on _ c.in_err-list.field-0.0 _ c.from_residual-in_err-list.ensures.1
     (c.in_err-list.ensures.refused c.args.factor.now c.args.known.now c.in_ok-lifted.ensures)
 
-pub returns-in_err-numbered-clause-refused : goal.returns-in_err-numbered-clause-refused
-returns-in_err-numbered-clause-refused c =
-    refused_on _ c.in_err-numbered.field-0.0 _ c.from_residual-in_err-numbered.ensures.1
-    (c.in_err-numbered.ensures.refused c.args.factor.now c.args.known.now c.in_ok-lifted.ensures)
+pub returns-in_err-facts-clause-refused : goal.returns-in_err-facts-clause-refused
+returns-in_err-facts-clause-refused c =
+    refused_on _ c.in_err-facts.field-0.0 _ c.from_residual-in_err-facts.ensures.1
+    (c.in_err-facts.ensures.refused c.args.factor.now c.args.known.now c.in_ok-lifted.ensures)
 
 pub returns-clause-given : goal.returns-clause-given
 returns-clause-given c =
     let lifted = lifted_factor c.args.factor.now c.args.known.now in
     let names = c.in_ok-names.ensures ∙ ap fact_names c.factor.ensures.same in
-    let numbered : c.in_ok-numbered.numbered ≡ ground_factor lifted (instances lifted) =
-    c.in_ok-numbered.ensures.given ∙ ap (λ (l : LiftedFactor). ground_factor l (instances l)) c.in_ok-lifted.ensures in
-    let is = c.in_ok-turned.ensures ∙ (λ i. ground_at c.args.me (names i) (numbered i)) in
+    let list : c.in_ok-list.list ≡ instances lifted = c.in_ok-list.ensures.given ∙ ap (λ (l : LiftedFactor). instances l) c.in_ok-lifted.ensures in
+    let facts : c.in_ok-facts.facts.keys ≡ facts_of lifted (instances lifted) =
+    c.in_ok-facts.ensures.given ∙ ap (λ (l : LiftedFactor). facts_of l (instances l)) c.in_ok-lifted.ensures in
+    let is = c.in_ok-turned.ensures ∙ (λ i. ground_at c.args.me (names i) (ground_with (c.in_ok-lifted.ensures i) (facts i) (list i))) in
     subst (IsGrounded _) (sym is) (is_grounded c.args.me c.args.factor.now c.args.known.now c.checked_factor_is_checked.ensures)
 
 pub returns-clause-limits : goal.returns-clause-limits
 returns-clause-limits c =
     let lifted = lifted_factor c.args.factor.now c.args.known.now in
     let names = c.in_ok-names.ensures ∙ ap fact_names c.factor.ensures.same in
-    let numbered : c.in_ok-numbered.numbered ≡ ground_factor lifted (instances lifted) =
-    c.in_ok-numbered.ensures.given ∙ ap (λ (l : LiftedFactor). ground_factor l (instances l)) c.in_ok-lifted.ensures in
-    let is = c.in_ok-turned.ensures ∙ (λ i. ground_at c.args.me (names i) (numbered i)) in
     let list : c.in_ok-list.list ≡ instances lifted = c.in_ok-list.ensures.given ∙ ap (λ (l : LiftedFactor). instances l) c.in_ok-lifted.ensures in
+    let facts : c.in_ok-facts.facts.keys ≡ facts_of lifted (instances lifted) =
+    c.in_ok-facts.ensures.given ∙ ap (λ (l : LiftedFactor). facts_of l (instances l)) c.in_ok-lifted.ensures in
+    let is = c.in_ok-turned.ensures ∙ (λ i. ground_at c.args.me (names i) (ground_with (c.in_ok-lifted.ensures i) (facts i) (list i))) in
     let few_acts = subst (λ (bs : List ActionBinding). length bs ≤ 200000) list c.in_ok-list.ensures.within.1 in
-    let few = subst (λ (g : GroundFactor). length g.facts ≤ 65535) numbered c.in_ok-numbered.ensures.within in
+    let few = subst (λ (fs : List GroundFact). length fs ≤ 65535) facts c.in_ok-facts.ensures.within in
     subst KeepsLimits (sym is) (keeps_limits c.args.me c.args.factor.now c.args.known.now c.checked_factor_is_checked.ensures few_acts few)

@@ -13,9 +13,9 @@ returns c =
     let factor = c.args.factor.now in
     let dels = map (plain factor) (atoms_at c.args.objects.now c.args.action.now.del) in
     let adds = atoms_at c.args.objects.now c.args.action.now.add in
-    let first : c.add_numbers.new.out ≡ numbers_of keys dels =
+    let first : c.add_numbers.new.out.items ≡ numbers_of keys dels =
     c.in_ok-add_numbers.ensures
-    ∙ (λ j. c.in_ok-out.ensures j ++ numbers_of keys (map (plain factor) (atoms_at c.args.objects.now (c.as_slice-dels.ensures j)))) in
+    ∙ (λ j. c.clear.ensures.items j ++ numbers_of keys (map (plain factor) (atoms_at c.args.objects.now (c.as_slice-dels.ensures j)))) in
     c.in_ok-add_complements.ensures
     ∙ (λ j. first j ++ numbers_of keys (map (complement factor) (with_complements factor [] (atoms_at c.args.objects.now (c.as_slice-adds.ensures j)))))
     ∙ (λ j. numbers_of keys dels ++ numbers_of keys (map (complement factor) (no_others factor adds j)))

@@ -17,9 +17,9 @@ loop-atom-preserved c =
     ap (λ (out : List ℕ). out ++ left (drop (l.atom-index + 1) c.args.atoms.now)) (c.in_ok-add_complement.ensures)
     ∙ left_more left left (λ x xs.
     ap (map (number_of c.args.facts.now.keys)) (filtered_parts (complement c.args.factor.now) passes (atom_at c.args.objects.now x) (atoms_at c.args.objects.now xs))
-    ∙ map-append (number_of c.args.facts.now.keys) (map (complement c.args.factor.now) (filter passes (atom_at c.args.objects.now x ∷ []))) (map (complement c.args.factor.now) (filter passes (atoms_at c.args.objects.now xs)))) l.out (c.args.out.now ++ left c.args.atoms.now) c.args.atoms.now l.atom-index c.atom-item.result c.loop-atom-test.true c.atom-item.is l.invariant
+    ∙ map-append (number_of c.args.facts.now.keys) (map (complement c.args.factor.now) (filter passes (atom_at c.args.objects.now x ∷ []))) (map (complement c.args.factor.now) (filter passes (atoms_at c.args.objects.now xs)))) l.out.items (c.args.out.now.items ++ left c.args.atoms.now) c.args.atoms.now l.atom-index c.atom-item.result c.loop-atom-test.true c.atom-item.is l.invariant
 
 pub returns : goal.returns
 returns c =
     let left = λ (xs : List LiftedAtom). numbers_of c.args.facts.now.keys (map (complement c.args.factor.now) (with_complements c.args.factor.now (atoms_at c.args.objects.now c.args.others.now) (atoms_at c.args.objects.now xs))) in
-    left_none left refl c.loop-atom.out (c.args.out.now ++ left c.args.atoms.now) c.args.atoms.now c.loop-atom.atom-index c.loop-atom-test.false c.loop-atom.invariant
+    left_none left refl c.loop-atom.out.items (c.args.out.now.items ++ left c.args.atoms.now) c.args.atoms.now c.loop-atom.atom-index c.loop-atom-test.false c.loop-atom.invariant

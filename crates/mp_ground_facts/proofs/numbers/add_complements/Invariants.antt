@@ -7,5 +7,5 @@ use Rattle.mp_ground_facts.proofs.numbers.add_complements.Given as goal
 
 abbrev pub invariant-loop-atom : goal.invariant-loop-atom
 invariant-loop-atom l =
-    l.out ++ numbers_of l.facts.keys (map (complement l.factor) (with_complements l.factor (atoms_at l.objects l.others) (atoms_at l.objects (drop l.atom-index l.atoms))))
-    ≡ l.initial.out ++ numbers_of l.facts.keys (map (complement l.factor) (with_complements l.factor (atoms_at l.objects l.others) (atoms_at l.objects l.atoms)))
+    l.out.items ++ numbers_of l.facts.keys (map (complement l.factor) (with_complements l.factor (atoms_at l.objects l.others) (atoms_at l.objects (drop l.atom-index l.atoms))))
+    ≡ l.initial.out.items ++ numbers_of l.facts.keys (map (complement l.factor) (with_complements l.factor (atoms_at l.objects l.others) (atoms_at l.objects l.atoms)))

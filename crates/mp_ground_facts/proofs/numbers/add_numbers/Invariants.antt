@@ -6,5 +6,5 @@ use Rattle.mp_ground_facts.proofs.numbers.add_numbers.Given as goal
 
 abbrev pub invariant-loop-atom : goal.invariant-loop-atom
 invariant-loop-atom l =
-    l.out ++ numbers_of l.facts.keys (map (fact_of l.factor l.is_complement) (atoms_at l.objects (drop l.atom-index l.atoms)))
-    ≡ l.initial.out ++ numbers_of l.facts.keys (map (fact_of l.factor l.is_complement) (atoms_at l.objects l.atoms))
+    l.out.items ++ numbers_of l.facts.keys (map (fact_of l.factor l.is_complement) (atoms_at l.objects (drop l.atom-index l.atoms)))
+    ≡ l.initial.out.items ++ numbers_of l.facts.keys (map (fact_of l.factor l.is_complement) (atoms_at l.objects l.atoms))

@@ -5,7 +5,7 @@ use Rattle.mp_ground_facts.specs.Facts.{same_fact}
 use Rattle.mp_ground_facts.specs.Touched.{of_action, touched}
 use Rattle.mp_ground_facts.proofs.touched.touch_instances.Given as goal
 
-abbrev pub invariant-loop-instance : goal.invariant-loop-instance
-invariant-loop-instance l =
-    insert_all same_fact l.facts.keys (flat_map (of_action l.factor touched) (drop l.instance-index l.instances))
+abbrev pub invariant-loop-at : goal.invariant-loop-at
+invariant-loop-at l =
+    insert_all same_fact l.facts.keys (flat_map (of_action l.factor touched) (drop l.at l.instances))
     ≡ insert_all same_fact l.initial.facts.keys (flat_map (of_action l.factor touched) l.instances)

@@ -29,15 +29,14 @@ pub returns : goal.returns
 returns c =
     let number : c.in-Some-new.me ≡ 1 + c.args.place = search rules in
     let old : List PlanStep = names_at (names_of c.args.factors.now c.args.steps.now) c.args.place in
-    let own : List PlanStep = map (step_of c.in-Some-new.me c.in-Some.factor.now) c.as_slice.result.now in
+    let own : List PlanStep = map (step_of c.in-Some-new.me c.in-Some.factor.now) c.in-Some-get.own.now in
     let names : old ≡ own =
-    both 1 c.args.factors.now c.args.steps.now c.args.place c.in-Some-new.me c.in-Some.factor.now _
+    both 1 c.args.factors.now c.args.steps.now c.args.place c.in-Some-new.me c.in-Some.factor.now c.in-Some-get.own.now
     (got c.args.factors.now c.args.place c.in-Some.factor.now
     c.in-Some.ensures.lookup.3.0 c.in-Some.ensures.lookup.1)
     (got c.args.steps.now c.args.place c.in-Some-get.own.now
     c.in-Some-get.ensures.lookup.3.0 c.in-Some-get.ensures.lookup.1)
-    number
-    ∙ ap (map (step_of c.in-Some-new.me c.in-Some.factor.now)) (sym c.as_slice.ensures) in
+    number in
     IfOk-weaker c.named_share.result (λ named. IsRenumbered own c.args.share.now named.names named.share)
     (λ named. share_lines named.names named.share ≡ share_lines old c.args.share.now)
     (λ named known. known.lines ∙ sym (ap (λ ns. share_lines ns c.args.share.now) names)) c.named_share.ensures

@@ -1,8 +1,7 @@
 use Rattle.std.proofs.Common.{rules, ◌≡◌, length, refl, sym, ap, ◌∙◌, Some}
 use Rattle.std.specs.Option.{option_map}
-use Rattle.std.proofs.lemmas.Option.{slice_get-map, slice_get_past}
+use Rattle.std.proofs.lemmas.Option.{slice_get-map}
 use Rattle.mp_grounder.specs.Named.{step_of}
-use Rattle.mp_outcome.proofs.Pushed.{got}
 use Rattle.mp_outcome.proofs.ShareLemmas.{none_added, when_added}
 use Rattle.mp_outcome.proofs.named.Named.add.Goals as goal
 
@@ -10,8 +9,7 @@ pub returns-in_default : goal.returns-in_default
 returns-in_default c =
     λ share known. none_added _ share c.args.timed c.args.self.now.names c.args.self.now.share
     (slice_get-map (step_of c.args.me c.args.factor.now) c.args.steps.now c.args.timed.action
-    ∙ ap (option_map (step_of c.args.me c.args.factor.now))
-    (slice_get_past c.args.steps.now c.args.timed.action c.in_default.ensures.lookup.3))
+    ∙ ap (option_map (step_of c.args.me c.args.factor.now)) (sym c.in_default.ensures))
     known
 
 pub returns : goal.returns
@@ -21,8 +19,6 @@ returns c =
     (record { time = c.args.timed.time; action = c.in-Ok.action }) c.in_ok-step_name.field-0
     c.args.self.now.names c.push.new.self c.args.self.now.share c.push-2.new.self
     (slice_get-map (step_of c.args.me c.args.factor.now) c.args.steps.now c.args.timed.action
-    ∙ ap (option_map (step_of c.args.me c.args.factor.now))
-    (got c.args.steps.now c.args.timed.action c.in-Some.step.now
-    c.in-Some.ensures.lookup.3.0 c.in-Some.ensures.lookup.1)
+    ∙ ap (option_map (step_of c.args.me c.args.factor.now)) (sym c.in-Some.ensures)
     ∙ ap Some (sym c.in_ok-step_name.ensures))
     refl number c.in_ok-push.ensures.ok c.push-2.ensures.ok known
