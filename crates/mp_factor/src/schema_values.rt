@@ -15,7 +15,7 @@ use crate::literal::{LiteralList, add_condition};
 use crate::trees::{behind_first, members};
 use crate::typed_values::{Typed, TypedList, add_typed, words_of_type};
 use crate::word::{Word, WordList, first_word_in, word_in};
-use mp_list::{Copied, List, OutOfMemory};
+use mp_list::{Copied, List, OutOfMemory, SmallList};
 use mp_sexp::Tree;
 use std::alloc::Global;
 
@@ -56,7 +56,7 @@ fn first_type_in(alloc: Global, trees: &[Tree]) -> Result<WordList, OutOfMemory>
     ensures { IfOk result (λ types. types ≡ from_first type_words (nodes_in trees.now)) }
 {
     match trees {
-        [] => Ok(List::new(alloc)),
+        [] => Ok(SmallList::new(alloc)),
         [tree, ..] => words_of_type(alloc, Some(tree)),
     }
 }

@@ -9,7 +9,7 @@ ghost use Rattle.mp_factor.specs.Values.Typed.{type_words, types_of, types_ahead
 
 use crate::trees::{behind_first, is_list, is_word, members};
 use crate::word::{Word, WordList, word_in, words_in};
-use mp_list::{Copied, List, OutOfMemory};
+use mp_list::{Copied, List, OutOfMemory, SmallList};
 use mp_sexp::Tree;
 use std::alloc::Global;
 
@@ -45,7 +45,7 @@ pub fn type_in(alloc: Global, tree: &Tree) -> Result<WordList, OutOfMemory>
     if is_list(tree) {
         return words_in(alloc, behind_first(members(tree)));
     }
-    let mut types = List::with_capacity(alloc, 1)?;
+    let mut types = SmallList::new(alloc);
     types.push(word_in(alloc, tree)?)?;
     Ok(types)
 }
@@ -72,7 +72,7 @@ pub fn words_of_type(alloc: Global, tree: Option<&Tree>) -> Result<WordList, Out
 {
     match tree {
         Some(tree) => type_in(alloc, tree),
-        None => Ok(List::new(alloc)),
+        None => Ok(SmallList::new(alloc)),
     }
 }
 

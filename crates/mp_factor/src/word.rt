@@ -4,7 +4,7 @@ ghost use Rattle.std.specs.Prelude.{◌≡◌, IfOk};
 ghost use Rattle.mp_sexp.specs.Node.{node_of, nodes_in};
 ghost use Rattle.mp_factor.specs.Values.Words.{word_value, word_values, first_word};
 
-use mp_list::{Copied, List, OutOfMemory};
+use mp_list::{Copied, OutOfMemory, SmallList};
 use mp_sexp::{Name, Place, Tree};
 use std::alloc::Global;
 
@@ -16,8 +16,8 @@ pub struct Word {
     pub at: Place,
 }
 
-/// Words in the order of the file.
-pub type WordList = List<Word>;
+/// Words in the order of the file. Most types are one word, which takes no memory beside its list.
+pub type WordList = SmallList<Word>;
 
 impl Copied for Word {
     fn copy(&self) -> Result<Word, OutOfMemory> {
@@ -50,7 +50,7 @@ pub fn word_in(alloc: Global, tree: &Tree) -> Result<Word, OutOfMemory>
 pub fn words_in(alloc: Global, trees: &[Tree]) -> Result<WordList, OutOfMemory>
     ensures { IfOk result (λ words. words ≡ word_values (nodes_in trees.now)) }
 {
-    let mut words = List::with_capacity(alloc, trees.len())?;
+    let mut words = SmallList::new(alloc);
     for tree in trees {
         words.push(word_in(alloc, tree)?)?;
     }

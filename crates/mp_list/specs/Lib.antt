@@ -2,3 +2,5 @@
 pub mod First
 -- items that repeat an earlier one
 pub mod Repeats
+-- where a small list keeps its items
+pub mod Kept

@@ -6,8 +6,10 @@ mod copied;
 mod laws;
 mod list;
 mod memory;
+mod small_list;
 
 pub use copied::Copied;
 pub use laws::{first_is_one, repeat_has_earlier};
 pub use list::List;
 pub use memory::OutOfMemory;
+pub use small_list::SmallList;

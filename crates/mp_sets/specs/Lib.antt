@@ -1,4 +1,3 @@
 pub mod Compared
-pub mod Data
 pub mod Numbers
 pub mod Words

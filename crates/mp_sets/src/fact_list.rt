@@ -12,8 +12,7 @@ ghost use Rattle.std.specs.Hash as fed;
 ghost use Rattle.std.proofs.Common.{rules};
 ghost use Rattle.mp_sets.specs.Numbers.{IsAboveLast};
 
-use crate::small_list::SmallList;
-use mp_list::{Copied, OutOfMemory};
+use mp_list::{Copied, OutOfMemory, SmallList};
 use std::alloc::Global;
 use std::cmp::Ordering;
 use std::hash::{Hash, Hasher};
@@ -23,7 +22,7 @@ use std::marker::Model;
 /// one number takes no memory beside itself.
 #[derive(Debug, Drop)]
 pub struct FactList {
-    numbers: SmallList,
+    numbers: SmallList<u32>,
 }
 
 impl Model for FactList {
@@ -60,14 +59,14 @@ impl FactList {
     pub fn len(&self) -> usize
         ensures { result ≡ length self.now }
     {
-        self.as_slice().len()
+        self.numbers.len()
     }
 
     /// The number at a place, counted from 0: none exactly where the list is not longer than that.
     pub fn get(&self, at: usize) -> Option<&u32>
         ensures { option_copied result ≡ slice_get self.now at }
     {
-        self.as_slice().get(at)
+        self.numbers.get(at)
     }
 
     /// The numbers, least one first.

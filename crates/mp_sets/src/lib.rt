@@ -6,7 +6,6 @@ mod bits;
 mod compared;
 mod fact_list;
 mod laws;
-mod small_list;
 mod tag;
 mod words;
 
