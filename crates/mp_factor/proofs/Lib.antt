@@ -33,3 +33,4 @@ pub mod WordsOfForms
 pub mod NamesOfForms
 pub mod TakenFiles
 pub mod FileLemmas
+pub mod SectionLemmas

@@ -11,6 +11,7 @@ pub mod Fault
 pub mod Faults
 -- what a tree says
 pub mod Values
+pub mod KeptSections
 pub mod FactorParts
 pub mod FactorFields
 pub mod FromFile

@@ -3,7 +3,7 @@
 ghost use Rattle.std.specs.Prelude.{◌≡◌, ◌++◌, [], false, codes, IfOk, IfErr, OnOk};
 ghost use Rattle.mp_sexp.specs.Node.{node_of, nodes_in};
 ghost use Rattle.mp_factor.specs.Faults.Files.{domain_faults, problem_faults};
-ghost use Rattle.mp_factor.specs.Values.Files.{section_in as section_in_of, schema_in as schema_in_of, schema_values, first_condition, title_word, domain_parts, domain_value, problem_parts, problem_value};
+ghost use Rattle.mp_factor.specs.Values.Files.{section_in as section_in_of, schema_in as schema_in_of, schema_values, first_condition, title_word, domain_parts, domain_value, problem_parts, problem_value, problem_with as problem_with_of};
 ghost use Rattle.mp_factor.specs.Values.Typed.{typed_values};
 ghost use Rattle.mp_factor.specs.FromFile.{IsDomainOfFile, IsProblemOfFile};
 ghost use Rattle.mp_factor.specs.Shapes.{Refuses};
@@ -24,7 +24,7 @@ use std::alloc::Global;
 
 /// What stands behind this word in the first section that begins with it.
 #[tactic(auto, unfolding(crate::specs::Values::Files::section_in))]
-fn section_in<'a>(trees: &'a [Tree], keyword: &[u8]) -> &'a [Tree]
+pub(crate) fn section_in<'a>(trees: &'a [Tree], keyword: &[u8]) -> &'a [Tree]
     ensures { nodes_in result.now ≡ section_in_of keyword.now (nodes_in trees.now) }
 {
     for tree in trees {
@@ -71,7 +71,7 @@ fn goals_in(alloc: Global, trees: &[Tree]) -> Result<LiteralList, OutOfMemory>
 }
 
 /// The name of a file, of whose members behind the first word these are.
-fn title_in(alloc: Global, trees: &[Tree]) -> Result<Word, OutOfMemory>
+pub(crate) fn title_in(alloc: Global, trees: &[Tree]) -> Result<Word, OutOfMemory>
     ensures { IfOk result (λ word. word ≡ title_word (nodes_in trees.now)) }
 {
     match trees {
@@ -105,22 +105,37 @@ fn domain_of(alloc: Global, trees: &[Tree]) -> Result<Domain, OutOfMemory>
     })
 }
 
-/// The problem of these members behind the first word.
-fn problem_of(alloc: Global, trees: &[Tree]) -> Result<Problem, OutOfMemory>
-    requires { IsProblemOfFile (problem_parts (nodes_in trees.now)) }
-    ensures { IfOk result (λ problem. problem ≡ problem_parts (nodes_in trees.now)) }
+/// The problem of this title, these objects and these sections.
+pub(crate) fn problem_with(
+    alloc: Global,
+    title: Word,
+    objects: TypedList,
+    sections: &[Tree],
+) -> Result<Problem, OutOfMemory>
+    requires { IsProblemOfFile (problem_with_of title objects (nodes_in sections.now)) }
+    ensures { IfOk result (λ problem. problem ≡ problem_with_of title objects (nodes_in sections.now)) }
 {
-    let sections = behind_first(trees);
     let start = section_in(sections, b":init");
     Ok(Problem {
-        word: title_in(alloc, trees)?,
+        word: title,
         domain: first_word_in(alloc, section_in(sections, b":domain"))?,
-        objects: objects_in(alloc, section_in(sections, b":objects"))?,
+        objects,
         init: facts_in(alloc, start)?,
         values: values_in(alloc, start)?,
         goals: goals_in(alloc, section_in(sections, b":goal"))?,
         metric: has_section(sections, b":metric"),
     })
+}
+
+/// The problem of these members behind the first word.
+fn problem_of(alloc: Global, trees: &[Tree]) -> Result<Problem, OutOfMemory>
+    requires { IsProblemOfFile (problem_parts (nodes_in trees.now)) }
+    ensures { IfOk result (λ problem. problem ≡ problem_parts (nodes_in trees.now)) }
+{
+    let title = title_in(alloc, trees)?;
+    let sections = behind_first(trees);
+    let objects = objects_in(alloc, section_in(sections, b":objects"))?;
+    problem_with(alloc, title, objects, sections)
 }
 
 /// What a domain's tree says, or its first fault by place, at one place by kind, and then by word.

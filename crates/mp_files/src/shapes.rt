@@ -10,7 +10,7 @@ ghost use Rattle.mp_files.specs.File.{file_of as file_of_agent, told_check, told
 ghost use Rattle.mp_files.specs.Reading.{Refuses};
 
 use crate::refusal::{Fault, FileOf, Refusal};
-use mp_factor::{Domain, File, Problem, ShapeRefusal, domain, problem};
+use mp_factor::{Domain, File, Problem, ShapeRefusal, domain, into_problem};
 use mp_sexp::{ReadRefusal, Tree, read};
 use mp_typing::{CheckRefusal, CheckedFactor, Found, check};
 use std::alloc::Global;
@@ -87,14 +87,14 @@ fn said_domain(alloc: Global, tree: &Tree, file: FileOf) -> Result<Domain, Refus
     }
 }
 
-/// What a problem's tree says.
-fn said_problem(alloc: Global, tree: &Tree, file: FileOf) -> Result<Problem, Refusal>
+/// What a problem's tree says, which is let go.
+fn said_problem(alloc: Global, tree: Tree, file: FileOf) -> Result<Problem, Refusal>
     ensures said { IfOk result (λ said. HasShape file
-        (problem_faults (node_of tree.now)) (problem_value (node_of tree.now)) (Ok said)) }
+        (problem_faults (node_of tree)) (problem_value (node_of tree)) (Ok said)) }
     ensures cause { IfErr result (Refuses (HasShape file
-        (problem_faults (node_of tree.now)) (problem_value (node_of tree.now)))) }
+        (problem_faults (node_of tree)) (problem_value (node_of tree)))) }
 {
-    match problem(alloc, tree) {
+    match into_problem(alloc, tree) {
         Ok(said) => Ok(said),
         Err(refusal) => Err(refusal_of_shape(file, refusal)),
     }
@@ -121,7 +121,7 @@ pub(crate) fn problem_of_text(
     ensures cause { IfErr result (Refuses (SaysProblem file text.items)) }
 {
     let tree = tree_of(alloc, text, file)?;
-    said_problem(alloc, &tree, file)
+    said_problem(alloc, tree, file)
 }
 
 /// The factor of a domain and a problem, when nothing is wrong with it.

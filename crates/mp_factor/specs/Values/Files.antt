@@ -4,6 +4,7 @@ use Rattle.mp_sexp.specs.Node.{Node}
 use Rattle.mp_factor.specs.declared.word.Word.{Word}
 use Rattle.mp_factor.specs.declared.literal.Literal.{Literal}
 use Rattle.mp_factor.specs.declared.schema_values.Schema.{Schema}
+use Rattle.mp_factor.specs.declared.typed_values.Typed.{Typed}
 use Rattle.mp_factor.specs.Parts.{parts, is_headed, rest_of}
 use Rattle.mp_factor.specs.Faults.Files.{has_section}
 use Rattle.mp_factor.specs.Values.Words.{first_word}
@@ -52,17 +53,26 @@ domain_parts behind =
 unfoldable pub domain_value : Node → DomainParts
 domain_value node = domain_parts (rest_of (parts node))
 
-abbrev pub problem_parts : List Node → ProblemParts
-problem_parts behind =
+-- what these sections say of a problem with this title and these objects
+abbrev pub problem_with : Word → List Typed → List Node → ProblemParts
+problem_with title objects sections =
     record {
-      word = title_word behind;
-      domain = first_word (section_in (codes ":domain") (rest_of behind));
-      objects = object_values (section_in (codes ":objects") (rest_of behind));
-      init = fact_values (section_in (codes ":init") (rest_of behind));
-      values = cost_values (section_in (codes ":init") (rest_of behind));
-      goals = first_condition (section_in (codes ":goal") (rest_of behind));
-      metric = has_section (codes ":metric") (rest_of behind);
+      word = title;
+      domain = first_word (section_in (codes ":domain") sections);
+      objects = objects;
+      init = fact_values (section_in (codes ":init") sections);
+      values = cost_values (section_in (codes ":init") sections);
+      goals = first_condition (section_in (codes ":goal") sections);
+      metric = has_section (codes ":metric") sections;
     }
+
+-- what these sections say of a problem with this title
+abbrev pub problem_of_sections : Word → List Node → ProblemParts
+problem_of_sections title sections =
+    problem_with title (object_values (section_in (codes ":objects") sections)) sections
+
+abbrev pub problem_parts : List Node → ProblemParts
+problem_parts behind = problem_of_sections (title_word behind) (rest_of behind)
 
 unfoldable pub problem_value : Node → ProblemParts
 problem_value node = problem_parts (rest_of (parts node))
