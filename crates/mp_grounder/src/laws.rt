@@ -35,6 +35,15 @@ pub fn checked_factor_is_checked(factor: &CheckedFactor)
     whole.problem.comes_from_a_file();
 }
 
+/// The same for all factors of a team.
+pub fn checked_factors_are_checked(factors: &[CheckedFactor])
+    ensures { All IsChecked factors.now }
+{
+    for factor in factors {
+        checked_factor_is_checked(factor);
+    }
+}
+
 /// In numbers a checked factor keeps the limits of costs.
 pub fn lifted_costs_are_small()
     ensures { (factor : Factor) (view : OpenView) → IsChecked factor

@@ -10,9 +10,9 @@ ghost use Rattle.mp_text.specs.Schedule.{schedule_in};
 
 use crate::machines::begun;
 use crate::refusal::ReplayRefusal;
-use crate::solving::are_checked;
 use crate::told::told;
 use mp_ground::GroundRefusal;
+use mp_grounder::laws::checked_factors_are_checked;
 use mp_schedule::{EventRefusal, World};
 use mp_solutions::{Solution, answers_are_right_for_files};
 use mp_split::{Tasks, tasks};
@@ -79,7 +79,7 @@ fn replayed<H: Heuristic>(
         steps,
         views,
     } = given;
-    are_checked(factors);
+    checked_factors_are_checked(factors);
     tasks_stand_for_files();
     answers_are_right_for_files::<H>();
     let mut world = begun::<H>(alloc, tasks, limit)?;

@@ -1,16 +1,15 @@
 //! What the agents of a team find.
 
-ghost use Rattle.std.specs.Prelude.{◌≡◌, ◌≤◌, ℕ, length, Some, slice_get, All, IfOk, IfErr, OnOk};
+ghost use Rattle.std.specs.Prelude.{◌≡◌, ◌≤◌, ℕ, length, Some, slice_get, IfOk, IfErr, OnOk};
 ghost use Rattle.mp_factor.specs.declared.factor.Factor.{Factor};
 ghost use Rattle.mp_ground.specs.Limits.{IsWithin};
-ghost use Rattle.mp_grounder.specs.Checked.{IsChecked};
 ghost use Rattle.mp_solutions.specs.Solution.{IsSolution};
 ghost use Rattle.mp_split.specs.Team.{AreTasksOf, IsFirstRefusal, known_at};
 
 use crate::machines::ended;
 use crate::told::told;
 use mp_ground::GroundRefusal;
-use mp_grounder::laws::checked_factor_is_checked;
+use mp_grounder::laws::checked_factors_are_checked;
 use mp_list::OutOfMemory;
 use mp_solutions::{Solution, answers_are_right_for_files};
 use mp_split::{Tasks, tasks};
@@ -18,15 +17,6 @@ use mp_stands::laws::tasks_stand_for_files;
 use mp_task::Heuristic;
 use mp_typing::CheckedFactor;
 use std::alloc::Global;
-
-/// All factors have passed the checks.
-pub(crate) fn are_checked(factors: &[CheckedFactor])
-    ensures { All IsChecked factors.now }
-{
-    for factor in factors {
-        checked_factor_is_checked(factor);
-    }
-}
 
 /// What the agents with these tasks find.
 fn solved<H: Heuristic>(
@@ -47,7 +37,7 @@ fn solved<H: Heuristic>(
         steps,
         views,
     } = given;
-    are_checked(factors);
+    checked_factors_are_checked(factors);
     tasks_stand_for_files();
     answers_are_right_for_files::<H>();
     let world = ended::<H>(alloc, tasks, limit)?;

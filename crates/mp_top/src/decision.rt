@@ -1,9 +1,8 @@
 //! The outcome of a request: its files are read, and their agents find it.
 
-ghost use Rattle.std.specs.Prelude.{◌≡◌, ◌<◌, ◌≤◌, ℕ, [], length, map, option_map, All, List, Option, IfOk, IfErr, OnOk, if◌then◌else◌};
+ghost use Rattle.std.specs.Prelude.{◌≡◌, ◌<◌, ◌≤◌, ℕ, [], length, map, option_map, List, Option, IfOk, IfErr, OnOk, if◌then◌else◌};
 ghost use Rattle.mp_files.specs.Cause.{seen_source};
 ghost use Rattle.mp_files.specs.Fetched.{names_of};
-ghost use Rattle.mp_grounder.specs.Checked.{IsChecked};
 ghost use Rattle.mp_solutions.specs.Solution.{IsReplayed, IsSolution};
 ghost use Rattle.mp_solve.specs.Refused.{AreWithin, Refuses};
 ghost use Rattle.mp_split.specs.Team.{IsFirstRefusal};
@@ -20,7 +19,7 @@ use crate::schedule_file::schedule_text;
 use crate::status::Status;
 use mp_files::{AgentFiles, read_team};
 use mp_ground::GroundRefusal;
-use mp_grounder::laws::checked_factor_is_checked;
+use mp_grounder::laws::checked_factors_are_checked;
 use mp_hmax::Hmax;
 use mp_list::{List, OutOfMemory};
 use mp_messages::Bytes;
@@ -141,15 +140,6 @@ fn traced(alloc: Global, solution: Solution, trace: bool) -> Result<Decision, Ou
     Ok(Decision { solution, trace })
 }
 
-/// The factors of a team are checked.
-fn are_checked(team: &[CheckedFactor])
-    ensures { All IsChecked team.now }
-{
-    for factor in team {
-        checked_factor_is_checked(factor);
-    }
-}
-
 /// The outcome for a team, by the schedule of a text where there is one.
 fn decided(
     alloc: Global,
@@ -164,7 +154,7 @@ fn decided(
     ensures outcome { IfOk result (Decides team.now (option_map (λ t. t.items) text) search) }
     ensures refused { IfErr result (IsRefusedTeam search team.now (option_map (λ t. t.items) text)) }
 {
-    are_checked(team);
+    checked_factors_are_checked(team);
     let solution = match found(alloc, team, search, text) {
         Ok(solution) => solution,
         Err(refusal) => return Err(refusal),

@@ -1,6 +1,6 @@
 use Rattle.std.proofs.Common.{All, take}
 use Rattle.mp_grounder.specs.Checked.{IsChecked}
-use Rattle.mp_solve.proofs.solving.are_checked.Given as goal
+use Rattle.mp_grounder.proofs.laws.checked_factors_are_checked.Given as goal
 
 abbrev pub invariant-loop-factor : goal.invariant-loop-factor
 invariant-loop-factor l = All IsChecked (take l.factor-index l.factors)

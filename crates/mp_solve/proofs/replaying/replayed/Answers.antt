@@ -13,12 +13,12 @@ use Rattle.mp_solve.proofs.replaying.replayed.Goals as goal
 
 pub begun-requires-clause-agree : goal.begun-requires-clause-agree
 begun-requires-clause-agree g c =
-    let stands = c.tasks_stand_for_files.ensures c.args.factors.now c.args.given c.are_checked.ensures c.requires.tasks in
+    let stands = c.tasks_stand_for_files.ensures c.args.factors.now c.args.given c.checked_factors_are_checked.ensures c.requires.tasks in
     stands.2.agree
 
 pub happen_all-requires-clause-of_team : goal.happen_all-requires-clause-of_team
 happen_all-requires-clause-of_team g c =
-    let stands = c.tasks_stand_for_files.ensures c.args.factors.now c.args.given c.are_checked.ensures c.requires.tasks in
+    let stands = c.tasks_stand_for_files.ensures c.args.factors.now c.args.given c.checked_factors_are_checked.ensures c.requires.tasks in
     let size : length c.in_ok-world.world.tasks ≡ length c.args.factors.now =
     ap length c.in_ok-world.ensures.team.tasks_are ∙ stands.2.one_each in
     subst (λ n. All (λ (line : EventLine). IsOfTeam n line.event) c.args.lines.now) (sym size) c.requires.of_team
@@ -35,7 +35,7 @@ returns-in-Ok-clause-found g c =
     c.in_ok-world.ensures.team.tasks_are c.in-Ok.ensures.done in
     let s = c.in_ok-told-in-Ok.field-0 in
     let told = c.in_ok-told-in-Ok.ensures in
-    is_found value c.args.limit c.args.factors.now c.args.given schedule r law c.are_checked.ensures
+    is_found value c.args.limit c.args.factors.now c.args.given schedule r law c.checked_factors_are_checked.ensures
     c.requires.some c.requires.tasks c.requires.limit done s told.answer told.log
     (subst (λ steps. s.text ≡ outcome_text (outcome_of r.world) (names_of c.args.factors.now steps) r.log)
     c.as_slice.ensures told.text)

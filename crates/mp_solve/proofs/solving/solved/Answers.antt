@@ -10,7 +10,7 @@ use Rattle.mp_solve.proofs.solving.solved.Goals as goal
 
 pub ended-requires : goal.ended-requires
 ended-requires g c =
-    let stands = c.tasks_stand_for_files.ensures c.args.factors.now c.args.given c.are_checked.ensures c.requires.tasks in
+    let stands = c.tasks_stand_for_files.ensures c.args.factors.now c.args.given c.checked_factors_are_checked.ensures c.requires.tasks in
     let size : length c.args.given.tasks ≡ length c.args.factors.now = stands.2.one_each in
     record {
       from_1 = c.requires.from_1;
@@ -32,7 +32,7 @@ pub returns : goal.returns
 returns g c =
     let law : AnswersAreRight g.H.Heuristic.value = c.answers_are_right_for_files.ensures in
     let r = c.in_ok-world.world in
-    if_solution g.H.Heuristic.value c.args.limit c.args.factors.now c.args.given r law c.are_checked.ensures
+    if_solution g.H.Heuristic.value c.args.limit c.args.factors.now c.args.given r law c.checked_factors_are_checked.ensures
     c.requires.some c.requires.tasks c.requires.limit
     c.in_ok-world.ensures
     c.told.result c.told.ensures.views c.told.ensures.log c.told.ensures.answer
