@@ -3,7 +3,7 @@
 ghost use Rattle.std.specs.Prelude.{◌≡◌, ◌↔◌, IsTrue};
 ghost use Rattle.mp_sexp.specs.Bytes.{folded_byte, is_space as space_of};
 ghost use Rattle.mp_sexp.specs.Kinds.{kind_of};
-ghost use Rattle.mp_sexp.specs.Name.{IsCapital};
+ghost use Rattle.mp_sexp.specs.Name.{IsCapital, same_bytes};
 ghost use Rattle.mp_sexp.specs.Reading.{is_word};
 
 /// What a byte is in a text, outside a comment.
@@ -77,4 +77,26 @@ pub fn fold(byte: u8) -> u8
     } else {
         byte
     }
+}
+
+/// Whether two lists have the same bytes. The lists are those of names, which are short: their bytes are compared one
+/// after another sooner than by a comparison that is made for many.
+pub fn is_same(a: &[u8], b: &[u8]) -> bool
+    ensures { result ≡ same_bytes a.now b.now }
+{
+    let mut left = a;
+    let mut right = b;
+    while let [first, behind @ ..] = left {
+        match right {
+            [] => return false,
+            [other, rest @ ..] => {
+                if *first != *other {
+                    return false;
+                }
+                right = rest;
+            }
+        }
+        left = behind;
+    }
+    right.is_empty()
 }

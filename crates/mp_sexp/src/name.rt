@@ -5,13 +5,12 @@ ghost use Rattle.std.specs.Prelude.{Some};
 ghost use Rattle.std.specs.Option.{option_copied};
 ghost use Rattle.std.specs.Cmp.{partial_equiv_from_equiv};
 ghost use Rattle.std.specs.Cmp.Lexicographic.{nat_list_eq_equiv, nat_list_cmp_total, texts_po, texts_ties};
-ghost use Rattle.std.specs.Hash as fed;
 ghost use Rattle.std.specs.Cmp.Rules.{hashing};
 ghost use Rattle.std.proofs.Common.{refl, rules};
 ghost use Rattle.mp_sexp.specs.Bytes.{folded};
 ghost use Rattle.mp_sexp.specs.Name.{IsCapital, HasNoCapitals, same_bytes, byte_order};
 
-use crate::bytes::fold;
+use crate::bytes::{fold, is_same};
 use crate::short::{MOST, Short};
 use mp_list::{Copied, List, OutOfMemory};
 use std::alloc::Global;
@@ -32,9 +31,14 @@ pub(crate) enum Data {
 /// A word's bytes with the letters A to Z folded to a to z, so that two names are the same exactly where
 /// their bytes are. Contracts see it as the list of its bytes. A name of at most 22 bytes takes no memory
 /// beside itself.
-#[derive(Drop)]
 pub struct Name {
     pub(crate) data: Data,
+}
+
+impl Drop for Name {
+    fn drop(self) {
+        let Name { data: _ } = self;
+    }
 }
 
 /// A list of names.
@@ -170,7 +174,7 @@ impl PartialEq for Name {
     ghost laws = { partial_equiv_from_equiv nat_list_eq_equiv };
 
     fn eq(&self, other: &Name) -> bool {
-        self.as_slice() == other.as_slice()
+        is_same(self.as_slice(), other.as_slice())
     }
 }
 
@@ -203,14 +207,14 @@ impl Ord for Name {
     }
 }
 
-/// What is hashed are the bytes.
+/// What is hashed are the bytes, as one piece, so that their number is not hashed beside them.
 impl Hash for Name {
-    ghost hash_input = { λ n. fed.slice fed.u8 n };
+    ghost hash_input = { λ n. n ∷ [] };
 
     ghost respects_eq = { Prim.search (hashing, rules) };
 
     fn hash<H: Hasher>(&self, state: &mut H) {
-        self.as_slice().hash(state);
+        state.write(self.as_slice());
     }
 }
 

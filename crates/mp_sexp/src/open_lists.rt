@@ -34,6 +34,9 @@ pub struct Lists {
 /// The deepest brackets that may stand open.
 const DEEPEST: usize = 100;
 
+/// From this many members on a list keeps the memory in which its members were gathered.
+const MANY: usize = 1024;
+
 /// A list of these members.
 fn list_tree(members: Vec<Tree>, place: Place) -> Tree
     ensures { node_of result ≡ list (nodes_from (nodes_in members.items)) place }
@@ -60,11 +63,18 @@ fn taken(alloc: Global, spare: &mut Vec<Tree>) -> Vec<Tree>
     room
 }
 
-/// The members, in a list that has room for no more.
+/// The members, in a list that has room for no more. Few are moved to memory of that size, so that the room in which
+/// they were gathered serves for the next list. Many stay where they are, and what is left of the room is given back:
+/// else there would be two lists of them at one time.
 fn gathered(alloc: Global, members: &mut Vec<Tree>) -> Result<Vec<Tree>, ReadRefusal>
     ensures ok { IfOk result (λ v. v.items ≡ members.old.items) }
     ensures err { IfErr result (λ e. e ≡ ReadRefusal.OutOfMemory) }
 {
+    if members.len() >= MANY {
+        let mut whole = mem::replace(members, Vec::new(alloc));
+        whole.shrink_to_fit();
+        return Ok(whole);
+    }
     let mut exact = Vec::with_capacity(alloc, members.len())?;
     exact.append(members)?;
     Ok(exact)
