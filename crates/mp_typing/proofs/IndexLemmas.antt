@@ -1,5 +1,5 @@
 -- A map that has the number of the first entry of each name, while entries are added.
-use Rattle.std.proofs.Common.{◌≡◌, ℕ, Bool, true, false, cond, List, [], ◌∷◌, ◌++◌, map, Option, Some, None, Bor, refl, sym, ap, subst, ◌∙◌}
+use Rattle.std.proofs.Common.{◌≡◌, ℕ, Bool, true, false, cond, List, [], ◌∷◌, ◌++◌, map, Option, Some, None, refl, sym, ap, subst, ◌∙◌}
 use Rattle.std.specs.Prelude.{if◌then◌else◌}
 use Rattle.std.specs.Map.{lookup}
 use Rattle.std.specs.Option.{is_some, option_or}
@@ -8,28 +8,21 @@ use Rattle.std.proofs.lemmas.Slice.Eq.{bytes_eq-Decides}
 use Rattle.mp_typing.specs.Indexed.{Entry, number_of, SameNumbers}
 use Rattle.mp_typing.proofs.NameSets.{same_either_way}
 
--- the entries that a map has, where a key stands for a name
-abbrev pub entries_by : {K : Type 0} → (K → List ℕ) → List (K × ℕ) → List Entry
-entries_by {K} key es = map (λ (e : K × ℕ). record { name = key e.0; number = e.1 }) es
-
--- of borrowed names
-abbrev pub entries_of : List (Bor (List ℕ) × ℕ) → List Entry
-entries_of es = entries_by (λ (k : Bor (List ℕ)). k.now) es
+-- the entries that a map has
+abbrev pub entries_of : List (List ℕ × ℕ) → List Entry
+entries_of es = map (λ (e : List ℕ × ℕ). record { name = e.0; number = e.1 }) es
 
 cond_if : (a b : Bool) (n : ℕ) (x y : Option ℕ) → a ≡ b → x ≡ y → cond a (Some n) x ≡ (if b then Some n else y)
 cond_if a true n x y e f = ap (λ (t : Bool). cond t (Some n) x) e
 cond_if a false n x y e f = ap (λ (t : Bool). cond t (Some n) x) e ∙ f
 
 -- the map's number is that of the first entry
-pub looked_up_by : {K : Type 0} (key : K → List ℕ) (name : List ℕ) (es : List (K × ℕ)) → lookup (λ (k : K). bytes_eq name (key k)) es ≡ number_of name (entries_by key es)
+pub looked_up : (name : List ℕ) (es : List (List ℕ × ℕ)) → lookup (λ (k : List ℕ). bytes_eq name k) es ≡ number_of name (entries_of es)
 unfolding number_of
-looked_up_by key name [] = refl
-looked_up_by {K} key name (e ∷ es) =
-    cond_if (bytes_eq name (key e.0)) (bytes_eq (key e.0) name) e.1 (lookup (λ (k : K). bytes_eq name (key k)) es) (number_of name (entries_by key es))
-    (same_either_way name (key e.0)) (looked_up_by key name es)
-
-pub looked_up : (name : List ℕ) (es : List (Bor (List ℕ) × ℕ)) → lookup (λ (k : Bor (List ℕ)). bytes_eq name k.now) es ≡ number_of name (entries_of es)
-looked_up name es = looked_up_by (λ (k : Bor (List ℕ)). k.now) name es
+looked_up name [] = refl
+looked_up name (e ∷ es) =
+    cond_if (bytes_eq name e.0) (bytes_eq e.0 name) e.1 (lookup (λ (k : List ℕ). bytes_eq name k) es) (number_of name (entries_of es))
+    (same_either_way name e.0) (looked_up name es)
 
 -- the number that an entry gives a name
 abbrev pub alone : Entry → List ℕ → Option ℕ

@@ -1,19 +1,10 @@
 -- Names with numbers of their own, while names are added.
 use Rattle.std.proofs.Common.{◌≡◌, ℕ, ◌+◌, Bool, true, cond, List, [], length, Some, None, ◌⊎◌, refl, sym, ap, ◌∙◌, arith, inl, inr}
-use Rattle.std.specs.Map.{lookup}
 use Rattle.std.specs.Str.{bytes_eq}
 use Rattle.std.proofs.lemmas.Bool.{cases_Bool}
 use Rattle.std.proofs.lemmas.Slice.Eq.{bytes_eq-Decides}
 use Rattle.mp_typing.specs.Indexed.{Entry, number_of}
 use Rattle.mp_typing.specs.Numbering.{IsNumbering, KeepsNumbers}
-use Rattle.mp_typing.proofs.IndexLemmas.{entries_by, looked_up_by}
-
--- the entries that a map of kept names has
-abbrev pub kept_entries : List (List ℕ × ℕ) → List Entry
-kept_entries es = entries_by (λ (k : List ℕ). k) es
-
-pub looked_up : (name : List ℕ) (es : List (List ℕ × ℕ)) → lookup (λ (k : List ℕ). bytes_eq name k) es ≡ number_of name (kept_entries es)
-looked_up name es = looked_up_by (λ (k : List ℕ). k) name es
 
 pub no_names : IsNumbering []
 unfolding number_of

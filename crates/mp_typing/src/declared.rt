@@ -22,13 +22,13 @@ pub struct Declared<'a> {
     domain: &'a Domain,
     problem: &'a Problem,
     /// Constants and then objects, each with its place among them, counted from 0.
-    objects: Index<'a>,
+    objects: Index,
     /// The first object of each name, in object order.
     listed: Vec<&'a Typed>,
     /// Predicates, each with the number of its parameters.
-    predicates: Index<'a>,
+    predicates: Index,
     /// Functions, each with the number of its parameters.
-    functions: Index<'a>,
+    functions: Index,
 }
 
 impl<'a> Model for Declared<'a> {
@@ -49,7 +49,7 @@ impl<'a> Model for Declared<'a> {
 }
 
 /// Predicates or functions, each with the number of its parameters. Refuses only for want of memory.
-fn arities<'a>(alloc: Global, signatures: &'a [Signature]) -> Result<Index<'a>, OutOfMemory>
+fn arities<'a>(alloc: Global, signatures: &'a [Signature]) -> Result<Index, OutOfMemory>
     ensures { IfOk result (λ index. HasArities index signatures.now) }
 {
     let mut index = Index::with_capacity(alloc, signatures.len())?;
@@ -62,7 +62,7 @@ fn arities<'a>(alloc: Global, signatures: &'a [Signature]) -> Result<Index<'a>, 
 /// The objects that are found by name, and the first one of each name in object order.
 #[derive(Drop)]
 struct Objects<'a> {
-    places: Index<'a>,
+    places: Index,
     listed: Vec<&'a Typed>,
 }
 
@@ -168,7 +168,7 @@ impl<'a> Declared<'a> {
     {
         let domain = self.domain;
         let problem = self.problem;
-        match self.objects.find(name.as_slice()) {
+        match self.objects.find(name) {
             Some(at) => object_at(domain.constants.as_slice(), problem.objects.as_slice(), at),
             None => None,
         }
@@ -178,14 +178,14 @@ impl<'a> Declared<'a> {
     pub fn has_object(&self, name: &Name) -> bool
         ensures { result ≡ is_object (objects_of self.now) name.now }
     {
-        self.objects.find(name.as_slice()).is_some()
+        self.objects.find(name).is_some()
     }
 
     /// The number of parameters of the first predicate that has this name.
     pub fn predicate(&self, name: &Name) -> Option<usize>
         ensures { result ≡ arity_of self.now.domain.predicates name.now }
     {
-        self.predicates.find(name.as_slice())
+        self.predicates.find(name)
     }
 
     /// The same, where it is known of another name: facts of one predicate most often stand together, and so a name is
@@ -210,6 +210,6 @@ impl<'a> Declared<'a> {
     pub fn function(&self, name: &Name) -> Option<usize>
         ensures { result ≡ arity_of self.now.domain.functions name.now }
     {
-        self.functions.find(name.as_slice())
+        self.functions.find(name)
     }
 }

@@ -1,7 +1,6 @@
-use Rattle.std.proofs.Common.{List, ℕ, ◌∙◌, ap}
+use Rattle.std.proofs.Common.{◌∙◌, ap}
 use Rattle.std.specs.Option.{is_some}
 use Rattle.mp_factor.specs.declared.factor.Factor.{Factor}
-use Rattle.mp_typing.specs.Indexed.{number_of}
 use Rattle.mp_typing.specs.Lookups.{is_object, objects_of}
 use Rattle.mp_typing.proofs.LookupLemmas.{is_placed}
 use Rattle.mp_typing.proofs.declared.Declared.has_object.Goals as goal
@@ -9,6 +8,6 @@ use Rattle.mp_typing.proofs.declared.Declared.has_object.Goals as goal
 pub returns : goal.returns
 returns c =
     let entries = c.self.inside.objects in
-    c.is_some.ensures ∙ ap is_some (c.find.ensures ∙ ap (λ (name : List ℕ). number_of name entries) c.as_slice.ensures.bytes)
+    c.is_some.ensures ∙ ap is_some c.find.ensures
     ∙ is_placed entries _ c.args.name.now c.self.invariant.0
     ∙ ap (λ (factor : Factor). is_object (objects_of factor) c.args.name.now) c.self.view_is

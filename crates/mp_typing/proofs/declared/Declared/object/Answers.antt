@@ -1,10 +1,9 @@
-use Rattle.std.proofs.Common.{Some, None, List, ℕ, ◌++◌, ◌∙◌, ap, sym}
+use Rattle.std.proofs.Common.{Some, None, List, ◌++◌, ◌∙◌, ap, sym}
 use Rattle.std.specs.Prelude.{find, slice_get}
 use Rattle.std.specs.Str.{bytes_eq}
 use Rattle.mp_factor.specs.declared.factor.Factor.{Factor}
 use Rattle.mp_factor.specs.declared.typed_values.Typed.{Typed}
 use Rattle.mp_factor.specs.FactorParts.{DomainParts, ProblemParts}
-use Rattle.mp_typing.specs.Indexed.{number_of}
 use Rattle.mp_typing.specs.Lookups.{objects_of}
 use Rattle.mp_typing.proofs.LookupLemmas.{first_at}
 use Rattle.mp_typing.proofs.declared.Declared.object.Goals as goal
@@ -14,11 +13,11 @@ returns-in-Some c =
     let entries = c.self.inside.objects in
     let at = c.in-Some.at in
     let name = c.args.name.now in
-    let constants = c.as_slice-in-Some.ensures ∙ ap (λ (d : DomainParts). d.constants) c.domain.view_is in
-    let objects = c.as_slice-in-Some-2.ensures ∙ ap (λ (p : ProblemParts). p.objects) c.problem.view_is in
-    let number = sym c.in-Some.is ∙ c.find.ensures ∙ ap (λ (n : List ℕ). number_of n entries) c.as_slice.ensures.bytes in
+    let constants = c.as_slice.ensures ∙ ap (λ (d : DomainParts). d.constants) c.domain.view_is in
+    let objects = c.as_slice-in-Some.ensures ∙ ap (λ (p : ProblemParts). p.objects) c.problem.view_is in
+    let number = sym c.in-Some.is ∙ c.find.ensures in
     c.object_at.ensures
-    ∙ ap (λ (os : List Typed). slice_get (os ++ c.as_slice-in-Some-2.result.now) at) constants
+    ∙ ap (λ (os : List Typed). slice_get (os ++ c.as_slice-in-Some.result.now) at) constants
     ∙ ap (λ (os : List Typed). slice_get (c.self.inside.domain.now.constants ++ os) at) objects
     ∙ first_at entries _ name (Some at) c.self.invariant.0 number
     ∙ ap (λ (factor : Factor). find (λ (o : Typed). bytes_eq o.word.name name) (objects_of factor)) c.self.view_is
@@ -27,6 +26,6 @@ pub returns-in-None : goal.returns-in-None
 returns-in-None c =
     let entries = c.self.inside.objects in
     let name = c.args.name.now in
-    let number = sym c.in-None.is ∙ c.find.ensures ∙ ap (λ (n : List ℕ). number_of n entries) c.as_slice.ensures.bytes in
+    let number = sym c.in-None.is ∙ c.find.ensures in
     first_at entries _ name None c.self.invariant.0 number
     ∙ ap (λ (factor : Factor). find (λ (o : Typed). bytes_eq o.word.name name) (objects_of factor)) c.self.view_is

@@ -1,6 +1,6 @@
 use Rattle.std.proofs.Common.{◌∙◌, ap}
 use Rattle.mp_typing.specs.Indexed.{number_of}
-use Rattle.mp_typing.proofs.NumberingLemmas.{looked_up}
+use Rattle.mp_typing.proofs.IndexLemmas.{looked_up}
 use Rattle.mp_typing.proofs.numbering.Numbering.find.Goals as goal
 
 pub returns-clause-number : goal.returns-clause-number

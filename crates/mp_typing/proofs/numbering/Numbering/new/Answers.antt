@@ -1,7 +1,8 @@
 use Rattle.std.proofs.Common.{sym, subst}
 use Rattle.mp_typing.specs.Numbering.{IsNumbering}
-use Rattle.mp_typing.proofs.NumberingLemmas.{kept_entries, no_names}
+use Rattle.mp_typing.proofs.IndexLemmas.{entries_of}
+use Rattle.mp_typing.proofs.NumberingLemmas.{no_names}
 use Rattle.mp_typing.proofs.numbering.Numbering.new.Goals as goal
 
 pub invariant_of-result : goal.invariant_of-result
-invariant_of-result c = subst (λ es. IsNumbering (kept_entries es)) (sym c.new.ensures.empty) no_names
+invariant_of-result c = subst (λ es. IsNumbering (entries_of es)) (sym c.new.ensures.empty) no_names
