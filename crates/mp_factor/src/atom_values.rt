@@ -23,10 +23,15 @@ pub enum Term {
 pub type TermList = List<Term>;
 
 /// A predicate or function applied to terms.
-#[derive(Drop)]
 pub struct Atom {
     pub word: Word,
     pub terms: TermList,
+}
+
+impl Drop for Atom {
+    fn drop(self) {
+        let Atom { word: _, terms: _ } = self;
+    }
 }
 
 /// Atoms in the order of the file.

@@ -16,7 +16,6 @@ use std::marker::Model;
 
 /// A domain file of factored MA-PDDL: what some tree says that has no fault. So each of its actions has at most 12
 /// parameters and 16 increases, and none of its costs is above 1,000,000.
-#[derive(Drop)]
 pub struct Domain {
     /// Its name.
     pub word: Word,
@@ -25,6 +24,19 @@ pub struct Domain {
     pub predicates: SignatureList,
     pub functions: SignatureList,
     pub schemas: SchemaList,
+}
+
+impl Drop for Domain {
+    fn drop(self) {
+        let Domain {
+            word: _,
+            types: _,
+            constants: _,
+            predicates: _,
+            functions: _,
+            schemas: _,
+        } = self;
+    }
 }
 
 impl Model for Domain {
@@ -66,7 +78,6 @@ impl Copied for Domain {
 
 /// A problem file of factored MA-PDDL: what some tree says that has no fault. So none of its values is above
 /// 1,000,000, and no function has two of them.
-#[derive(Drop)]
 pub struct Problem {
     /// Its name.
     pub word: Word,
@@ -81,6 +92,20 @@ pub struct Problem {
     pub goals: LiteralList,
     /// Whether the total cost is to be least; otherwise each action costs 1.
     pub metric: bool,
+}
+
+impl Drop for Problem {
+    fn drop(self) {
+        let Problem {
+            word: _,
+            domain: _,
+            objects: _,
+            init: _,
+            values: _,
+            goals: _,
+            metric: _,
+        } = self;
+    }
 }
 
 impl Model for Problem {

@@ -20,7 +20,6 @@ use mp_sexp::Tree;
 use std::alloc::Global;
 
 /// An action with variables for its parameters.
-#[derive(Drop)]
 pub struct Schema {
     pub word: Word,
     /// The parameters, of which the agent is the first where there is one.
@@ -33,6 +32,19 @@ pub struct Schema {
     pub del: AtomList,
     /// By how much it increases the total cost.
     pub increases: IncreaseList,
+}
+
+impl Drop for Schema {
+    fn drop(self) {
+        let Schema {
+            word: _,
+            params: _,
+            pre: _,
+            add: _,
+            del: _,
+            increases: _,
+        } = self;
+    }
 }
 
 /// Actions in the order of the file.

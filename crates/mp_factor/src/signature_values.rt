@@ -14,13 +14,22 @@ use mp_sexp::Tree;
 use std::alloc::Global;
 
 /// A predicate or a function as it is declared.
-#[derive(Drop)]
 pub struct Signature {
     pub word: Word,
     /// Its variables and their types, which restrict nothing.
     pub params: TypedList,
     /// Whether it stands in a private block.
     pub private: bool,
+}
+
+impl Drop for Signature {
+    fn drop(self) {
+        let Signature {
+            word: _,
+            params: _,
+            private: _,
+        } = self;
+    }
 }
 
 /// Signatures in the order of the file.

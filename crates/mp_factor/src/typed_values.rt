@@ -14,7 +14,6 @@ use mp_sexp::Tree;
 use std::alloc::Global;
 
 /// A type, an object or a parameter as it is declared.
-#[derive(Drop)]
 pub struct Typed {
     /// The name, or the variable with its `?`.
     pub word: Word,
@@ -22,6 +21,16 @@ pub struct Typed {
     pub types: WordList,
     /// Whether it stands in a private block.
     pub private: bool,
+}
+
+impl Drop for Typed {
+    fn drop(self) {
+        let Typed {
+            word: _,
+            types: _,
+            private: _,
+        } = self;
+    }
 }
 
 /// Typed names or variables in the order of the file.

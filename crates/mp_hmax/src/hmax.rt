@@ -13,7 +13,6 @@ use std::alloc::Global;
 /// The heuristic hmax (Bonet and Geffner 2001): what it costs to make the dearest goal true, where nothing becomes
 /// false, and where of an operator's preconditions the dearest alone is paid for. None where a goal cannot be made
 /// true. It keeps its arrays from call to call, so that a value takes memory only where its queue grows.
-#[derive(Drop)]
 pub struct Hmax {
     problem: Relaxed,
     counters: Vec<u32>,
@@ -22,6 +21,17 @@ pub struct Hmax {
     ghost counted: { vec_len counters ≡ length problem.operators },
     ghost sized: { vec_len numbers ≡ problem.facts },
     ghost few: { problem.facts < 2 ^ 32 },
+}
+
+impl Drop for Hmax {
+    fn drop(self) {
+        let Hmax {
+            problem: _,
+            counters: _,
+            numbers: _,
+            queue: _,
+        } = self;
+    }
 }
 
 impl Heuristic for Hmax {

@@ -37,7 +37,6 @@ pub enum Amount {
 
 /// An action in numbers, as it is written. Its preconditions are parted by whether their predicate is
 /// static.
-#[derive(Drop)]
 pub struct LiftedAction {
     /// For each parameter the objects that may stand for it, in object order.
     pub members: List<List<u32>>,
@@ -51,6 +50,21 @@ pub struct LiftedAction {
     pub amounts: List<Amount>,
 }
 
+impl Drop for LiftedAction {
+    fn drop(self) {
+        let LiftedAction {
+            members: _,
+            static_positive: _,
+            static_negative: _,
+            positive: _,
+            negative: _,
+            add: _,
+            del: _,
+            amounts: _,
+        } = self;
+    }
+}
+
 /// The value of a function at objects.
 #[derive(Drop)]
 pub struct GroundValue {
@@ -60,7 +74,6 @@ pub struct GroundValue {
 
 /// A factor in numbers. Objects are numbered in object order, and predicates and functions as they are
 /// declared, each from 0.
-#[derive(Drop)]
 pub struct LiftedFactor {
     /// For each predicate whether it is private.
     pub private_predicates: List<bool>,
@@ -79,4 +92,20 @@ pub struct LiftedFactor {
     pub avoided: List<GroundAtom>,
     /// The values of its functions at the start, but for that of the total cost.
     pub values: List<GroundValue>,
+}
+
+impl Drop for LiftedFactor {
+    fn drop(self) {
+        let LiftedFactor {
+            private_predicates: _,
+            negated_predicates: _,
+            private_objects: _,
+            actions: _,
+            init: _,
+            known: _,
+            goals: _,
+            avoided: _,
+            values: _,
+        } = self;
+    }
 }

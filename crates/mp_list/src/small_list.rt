@@ -22,11 +22,16 @@ pub(crate) enum Kept<T> {
 
 /// A list with its only item in itself and, where there are two or more, with memory of their own. Contracts
 /// see it as the list of its items.
-#[derive(Drop)]
 pub struct SmallList<T> {
     kept: Kept<T>,
     /// What gives memory to a list that grows longer.
     alloc: Global,
+}
+
+impl<T: Drop> Drop for SmallList<T> {
+    fn drop(self) {
+        let SmallList { kept: _, alloc: _ } = self;
+    }
 }
 
 impl<T> Model for SmallList<T> {

@@ -32,11 +32,20 @@ fn taken_bytes(bytes: Option<&[u8]>) -> &[u8]
 /// One agent of a team: its search, its part in snapshots and its part in walking the plan back.
 /// Contracts see it as the plain record of what it did, and what it refuses every step with, once
 /// it does.
-#[derive(Drop)]
 pub struct Machine<H: Heuristic> {
     search: Search<H>,
     member: Member,
     stopped: Option<StepRefusal>,
+}
+
+impl<H: Heuristic> Drop for Machine<H> {
+    fn drop(self) {
+        let Machine {
+            search: _,
+            member: _,
+            stopped: _,
+        } = self;
+    }
 }
 
 impl<H: Heuristic> Model for Machine<H> {

@@ -15,7 +15,6 @@ use std::alloc::Global;
 pub(crate) const LIMIT: u64 = 1 << 60;
 
 /// An agent as a member of its team: who it is, and what it has done beside its search.
-#[derive(Drop)]
 pub(crate) struct Member {
     pub(crate) alloc: Global,
     /// The agent itself.
@@ -37,6 +36,24 @@ pub(crate) struct Member {
     pub(crate) ending: Ending,
     /// Its actions of the plan, once there is one.
     pub(crate) share: Share,
+}
+
+impl Drop for Member {
+    fn drop(self) {
+        let Member {
+            alloc: _,
+            me: _,
+            agents: _,
+            publics: _,
+            snapshot: _,
+            noted: _,
+            goal: _,
+            picked: _,
+            trail: _,
+            ending: _,
+            share: _,
+        } = self;
+    }
 }
 
 /// An agent at the start.

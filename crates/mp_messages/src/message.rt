@@ -4,7 +4,7 @@ use mp_list::{Copied, OutOfMemory};
 use mp_sets::{FactList, Tags};
 
 /// A state that its sender reached, for the other agents to go on from.
-#[derive(Debug, PartialEq, Eq, Hash, Drop)]
+#[derive(Debug, PartialEq, Eq, Hash)]
 pub struct State {
     /// The sender's number of it, from 0 in the order of sending.
     pub sent: u64,
@@ -16,6 +16,18 @@ pub struct State {
     pub facts: FactList,
     /// What is told of each agent's private facts, one tag for each agent.
     pub tags: Tags,
+}
+
+impl Drop for State {
+    fn drop(self) {
+        let State {
+            sent: _,
+            g: _,
+            h: _,
+            facts: _,
+            tags: _,
+        } = self;
+    }
 }
 
 /// What an agent found until a snapshot.

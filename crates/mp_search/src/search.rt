@@ -29,7 +29,6 @@ use std::marker::Model;
 
 /// The search of one agent in its task, with a heuristic that was made of that task. Contracts see it as the plain
 /// record of what it did.
-#[derive(Drop)]
 pub struct Search<H: Heuristic> {
     alloc: Global,
     task: Task,
@@ -43,6 +42,22 @@ pub struct Search<H: Heuristic> {
     expansions: u64,
     /// Memory ran out before.
     failed: bool,
+}
+
+impl<H: Heuristic> Drop for Search<H> {
+    fn drop(self) {
+        let Search {
+            alloc: _,
+            task: _,
+            heuristic: _,
+            limit: _,
+            states: _,
+            index: _,
+            scratch: _,
+            expansions: _,
+            failed: _,
+        } = self;
+    }
 }
 
 impl<H: Heuristic> Model for Search<H> {

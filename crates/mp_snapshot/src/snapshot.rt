@@ -22,7 +22,6 @@ const NOTHING: Findings = Findings {
 
 /// The snapshots of a team as one agent keeps them: the last one that began here, whose markers of it have
 /// come, and what is known of the agents' findings. It takes no memory beside itself.
-#[derive(Drop)]
 pub struct Snapshot {
     me: Agent,
     agents: u16,
@@ -32,6 +31,19 @@ pub struct Snapshot {
     /// By agent, whether its findings are here; true for the agent itself.
     reported: [bool; 16],
     found: [Findings; 16],
+}
+
+impl Drop for Snapshot {
+    fn drop(self) {
+        let Snapshot {
+            me: _,
+            agents: _,
+            number: _,
+            marked: _,
+            reported: _,
+            found: _,
+        } = self;
+    }
 }
 
 impl Model for Snapshot {

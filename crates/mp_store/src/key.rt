@@ -10,7 +10,7 @@ use std::hash::{Hash, Hasher};
 
 /// A state as an agent knows it: the true public facts, the index of its own private set, and for each
 /// agent a tag.
-#[derive(Debug, Drop, PartialEq, Eq, PartialOrd, Ord)]
+#[derive(Debug, PartialEq, Eq, PartialOrd, Ord)]
 pub struct Key {
     /// The true public facts.
     pub publics: Bits,
@@ -18,6 +18,16 @@ pub struct Key {
     pub mine: u64,
     /// A tag for each agent.
     pub tags: Tags,
+}
+
+impl Drop for Key {
+    fn drop(self) {
+        let Key {
+            publics: _,
+            mine: _,
+            tags: _,
+        } = self;
+    }
 }
 
 impl Copied for Key {

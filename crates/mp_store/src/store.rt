@@ -19,11 +19,19 @@ use std::marker::Model;
 
 /// The states that one agent has met in its search, and those of them that it sent. Contracts see it as
 /// the record of its entries.
-#[derive(Drop)]
 pub struct Store {
     /// Each key once. In the entries the place of a key here stands for it.
     keys: IndexSet<Key>,
     numbers: NumberStore,
+}
+
+impl Drop for Store {
+    fn drop(self) {
+        let Store {
+            keys: _,
+            numbers: _,
+        } = self;
+    }
 }
 
 impl Model for Store {

@@ -26,7 +26,6 @@ pub struct Act {
 pub type ActList = List<Act>;
 
 /// What the team sees of another agent's public action: whose it is, its public facts and its cost.
-#[derive(Drop)]
 pub struct Far {
     /// The agent whose action it is.
     pub by: Agent,
@@ -38,6 +37,18 @@ pub struct Far {
     pub del: FactList,
     /// What the action costs.
     pub cost: u64,
+}
+
+impl Drop for Far {
+    fn drop(self) {
+        let Far {
+            by: _,
+            pre: _,
+            add: _,
+            del: _,
+            cost: _,
+        } = self;
+    }
 }
 
 /// Parts of other agents' actions.

@@ -18,7 +18,6 @@ pub type TaskList = List<Task>;
 /// public parts of the others' actions. It keeps to the limits of the program: at most 16 agents, 1,048,560
 /// public and 65,535 private facts, 200,000 own actions and 3,000,000 parts of agents of the team, each of a cost
 /// of at most 16,000,000.
-#[derive(Drop)]
 pub struct Task {
     /// The agent whose task it is.
     pub me: Agent,
@@ -42,6 +41,24 @@ pub struct Task {
     pub far: FarList,
     /// For each agent, whether its private goals are true at the start.
     pub met: Flags,
+}
+
+impl Drop for Task {
+    fn drop(self) {
+        let Task {
+            me: _,
+            agents: _,
+            publics: _,
+            privates: _,
+            start_pub: _,
+            start_priv: _,
+            goal_pub: _,
+            goal_priv: _,
+            acts: _,
+            far: _,
+            met: _,
+        } = self;
+    }
 }
 
 impl Model for Task {

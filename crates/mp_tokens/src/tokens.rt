@@ -13,13 +13,22 @@ use std::marker::Model;
 /// as the different sets in the order in which they were met, and the used ones in the order of their first
 /// use. A set's index is its place among the former, its token its place among the latter. The initial set
 /// has index 0 and token 0.
-#[derive(Drop)]
 pub struct Tokens {
     size: u32,
     /// Each set once; its place is its index.
     sets: IndexSet<Bits>,
     /// The indices of the used sets; the place of an index is the token of its set.
     order: IndexSet<u64>,
+}
+
+impl Drop for Tokens {
+    fn drop(self) {
+        let Tokens {
+            size: _,
+            sets: _,
+            order: _,
+        } = self;
+    }
 }
 
 impl Model for Tokens {

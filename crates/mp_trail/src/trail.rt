@@ -12,9 +12,14 @@ use std::marker::Model;
 
 /// The own actions that one agent has noted while a plan was walked back. Contracts see it as the list of them, those
 /// of later walks last.
-#[derive(Drop)]
 pub struct Trail {
     noted: Vec<Noted>,
+}
+
+impl Drop for Trail {
+    fn drop(self) {
+        let Trail { noted: _ } = self;
+    }
 }
 
 impl Model for Trail {

@@ -16,12 +16,21 @@ use std::alloc::Global;
 use std::marker::Model;
 
 /// What one agent's two files say, where nothing is wrong with it. Contracts see it as the factor.
-#[derive(Drop)]
 pub struct CheckedFactor {
     factor: Factor,
     /// The order of its types, and the types of its objects.
     hierarchy: Hierarchy,
     alloc: Global,
+}
+
+impl Drop for CheckedFactor {
+    fn drop(self) {
+        let CheckedFactor {
+            factor: _,
+            hierarchy: _,
+            alloc: _,
+        } = self;
+    }
 }
 
 impl Model for CheckedFactor {

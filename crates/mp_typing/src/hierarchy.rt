@@ -27,13 +27,22 @@ pub type TypeList = List<Name>;
 pub type ObjectList = List<u64>;
 
 /// The declared types as a graph, and the types of each object in it.
-#[derive(Drop)]
 pub struct Hierarchy {
     pub graph: TypeGraph,
     /// The number of `object`.
     pub object: usize,
     /// For each object in object order its types as they are written.
     pub kinds: List<List<usize>>,
+}
+
+impl Drop for Hierarchy {
+    fn drop(self) {
+        let Hierarchy {
+            graph: _,
+            object: _,
+            kinds: _,
+        } = self;
+    }
 }
 
 /// The name of the type under which every type lies. Refuses only for want of memory.

@@ -4,7 +4,6 @@ use mp_lifted::FactTexts;
 use mp_list::List;
 
 /// The public part of a public action.
-#[derive(Drop)]
 pub struct Part {
     pub cost: u64,
     /// What has to be true, in the order of the texts' bytes, each once.
@@ -15,11 +14,21 @@ pub struct Part {
     pub del: FactTexts,
 }
 
+impl Drop for Part {
+    fn drop(self) {
+        let Part {
+            cost: _,
+            pre: _,
+            add: _,
+            del: _,
+        } = self;
+    }
+}
+
 /// Parts in the order of their lines, each once.
 pub type PartList = List<Part>;
 
 /// What an agent shows of its factor once it is grounded. Texts are in the order of their bytes, each once.
-#[derive(Drop)]
 pub struct View {
     /// The public facts and complements that an action touches or a goal names.
     pub facts: FactTexts,
@@ -29,4 +38,15 @@ pub struct View {
     pub met: bool,
     /// The public parts of the public actions.
     pub acts: PartList,
+}
+
+impl Drop for View {
+    fn drop(self) {
+        let View {
+            facts: _,
+            goals: _,
+            met: _,
+            acts: _,
+        } = self;
+    }
 }

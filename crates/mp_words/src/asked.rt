@@ -18,7 +18,6 @@ pub(crate) enum Valued {
 }
 
 /// What accepted words ask for: a plan for the agents of these files, or what their agents do by a schedule.
-#[derive(Drop)]
 pub struct Request<'a> {
     /// The name of the file with the schedule that is replayed: none where the agents search.
     pub schedule: Option<&'a str>,
@@ -34,4 +33,18 @@ pub struct Request<'a> {
     pub trace: bool,
     /// The names of the agents' files, an agent's domain and then its problem.
     pub names: Vec<&'a str>,
+}
+
+impl<'a> Drop for Request<'a> {
+    fn drop(self) {
+        let Request {
+            schedule: _,
+            limit: _,
+            heuristic: _,
+            workers: _,
+            one: _,
+            trace: _,
+            names: _,
+        } = self;
+    }
 }
