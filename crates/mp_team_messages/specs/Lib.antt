@@ -1,0 +1,2 @@
+-- the other agents of a team, and entries of an agent
+pub mod Others
