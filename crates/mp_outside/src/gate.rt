@@ -11,6 +11,8 @@ pub enum Kind3 {
     Take,
     /// It starts.
     Start,
+    /// It signs what it did since it last signed.
+    Sign,
 }
 
 /// What each agent passes before each of its acts. It promises nothing.

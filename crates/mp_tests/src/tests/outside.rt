@@ -121,7 +121,7 @@ fn writes_all_or_a_beginning(rt: HostRuntime) -> Result<(), Fail> {
 
 #[test]
 fn a_gate_lets_each_act_pass(_rt: HostRuntime) -> Result<(), Fail> {
-    for kind in [Kind3::Expand, Kind3::Take, Kind3::Start] {
+    for kind in [Kind3::Expand, Kind3::Take, Kind3::Start, Kind3::Sign] {
         NoGate.pass(Agent::first(), kind);
     }
     Ok(())
