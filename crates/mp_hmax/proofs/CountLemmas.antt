@@ -6,7 +6,7 @@ use Rattle.std.proofs.lemmas.List.{take_more, get_or_default}
 use Rattle.std.specs.List.Sorted.{IsPermutation}
 use Rattle.mp_task.specs.Strips.{Operator}
 use Rattle.mp_hmax.specs.Hmax.{Values, greatest}
-use Rattle.mp_hmax.specs.Estimates.{greater}
+use Rattle.mp_estimates.specs.Estimates.{greater}
 use Rattle.mp_hmax.specs.Relaxed.{operator_at}
 use Rattle.mp_hmax.specs.Search.{unknown, number_at, value_at, Key, key, HaveFallen, capped, IsServed, IsOpen, AtLeast, count_at, CountOpen, ServeAtZero, AreLowered}
 use Rattle.mp_hmax.specs.Search.AtLeast.{nothing, one, more}

@@ -12,11 +12,11 @@ use Rattle.mp_task.specs.AgentTask.{AgentTask}
 use Rattle.mp_task.specs.Limits.{IsWithinLimits}
 use Rattle.mp_task.specs.Projected.{projected, projected_state}
 use Rattle.mp_task.specs.Strips.{Operator}
-use Rattle.mp_hmax.specs.Estimates.{AtMost, lesser}
+use Rattle.mp_estimates.specs.Estimates.{AtMost, lesser}
 use Rattle.mp_hmax.specs.Hmax.{Values, greatest, cost_by, adds, least_cost, next_values, after_rounds, fact_values, hmax}
 use Rattle.mp_hmax.specs.Relaxed.{RelaxedProblem, delete_relaxation, operator_at, without_deletes}
 use Rattle.mp_hmax.specs.Search.{unknown, known, number_at, value_at, capped, IsServed, AreLow, AreBelow}
-use Rattle.mp_hmax.specs.Laws.Order.{AtMost-refl, AtMost-trans, AtMost-antisym, zero_AtMost}
+use Rattle.mp_estimates.specs.Laws.Order.{AtMost-refl, AtMost-trans, AtMost-antisym, zero_AtMost}
 use Rattle.mp_hmax.specs.Laws.Equations.{cost_by-mono, least_below, least_above}
 use Rattle.mp_hmax.specs.Laws.Rounds.{first_round, next_round, settled}
 use Rattle.mp_hmax.specs.Laws.Bounds.{Below, cost-Below, rounds-Below, costs_fit, operators_fit, start_zero}

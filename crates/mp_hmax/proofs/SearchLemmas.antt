@@ -8,13 +8,13 @@ use Rattle.std.proofs.lemmas.List.Sums.{sum_by-set}
 use Rattle.std.proofs.lemmas.List.Sorted.{All-permutation, Contains-permutation, IsPermutation-sym, length_permutation, sum_by_pushed}
 use Rattle.std.specs.List.Sorted.{IsPermutation}
 use Rattle.mp_task.specs.Strips.{Operator}
-use Rattle.mp_hmax.specs.Estimates.{AtMost, greater}
+use Rattle.mp_estimates.specs.Estimates.{AtMost, greater}
 use Rattle.mp_hmax.specs.Hmax.{Values, greatest, cost_by, adds}
 use Rattle.mp_hmax.specs.Relaxed.{operator_at}
 use Rattle.mp_hmax.specs.Search.{unknown, known, number_at, value_at, Key, key, Waits, HaveFallen, HaveStayed, IsProper, entries, capped, IsServed, AreLow, AreBelow}
 use Rattle.mp_hmax.proofs.ProperLemmas.{mark_of, mark_same, mark_other_fact, entries_none}
 use Rattle.mp_hmax.specs.Laws.Equations.{cost_by-mono}
-use Rattle.mp_hmax.specs.Laws.Order.{AtMost-refl, AtMost-trans}
+use Rattle.mp_estimates.specs.Laws.Order.{AtMost-refl, AtMost-trans}
 
 -- the greatest value of a list, its first value after another
 

@@ -5,7 +5,7 @@ use Rattle.std.proofs.lemmas.List.Elements.{All-nil, All-cons, All-head, All-tai
 use Rattle.std.proofs.lemmas.List.Sorted.{All-permutation, Contains-permutation, IsPermutation-sym}
 use Rattle.std.specs.List.Sorted.{IsPermutation}
 use Rattle.mp_task.specs.Strips.{Operator}
-use Rattle.mp_hmax.specs.Estimates.{greater}
+use Rattle.mp_estimates.specs.Estimates.{greater}
 use Rattle.mp_hmax.specs.Hmax.{greatest}
 use Rattle.mp_hmax.specs.Relaxed.{operator_at}
 use Rattle.mp_hmax.specs.Search.{known, number_at, value_at, Key, key, Waits, AreFrom, IsSettled, AllBut, CountUnsettled, IsProper, HaveStayed, IsMost, count_at, AreLowered}

@@ -6,7 +6,7 @@ use Rattle.mp_sets.specs.Numbers.{Numbers}
 use Rattle.mp_task.specs.AgentTask.{AgentTask}
 use Rattle.mp_task.specs.Projected.{projected, projected_state}
 use Rattle.mp_task.specs.Strips.{Operator}
-use Rattle.mp_hmax.specs.Estimates.{AtMost, lesser, greater}
+use Rattle.mp_estimates.specs.Estimates.{AtMost, lesser, greater}
 
 -- a value for each fact
 abbrev pub Values : Type 0

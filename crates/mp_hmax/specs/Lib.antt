@@ -1,4 +1,3 @@
-pub mod Estimates
 pub mod Hmax
 pub mod Laws
 pub mod Places

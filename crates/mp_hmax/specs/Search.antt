@@ -3,7 +3,7 @@
 use Rattle.std.specs.Prelude.{◌≡◌, ℕ, ◌+◌, ◌-◌, ◌*◌, ◌<◌, ◌≤◌, ◌==◌, ◌&&◌, nat_lt, Option, Some, None, List, [], ◌∷◌, length, sum, slice_index_or, All, Contains, IsTrue, if◌then◌else◌}
 use Rattle.std.specs.List.{count_by}
 use Rattle.mp_task.specs.Strips.{Operator}
-use Rattle.mp_hmax.specs.Estimates.{AtMost}
+use Rattle.mp_estimates.specs.Estimates.{AtMost}
 use Rattle.mp_hmax.specs.Hmax.{Values, cost_by, adds, greatest}
 use Rattle.mp_hmax.specs.Relaxed.{operator_at}
 use Rattle.mp_hmax.specs.Users.{times}

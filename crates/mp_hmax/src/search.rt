@@ -4,7 +4,7 @@ ghost use Rattle.std.specs.Prelude.{◌≡◌, ℕ, ◌<◌, ◌≤◌, ◌+◌,
 ghost use Rattle.std.specs.FinSet as set;
 ghost use Rattle.mp_task.specs.AgentTask.{AgentTask};
 ghost use Rattle.mp_task.specs.Limits.{IsWithinLimits};
-ghost use Rattle.mp_hmax.specs.Estimates.{AtMost};
+ghost use Rattle.mp_estimates.specs.Estimates.{AtMost};
 ghost use Rattle.mp_hmax.specs.Hmax.{Values, greatest, hmax};
 ghost use Rattle.mp_hmax.specs.Relaxed.{AreAllFree, delete_relaxation, operator_at};
 ghost use Rattle.mp_hmax.specs.Search.{AreBelow, AreLow, AreLowered, HaveFallen, HaveStayed, IsMost, IsOpen, IsProper, IsServed, Key, count_at, known, number_at, unknown, value_at};

@@ -6,9 +6,9 @@ use Rattle.std.specs.FinSet as set
 use Rattle.std.specs.List.{list_any}
 use Rattle.mp_sets.specs.Numbers.{Numbers}
 use Rattle.mp_task.specs.Strips.{Operator}
-use Rattle.mp_hmax.specs.Estimates.{AtMost, lesser, greater}
+use Rattle.mp_estimates.specs.Estimates.{AtMost, lesser, greater}
 use Rattle.mp_hmax.specs.Hmax.{Values, greatest, cost_by, adds, least_cost, next_values}
-use Rattle.mp_hmax.specs.Laws.Order.{AtMost-refl, AtMost-trans, zero_AtMost, lesser_left, lesser_right, lesser_both, greater_left, greater_right, greater_both, plus-mono, within, within-AtMost}
+use Rattle.mp_estimates.specs.Laws.Order.{AtMost-refl, AtMost-trans, zero_AtMost, lesser_left, lesser_right, lesser_both, greater_left, greater_right, greater_both, plus-mono, within, within-AtMost}
 
 -- the greatest value is at or above each, and at or below what each is at or below
 pub greatest_above : (v : Values) (xs : List ℕ) → All (λ x. AtMost (v x) (greatest v xs)) xs

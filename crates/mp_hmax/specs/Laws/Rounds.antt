@@ -7,9 +7,9 @@ use Rattle.std.specs.FinSet as set
 use Rattle.std.specs.List.{list_any, count_by}
 use Rattle.mp_sets.specs.Numbers.{Numbers}
 use Rattle.mp_task.specs.Strips.{Operator}
-use Rattle.mp_hmax.specs.Estimates.{AtMost}
+use Rattle.mp_estimates.specs.Estimates.{AtMost}
 use Rattle.mp_hmax.specs.Hmax.{Values, cost_by, least_cost, next_values, AreGreatest, after_rounds, fact_values}
-use Rattle.mp_hmax.specs.Laws.Order.{AtMost-refl, AtMost-trans, AtMost-antisym, within, within-AtMost, AtMost-within, within-more}
+use Rattle.mp_estimates.specs.Laws.Order.{AtMost-refl, AtMost-trans, AtMost-antisym, within, within-AtMost, AtMost-within, within-more}
 use Rattle.mp_hmax.specs.Laws.Equations.{cost_by-mono, next-mono, least_differs, greatest_differs}
 
 -- a wider test counts more, and one more where it differs somewhere

@@ -1,5 +1,5 @@
 use Rattle.std.proofs.Common.{◌+◌, length, ap, sym, subst, Some, arith}
-use Rattle.mp_hmax.specs.Estimates.{AtMost}
+use Rattle.mp_estimates.specs.Estimates.{AtMost}
 use Rattle.mp_hmax.specs.Search.{IsProper}
 use Rattle.mp_hmax.proofs.SearchLemmas.{fallen_trans, all_below, all_served, none_at}
 use Rattle.mp_hmax.proofs.ProperLemmas.{none_proper}

@@ -1,5 +1,5 @@
 use Rattle.std.proofs.Common.{◌≡◌, ◌<◌, ◌^◌, drop}
-use Rattle.mp_hmax.specs.Estimates.{greater}
+use Rattle.mp_estimates.specs.Estimates.{greater}
 use Rattle.mp_hmax.specs.Hmax.{greatest}
 use Rattle.mp_hmax.specs.Search.{known, value_at}
 use Rattle.mp_hmax.proofs.search.greatest_of.Given as goal

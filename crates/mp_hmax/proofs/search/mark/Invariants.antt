@@ -1,6 +1,6 @@
 use Rattle.std.proofs.Common.{◌≡◌, ℕ, ◌+◌, ◌-◌, ◌<◌, ◌≤◌, Some, IsTrue, vec_len}
 use Rattle.std.specs.FinSet as set
-use Rattle.mp_hmax.specs.Estimates.{AtMost}
+use Rattle.mp_estimates.specs.Estimates.{AtMost}
 use Rattle.mp_hmax.specs.Hmax.{Values}
 use Rattle.mp_hmax.specs.Search.{AreBelow, HaveFallen, number_at}
 use Rattle.mp_hmax.proofs.search.mark.Given as goal

@@ -1,7 +1,7 @@
 -- The order of costs.
 use Rattle.std.proofs.Common.{◌≡◌, ℕ, ◌+◌, ◌≤◌, Bool, true, false, leb, Option, Some, None, option_map, refl, arith}
 use Rattle.std.proofs.lemmas.Bool.{leb-true, le-leb}
-use Rattle.mp_hmax.specs.Estimates.{AtMost, lesser, greater}
+use Rattle.mp_estimates.specs.Estimates.{AtMost, lesser, greater}
 
 pub AtMost-refl : (a : Option ℕ) → AtMost a a
 AtMost-refl None = tt
