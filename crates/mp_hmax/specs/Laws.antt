@@ -1,5 +1,2 @@
--- Lemmas that lead to the laws of the heuristic, in reading order: the equations, that rounds come
--- to an end, the bounds. They stand here because the impl of the heuristic cites the last ones.
-pub mod Equations
-pub mod Rounds
+-- Lemmas that lead to the laws of the heuristic. They stand here because its impl cites them.
 pub mod Bounds

@@ -1,9 +1,2 @@
 pub mod Hmax
 pub mod Laws
-pub mod Places
-pub mod Queue
-pub mod Relaxed
-pub mod RelaxedFields
-pub mod Row
-pub mod Search
-pub mod Users

@@ -1,11 +1,12 @@
 //! The heuristic.
 
-ghost use Rattle.std.specs.Prelude.{◌≡◌, ◌<◌, ◌^◌, length, vec_len};
+ghost use Rattle.std.specs.Prelude.{◌≡◌, ◌+◌, length, IfOk};
+ghost use Rattle.mp_task.specs.AgentTask.{AgentTask};
+ghost use Rattle.mp_relaxed.specs.Relaxed.{delete_relaxation};
+ghost use Rattle.mp_hmax.specs.Hmax.{hmax};
 
-use crate::queue::Queue;
-use crate::relaxed::Relaxed;
-use crate::search::estimate;
 use mp_list::OutOfMemory;
+use mp_relaxed::{Relaxed, Search};
 use mp_sets::Bits;
 use mp_task::{Heuristic, Task};
 use std::alloc::Global;
@@ -15,29 +16,42 @@ use std::alloc::Global;
 /// true. It keeps its arrays from call to call, so that a value takes memory only where its queue grows.
 pub struct Hmax {
     problem: Relaxed,
-    counters: Vec<u32>,
-    numbers: Vec<u64>,
-    queue: Queue,
-    ghost counted: { vec_len counters ≡ length problem.operators },
-    ghost sized: { vec_len numbers ≡ problem.facts },
-    ghost few: { problem.facts < 2 ^ 32 },
+    search: Search,
+    ghost counted: { search.operators ≡ length problem.operators },
+    ghost sized: { length search.numbers ≡ problem.facts },
 }
 
 impl Drop for Hmax {
     fn drop(self) {
         let Hmax {
             problem: _,
-            counters: _,
-            numbers: _,
-            queue: _,
+            search: _,
         } = self;
     }
 }
 
+/// The value of a state.
+fn estimate(
+    problem: &Relaxed,
+    search: &mut Search,
+    publics: &Bits,
+    privates: &Bits,
+) -> Result<Option<u64>, OutOfMemory>
+    requires counted { search.old.operators ≡ length problem.now.operators }
+    requires sized { length search.old.numbers ≡ problem.now.facts }
+    requires publics { publics.now.size ≡ problem.now.publics }
+    requires privates { problem.now.publics + privates.now.size ≡ problem.now.facts }
+    ensures found { IfOk result (λ found. (t : AgentTask) → problem.now ≡ delete_relaxation t
+        → found ≡ hmax t publics.now.members privates.now.members) }
+    ensures counted { search.new.operators ≡ search.old.operators }
+    ensures sized { length search.new.numbers ≡ length search.old.numbers }
+{
+    search.find(problem, publics, privates)?;
+    Ok(search.greatest(problem.goals()))
+}
+
 impl Heuristic for Hmax {
     ghost use Rattle.mp_task.specs.Limits.{IsWithinLimits};
-    ghost use Rattle.mp_hmax.specs.Hmax.{hmax};
-    ghost use Rattle.mp_hmax.specs.Relaxed.{delete_relaxation};
     ghost use Rattle.mp_hmax.specs.Laws.Bounds.{hmax_is_admissible, hmax_is_dead, hmax_is_small};
 
     ghost is_for = { λ h t. (h.problem ≡ delete_relaxation t) × IsWithinLimits t };
@@ -46,26 +60,12 @@ impl Heuristic for Hmax {
 
     fn make(alloc: Global, task: &Task) -> Result<Hmax, OutOfMemory> {
         let problem = Relaxed::of(alloc, task)?;
-        let counters = vec![in alloc; 0; problem.counts().len()]?;
-        let numbers = vec![in alloc; u64::MAX; problem.facts() as usize]?;
-        let queue = Queue::new(alloc)?;
-        Ok(Hmax {
-            problem,
-            counters,
-            numbers,
-            queue,
-        })
+        let search = Search::new(alloc, &problem)?;
+        Ok(Hmax { problem, search })
     }
 
     fn value(&mut self, publics: &Bits, privates: &Bits) -> Result<Option<u64>, OutOfMemory> {
-        estimate(
-            &self.problem,
-            publics,
-            privates,
-            &mut self.counters,
-            &mut self.numbers,
-            &mut self.queue,
-        )
+        estimate(&self.problem, &mut self.search, publics, privates)
     }
 
     ghost small = { hmax_is_small };

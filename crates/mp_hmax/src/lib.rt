@@ -2,13 +2,6 @@
 #![tactic(auto)]
 
 mod hmax;
-mod laws;
-mod places;
-mod queue;
-mod relaxed;
-mod rows;
-mod search;
-mod users;
 
 pub use hmax::Hmax;
-pub use laws::values_are_the_greatest;
+pub use mp_relaxed::values_are_the_greatest;

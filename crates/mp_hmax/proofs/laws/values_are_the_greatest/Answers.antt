@@ -1,5 +1,0 @@
-use Rattle.mp_hmax.specs.Laws.Rounds.{are_greatest}
-use Rattle.mp_hmax.proofs.laws.values_are_the_greatest.Goals as goal
-
-pub returns : goal.returns
-returns c = are_greatest

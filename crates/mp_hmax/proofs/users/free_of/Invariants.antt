@@ -1,5 +1,0 @@
-use Rattle.mp_hmax.proofs.UserLemmas.{FreeSoFar}
-use Rattle.mp_hmax.proofs.users.free_of.Given as goal
-
-abbrev pub invariant-loop-k : goal.invariant-loop-k
-invariant-loop-k l = FreeSoFar l.pres l.k l.free.items

@@ -1,0 +1,10 @@
+pub mod Laws
+pub mod Places
+pub mod Queue
+pub mod Relaxed
+pub mod RelaxedFields
+pub mod Row
+pub mod Search
+pub mod SearchFields
+pub mod Users
+pub mod Values

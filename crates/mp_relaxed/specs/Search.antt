@@ -1,0 +1,153 @@
+-- What a search for the values of facts has: a number for each fact, a queue of facts whose number has changed, and for
+-- each operator a count of preconditions that are open.
+use Rattle.std.specs.Prelude.{◌≡◌, ℕ, ◌+◌, ◌-◌, ◌*◌, ◌<◌, ◌≤◌, ◌==◌, ◌&&◌, nat_lt, Option, Some, None, List, [], ◌∷◌, length, sum, slice_index_or, All, Contains, IsTrue, if◌then◌else◌}
+use Rattle.std.specs.List.{count_by}
+use Rattle.mp_sets.specs.Numbers.{Numbers}
+use Rattle.mp_task.specs.Strips.{Operator}
+use Rattle.mp_estimates.specs.Estimates.{AtMost}
+use Rattle.mp_relaxed.specs.Values.{Values, cost_by, adds, fact_values, greatest}
+use Rattle.mp_relaxed.specs.Relaxed.{RelaxedProblem, operator_at, state_of}
+use Rattle.mp_relaxed.specs.Users.{times}
+
+-- numbers from this one on stand for none
+abbrev pub unknown : ℕ
+unknown = 18446744073709551615
+
+abbrev pub known : ℕ → Option ℕ
+known n = if nat_lt n unknown then Some n else None
+
+abbrev pub number_at : List ℕ → ℕ → ℕ
+number_at numbers x = slice_index_or numbers x unknown
+
+abbrev pub value_at : List ℕ → Values
+value_at numbers x = known (number_at numbers x)
+
+-- a number and the fact that has it
+abbrev pub Key : Type 0
+Key = ℕ × ℕ
+
+abbrev pub key : ℕ → ℕ → Key
+key n x = (n, x)
+
+-- a fact waits in the queue with the number that it has now
+abbrev pub Waits : List ℕ → List Key → ℕ → Type 0
+Waits numbers queue x = Contains queue (key (number_at numbers x) x)
+
+-- a fact is open: it waits, or it has no number
+abbrev pub IsOpen : List ℕ → List Key → ℕ → Type 0
+IsOpen numbers queue x = ¬ Waits numbers queue x → unknown ≤ number_at numbers x
+
+-- at least so many items of a list are such
+pub data AtLeast (P : ℕ → Type 0) : List ℕ → ℕ → Type 0 where
+  nothing : (xs : List ℕ) → AtLeast P xs 0
+  one : (x : ℕ) (xs : List ℕ) (n : ℕ) → P x → AtLeast P xs n → AtLeast P (x ∷ xs) (n + 1)
+  more : (x : ℕ) (xs : List ℕ) (n : ℕ) → AtLeast P xs n → AtLeast P (x ∷ xs) n
+
+-- an operator's count
+abbrev pub count_at : List ℕ → ℕ → ℕ
+count_at counts k = slice_index_or counts k 0
+
+-- counts are at most those of open preconditions
+abbrev pub CountOpen : List Operator → List ℕ → List Key → List ℕ → Type 0
+CountOpen operators numbers queue counts =
+    (k : ℕ)
+    → k < length operators
+    → AtLeast (IsOpen numbers queue) (operator_at operators k).pre (count_at counts k)
+
+-- all entries of a queue have a number of at least this one
+abbrev pub AreFrom : ℕ → List Key → Type 0
+AreFrom n queue = All (λ (k : Key). n ≤ k.0) queue
+
+-- A fact is settled: it does not wait, and its number is at most each one in the queue.
+abbrev pub IsSettled : List ℕ → List Key → ℕ → Type 0
+IsSettled numbers queue x = (¬ Waits numbers queue x) × AreFrom (number_at numbers x) queue
+
+-- all items of a list but at most so many are such
+pub data AllBut (P : ℕ → Type 0) : List ℕ → ℕ → Type 0 where
+  empty : (n : ℕ) → AllBut P [] n
+  such : (x : ℕ) (xs : List ℕ) (n : ℕ) → P x → AllBut P xs n → AllBut P (x ∷ xs) n
+  spared : (x : ℕ) (xs : List ℕ) (n : ℕ) → AllBut P xs n → AllBut P (x ∷ xs) (n + 1)
+
+-- counts are at least those of preconditions that are not settled
+abbrev pub CountUnsettled : List Operator → List ℕ → List Key → List ℕ → Type 0
+CountUnsettled operators numbers queue counts =
+    (k : ℕ)
+    → k < length operators
+    → AllBut (IsSettled numbers queue) (operator_at operators k).pre (count_at counts k)
+
+-- how often a queue has an entry
+abbrev pub entries : ℕ → ℕ → List Key → ℕ
+entries n x queue = count_by (λ (k : Key). (k.0 == n) && (k.1 == x)) queue
+
+-- No entry is less than its fact's number, and none that has it stands twice.
+pub record IsProper (numbers : List ℕ) (queue : List Key) : Type 0 where
+  pub current : All (λ (k : Key). number_at numbers k.1 ≤ k.0) queue
+  pub once : (x : ℕ) → entries (number_at numbers x) x queue ≤ 1
+
+-- numbers up to this one have stayed, their facts wait only where they did, and what came into the queue is no less
+pub record HaveStayed (n : ℕ) (old : List ℕ) (before : List Key) (new : List ℕ) (after : List Key) : Type 0 where
+  pub same : (x : ℕ) → number_at old x ≤ n → number_at new x ≡ number_at old x
+  pub calm : (x : ℕ) → number_at old x ≤ n → ¬ Waits old before x → ¬ Waits new after x
+  pub above : AreFrom n before → AreFrom n after
+
+-- a number is the greatest of some facts
+pub record IsMost (n : ℕ) (numbers : List ℕ) (facts : List ℕ) : Type 0 where
+  pub at_most : All (λ x. number_at numbers x ≤ n) facts
+  pub is : known n ≡ greatest (value_at numbers) facts
+
+-- a measure that falls
+abbrev pub weight : List ℕ → List Key → ℕ
+weight numbers queue = 2 * sum numbers + length queue
+
+-- Numbers have fallen, and a fact whose number fell waits; a fact that waited waits still.
+pub record HaveFallen (old : List ℕ) (before : List Key) (new : List ℕ) (after : List Key) : Type 0 where
+  pub as_many : length new ≡ length old
+  pub lower : (x : ℕ) → number_at new x ≤ number_at old x
+  pub quiet :
+      (x : ℕ)
+      → ¬ Waits new after x
+      → (number_at new x ≡ number_at old x) × ¬ Waits old before x
+  pub inside :
+      All (λ (k : Key). k.1 < length old) before
+      → All (λ (k : Key). k.1 < length old) after
+  pub lighter : weight new after ≤ weight old before
+  pub proper : IsProper old before → IsProper new after
+
+-- numbers beyond the greatest that a program has are as none
+abbrev pub capped : Option ℕ → Option ℕ
+capped None = None
+capped (Some n) = known n
+
+-- Unless one of its preconditions waits, what an operator adds costs no more than by it.
+abbrev pub IsServed : List Operator → List ℕ → List Key → ℕ → Type 0
+IsServed operators numbers queue k =
+    All (λ x. ¬ Waits numbers queue x) (operator_at operators k).pre
+    → All
+    (λ y. AtMost (value_at numbers y) (capped (cost_by (value_at numbers) (operator_at operators k))))
+    (operator_at operators k).add
+
+-- values are at most what the operators give
+abbrev pub AreLow : List Operator → Values → Type 0
+AreLow operators values =
+    (k x : ℕ)
+    → k < length operators
+    → IsTrue (adds (operator_at operators k) x)
+    → AtMost (values x) (cost_by values (operator_at operators k))
+
+-- values are at most those of numbers
+abbrev pub AreBelow : Values → List ℕ → Type 0
+AreBelow values numbers = (x : ℕ) → AtMost (values x) (value_at numbers x)
+
+-- numbers are the values of facts for a state, of which the public and the private facts are given
+abbrev pub AreValues : RelaxedProblem → Numbers → Numbers → List ℕ → Type 0
+AreValues r publics privates numbers =
+    (x : ℕ) → value_at numbers x ≡ fact_values r.operators (state_of r publics privates) x
+
+-- operators whose count is 0 are served
+abbrev pub ServeAtZero : List Operator → List ℕ → List Key → List ℕ → Type 0
+ServeAtZero operators numbers queue counts =
+    (k : ℕ) → k < length operators → count_at counts k ≡ 0 → IsServed operators numbers queue k
+
+-- each count has been lowered as often as its operator's number stands in a list
+abbrev pub AreLowered : List ℕ → List ℕ → List ℕ → Type 0
+AreLowered old users new = (k : ℕ) → count_at new k ≡ count_at old k - times k users

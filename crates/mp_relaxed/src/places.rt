@@ -1,0 +1,116 @@
+//! Facts that wait with small numbers, in rows by their numbers.
+
+ghost use Rattle.std.specs.Prelude.{◌≡◌, ◌<◌, ◌≤◌, [], ◌∷◌, IfNone, IfOk, IfSome, IsPermutation, OnOk, length, vec_len};
+ghost use Rattle.mp_relaxed.specs.Places.{AreEmpty, AreEmptyWithin, HasFact};
+ghost use Rattle.mp_relaxed.specs.Search.{AreFrom, key};
+
+use mp_list::OutOfMemory;
+use std::alloc::Global;
+use std::marker::Model;
+
+/// How many numbers have a row.
+pub(crate) const ROWS: usize = 1024;
+
+/// So many empty rows.
+fn empty_rows(alloc: Global) -> Result<Vec<Vec<u32>>, OutOfMemory>
+    ensures { IfOk result (λ rows. (vec_len rows ≡ 1024) × AreEmpty rows.items) }
+{
+    let mut rows = Vec::with_capacity(alloc, ROWS)?;
+    for _ in 0..ROWS {
+        rows.push(Vec::new(alloc))?;
+    }
+    Ok(rows)
+}
+
+/// Empties each row. They keep their memory.
+fn empty_all(rows: &mut Vec<Vec<u32>>)
+    ensures empty { AreEmpty rows.new.items }
+    ensures len { vec_len rows.new ≡ vec_len rows.old }
+{
+    let mut at = 0;
+    'each: while at < rows.len() {
+        rows[at].clear();
+        at += 1;
+    }
+}
+
+/// The first row from one on that has a fact, or how many rows there are.
+fn next_row(rows: &[Vec<u32>], from: usize) -> usize
+    requires { from ≤ length rows.now }
+    ensures within { result ≤ length rows.now }
+    ensures passed { AreEmptyWithin from result rows.now }
+    ensures some { HasFact result rows.now }
+{
+    let mut at = from;
+    'each: while at < rows.len() {
+        if !rows[at].is_empty() {
+            return at;
+        }
+        at += 1;
+    }
+    at
+}
+
+/// Facts with numbers below the number of rows, in the rows of their numbers, and a row below which none has a fact.
+/// Contracts see the list of entries, in an order that says nothing.
+#[derive(Drop)]
+pub(crate) struct Places {
+    rows: Vec<Vec<u32>>,
+    least: usize,
+}
+
+impl Model for Places {
+    ghost use Rattle.std.specs.Prelude.{List};
+    ghost use Rattle.mp_relaxed.specs.Places.{AreRows, place_entries};
+    ghost use Rattle.mp_relaxed.specs.Search.{Key};
+
+    ghost Value = { List Key };
+
+    ghost view = { place_entries };
+
+    ghost invariant = { AreRows };
+}
+
+impl Places {
+    /// Without facts. Refuses only for want of memory.
+    pub(crate) fn new(alloc: Global) -> Result<Places, OutOfMemory>
+        ensures { IfOk result (λ places. places ≡ []) }
+    {
+        let rows = empty_rows(alloc)?;
+        Ok(Places { rows, least: 0 })
+    }
+
+    /// Takes all entries away.
+    pub(crate) fn clear(&mut self)
+        ensures { self.new ≡ [] }
+    {
+        empty_all(&mut self.rows);
+        self.least = 0;
+    }
+
+    /// One more entry. Refuses only for want of memory.
+    pub(crate) fn push(&mut self, number: usize, fact: u32) -> Result<(), OutOfMemory>
+        requires { number < 1024 }
+        ensures { OnOk result (IsPermutation (key number fact ∷ self.old) self.new) }
+    {
+        self.rows[number].push(fact)?;
+        self.least = self.least.min(number);
+        Ok(())
+    }
+
+    /// Takes out an entry of the least number.
+    pub(crate) fn pop(&mut self) -> Option<(u64, u32)>
+        ensures entry { IfSome result (λ e. IsPermutation self.old (key e.0 e.1 ∷ self.new)) }
+        ensures least { IfSome result (λ e. AreFrom e.0 self.old) }
+        ensures small { IfSome result (λ e. e.0 < 1024) }
+        ensures none { IfNone result ((self.old ≡ []) × (self.new ≡ [])) }
+    {
+        let least = next_row(self.rows.as_slice(), self.least);
+        self.least = least;
+        if least == ROWS {
+            return None;
+        }
+        let fact = self.rows[least].pop()?;
+        Some((least as u64, fact))
+    }
+}

@@ -1,0 +1,307 @@
+//! The search for the values of facts, those of the least cost first (Dijkstra 1959; Knuth 1977).
+
+ghost use Rattle.std.specs.Prelude.{◌≡◌, ℕ, ◌<◌, ◌≤◌, ◌+◌, ◌^◌, [], ◌∷◌, All, Contains, length, vec_len, IfOk, OnOk, IsTrue, Some};
+ghost use Rattle.std.specs.FinSet as set;
+ghost use Rattle.mp_estimates.specs.Estimates.{AtMost};
+ghost use Rattle.mp_relaxed.specs.Values.{Values, greatest};
+ghost use Rattle.mp_relaxed.specs.Relaxed.{AreAllFree, operator_at};
+ghost use Rattle.mp_relaxed.specs.Search.{AreBelow, AreLow, AreLowered, AreValues, HaveFallen, HaveStayed, IsMost, IsOpen, IsProper, IsServed, Key, count_at, known, number_at, unknown, value_at};
+ghost use Rattle.mp_relaxed.specs.Users.{times};
+
+use crate::queue::Queue;
+use crate::relaxed::Relaxed;
+use mp_list::OutOfMemory;
+use mp_sets::Bits;
+
+/// The greatest value of some facts.
+pub(crate) fn greatest_of(numbers: &[u64], facts: &[u32]) -> u64
+    requires { All (λ x. x < length numbers.now) facts.now }
+    ensures { known result ≡ greatest (value_at numbers.now) facts.now }
+{
+    let mut most = 0;
+    for x in facts {
+        most = most.max(numbers[*x as usize]);
+    }
+    most
+}
+
+/// Gives a fact a number where that is less than the one that it has.
+fn lower(numbers: &mut Vec<u64>, queue: &mut Queue, x: u32, cost: u64) -> Result<(), OutOfMemory>
+    requires { x < vec_len numbers.old }
+    ensures fallen { OnOk result (HaveFallen numbers.old.items queue.old
+        numbers.new.items queue.new) }
+    ensures stayed { OnOk result ((n : ℕ) → n ≤ cost
+        → HaveStayed n numbers.old.items queue.old numbers.new.items queue.new) }
+    ensures lowered { OnOk result (number_at numbers.new.items x ≤ cost) }
+    ensures below { OnOk result ((values : Values) → AtMost (values x) (known cost)
+        → AreBelow values numbers.old.items → AreBelow values numbers.new.items) }
+    ensures len { vec_len numbers.new ≡ vec_len numbers.old }
+{
+    if cost < numbers[x as usize] {
+        numbers[x as usize] = cost;
+        queue.push(cost, x)?;
+    }
+    Ok(())
+}
+
+/// Gives what an operator adds the cost by it, where that is less, from the greatest value of its preconditions.
+fn relax(
+    problem: &Relaxed,
+    k: u32,
+    most: u64,
+    numbers: &mut Vec<u64>,
+    queue: &mut Queue,
+) -> Result<(), OutOfMemory>
+    requires operator { k < length problem.now.operators }
+    requires sized { vec_len numbers.old ≡ problem.now.facts }
+    requires reached { known most ≡ greatest (value_at numbers.old.items) (operator_at problem.now.operators k).pre }
+    ensures fallen { OnOk result (HaveFallen numbers.old.items queue.old
+        numbers.new.items queue.new) }
+    ensures stayed { OnOk result (HaveStayed most numbers.old.items queue.old numbers.new.items queue.new) }
+    ensures served { OnOk result
+        (IsServed problem.now.operators numbers.new.items queue.new k) }
+    ensures below { OnOk result ((values : Values) → AreLow problem.now.operators values
+        → AreBelow values numbers.old.items → AreBelow values numbers.new.items) }
+    ensures len { vec_len numbers.new ≡ vec_len numbers.old }
+{
+    let own = problem.cost(k);
+    if own < u64::MAX - most {
+        let cost = own + most;
+        for x in problem.add(k) {
+            lower(numbers, queue, *x, cost)?;
+        }
+    }
+    Ok(())
+}
+
+/// Relaxes some operators without preconditions, one after another.
+fn relax_free(
+    problem: &Relaxed,
+    operators: &[u32],
+    numbers: &mut Vec<u64>,
+    queue: &mut Queue,
+) -> Result<(), OutOfMemory>
+    requires operators { All (λ k. k < length problem.now.operators) operators.now }
+    requires free { AreAllFree problem.now.operators operators.now }
+    requires sized { vec_len numbers.old ≡ problem.now.facts }
+    ensures fallen { OnOk result (HaveFallen numbers.old.items queue.old
+        numbers.new.items queue.new) }
+    ensures served { OnOk result ((k : ℕ) → Contains operators.now k
+        → IsServed problem.now.operators numbers.new.items queue.new k) }
+    ensures below { OnOk result ((values : Values) → AreLow problem.now.operators values
+        → AreBelow values numbers.old.items → AreBelow values numbers.new.items) }
+    ensures len { vec_len numbers.new ≡ vec_len numbers.old }
+{
+    for k in operators {
+        relax(problem, *k, 0, numbers, queue)?;
+    }
+    Ok(())
+}
+
+/// Counts one open precondition of an operator less. Where none is left, that one has the greatest value of them, and
+/// the operator is relaxed.
+fn count_down(
+    problem: &Relaxed,
+    k: u32,
+    cost: u64,
+    counters: &mut Vec<u32>,
+    numbers: &mut Vec<u64>,
+    queue: &mut Queue,
+) -> Result<(), OutOfMemory>
+    requires operator { k < length problem.now.operators }
+    requires counted { vec_len counters.old ≡ length problem.now.operators }
+    requires sized { vec_len numbers.old ≡ problem.now.facts }
+    requires reached { count_at counters.old.items k ≤ 1
+        → known cost ≡ greatest (value_at numbers.old.items) (operator_at problem.now.operators k).pre }
+    ensures fallen { OnOk result (HaveFallen numbers.old.items queue.old
+        numbers.new.items queue.new) }
+    ensures stayed { OnOk result (HaveStayed cost numbers.old.items queue.old numbers.new.items queue.new) }
+    ensures lowered { OnOk result (AreLowered counters.old.items (k ∷ []) counters.new.items) }
+    ensures served { OnOk result (count_at counters.new.items k ≡ 0
+        → IsServed problem.now.operators numbers.new.items queue.new k) }
+    ensures below { OnOk result ((values : Values) → AreLow problem.now.operators values
+        → AreBelow values numbers.old.items → AreBelow values numbers.new.items) }
+    ensures counted { vec_len counters.new ≡ vec_len counters.old }
+    ensures len { vec_len numbers.new ≡ vec_len numbers.old }
+{
+    let left = counters[k as usize].saturating_sub(1);
+    counters[k as usize] = left;
+    if left == 0 {
+        relax(problem, k, cost, numbers, queue)?;
+    }
+    Ok(())
+}
+
+/// Counts down each of some operators, as often as it is named, for a fact of a number.
+fn count_down_all(
+    problem: &Relaxed,
+    operators: &[u32],
+    cost: u64,
+    counters: &mut Vec<u32>,
+    numbers: &mut Vec<u64>,
+    queue: &mut Queue,
+) -> Result<(), OutOfMemory>
+    requires operators { All (λ k. k < length problem.now.operators) operators.now }
+    requires counted { vec_len counters.old ≡ length problem.now.operators }
+    requires sized { vec_len numbers.old ≡ problem.now.facts }
+    requires reached { (k : ℕ) → k < length problem.now.operators → 1 ≤ times k operators.now
+        → count_at counters.old.items k ≤ times k operators.now
+        → IsMost cost numbers.old.items (operator_at problem.now.operators k).pre }
+    ensures fallen { OnOk result (HaveFallen numbers.old.items queue.old
+        numbers.new.items queue.new) }
+    ensures stayed { OnOk result (HaveStayed cost numbers.old.items queue.old numbers.new.items queue.new) }
+    ensures lowered { OnOk result (AreLowered counters.old.items operators.now counters.new.items) }
+    ensures served { OnOk result ((k : ℕ) → 1 ≤ times k operators.now
+        → count_at counters.new.items k ≡ 0
+        → IsServed problem.now.operators numbers.new.items queue.new k) }
+    ensures below { OnOk result ((values : Values) → AreLow problem.now.operators values
+        → AreBelow values numbers.old.items → AreBelow values numbers.new.items) }
+    ensures counted { vec_len counters.new ≡ vec_len counters.old }
+    ensures len { vec_len numbers.new ≡ vec_len numbers.old }
+{
+    for k in operators {
+        count_down(problem, *k, cost, counters, numbers, queue)?;
+    }
+    Ok(())
+}
+
+/// Counts all preconditions as open.
+fn recount(problem: &Relaxed, counters: &mut Vec<u32>)
+    requires { vec_len counters.old ≡ length problem.now.operators }
+    ensures count { (k : ℕ) → count_at counters.new.items k
+        ≡ length (operator_at problem.now.operators k).pre }
+    ensures len { vec_len counters.new ≡ vec_len counters.old }
+{
+    counters.as_mut_slice().copy_from_slice(problem.counts());
+}
+
+/// Settles the fact of least cost that waits, until none does: it is no precondition that is open any more. An entry
+/// whose fact has another number by now is out of date. An operator is relaxed where none of its preconditions is open:
+/// the last one of them that was settled has the greatest value, since numbers in the queue never get less than the
+/// one that was taken last.
+pub(crate) fn settle(
+    problem: &Relaxed,
+    counters: &mut Vec<u32>,
+    numbers: &mut Vec<u64>,
+    queue: &mut Queue,
+) -> Result<(), OutOfMemory>
+    requires counted { vec_len counters.old ≡ length problem.now.operators }
+    requires sized { vec_len numbers.old ≡ problem.now.facts }
+    requires inside { All (λ (k : Key). k.1 < vec_len numbers.old) queue.old }
+    requires served { (k : ℕ) → k < length problem.now.operators
+        → IsServed problem.now.operators numbers.old.items queue.old k }
+    requires all_open { (x : ℕ) → IsOpen numbers.old.items queue.old x }
+    requires proper { IsProper numbers.old.items queue.old }
+    ensures lower { OnOk result ((x : ℕ) → number_at numbers.new.items x ≤ number_at numbers.old.items x) }
+    ensures served { OnOk result ((k : ℕ) → k < length problem.now.operators
+        → IsServed problem.now.operators numbers.new.items [] k) }
+    ensures below { OnOk result ((values : Values) → AreLow problem.now.operators values
+        → AreBelow values numbers.old.items → AreBelow values numbers.new.items) }
+    ensures counted { vec_len counters.new ≡ vec_len counters.old }
+    ensures len { vec_len numbers.new ≡ vec_len numbers.old }
+{
+    recount(problem, counters);
+    'pops: while let Some((cost, x)) = queue.pop() {
+        if cost == numbers[x as usize] {
+            count_down_all(problem, problem.users(x), cost, counters, numbers, queue)?;
+        }
+    }
+    Ok(())
+}
+
+/// Takes all values away.
+fn forget(numbers: &mut Vec<u64>)
+    ensures none { All (λ n. n ≡ unknown) numbers.new.items }
+    ensures len { vec_len numbers.new ≡ vec_len numbers.old }
+{
+    numbers.as_mut_slice().fill(u64::MAX);
+}
+
+/// Gives the members of a set, above an offset, the number 0.
+fn mark(
+    numbers: &mut Vec<u64>,
+    queue: &mut Queue,
+    members: &Bits,
+    offset: u32,
+) -> Result<(), OutOfMemory>
+    requires room { offset + members.now.size ≤ vec_len numbers.old }
+    requires few { vec_len numbers.old < 2 ^ 32 }
+    ensures fallen { OnOk result (HaveFallen numbers.old.items queue.old
+        numbers.new.items queue.new) }
+    ensures zero { OnOk result ((x : ℕ) → IsTrue (set.contains members.now.members x)
+        → number_at numbers.new.items (offset + x) ≤ 0) }
+    ensures below { OnOk result ((values : Values)
+        → ((x : ℕ) → x < members.now.size → IsTrue (set.contains members.now.members x)
+        → AtMost (values (offset + x)) (Some 0))
+        → AreBelow values numbers.old.items → AreBelow values numbers.new.items) }
+    ensures len { vec_len numbers.new ≡ vec_len numbers.old }
+{
+    let mut from = 0;
+    'members: while let Some(x) = members.least_from(from) {
+        lower(numbers, queue, offset + x, 0)?;
+        from = x + 1;
+    }
+    Ok(())
+}
+
+/// Gives the facts of a state the number 0, and relaxes the operators without preconditions.
+fn begin(
+    problem: &Relaxed,
+    publics: &Bits,
+    privates: &Bits,
+    numbers: &mut Vec<u64>,
+    queue: &mut Queue,
+) -> Result<(), OutOfMemory>
+    requires sized { vec_len numbers.old ≡ problem.now.facts }
+    requires few { problem.now.facts < 2 ^ 32 }
+    requires publics { publics.now.size ≡ problem.now.publics }
+    requires privates { problem.now.publics + privates.now.size ≡ problem.now.facts }
+    ensures inside { OnOk result (All (λ (k : Key). k.1 < vec_len numbers.new) queue.new) }
+    ensures served { OnOk result ((k : ℕ) → k < length problem.now.operators
+        → IsServed problem.now.operators numbers.new.items queue.new k) }
+    ensures zero_publics { OnOk result ((x : ℕ) → IsTrue (set.contains publics.now.members x)
+        → number_at numbers.new.items (0 + x) ≤ 0) }
+    ensures zero_privates { OnOk result ((x : ℕ) → IsTrue (set.contains privates.now.members x)
+        → number_at numbers.new.items (problem.now.publics + x) ≤ 0) }
+    ensures below { OnOk result ((values : Values) → AreLow problem.now.operators values
+        → ((x : ℕ) → x < publics.now.size → IsTrue (set.contains publics.now.members x)
+        → AtMost (values (0 + x)) (Some 0))
+        → ((x : ℕ) → x < privates.now.size → IsTrue (set.contains privates.now.members x)
+        → AtMost (values (problem.now.publics + x)) (Some 0))
+        → AreBelow values numbers.new.items) }
+    ensures all_open { OnOk result ((x : ℕ) → IsOpen numbers.new.items queue.new x) }
+    ensures proper { OnOk result (IsProper numbers.new.items queue.new) }
+    ensures len { vec_len numbers.new ≡ vec_len numbers.old }
+{
+    forget(numbers);
+    queue.clear();
+    mark(numbers, queue, publics, 0)?;
+    mark(numbers, queue, privates, problem.publics())?;
+    relax_free(problem, problem.free(), numbers, queue)?;
+    Ok(())
+}
+
+/// Finds the values of all facts for a state.
+pub(crate) fn find_values(
+    problem: &Relaxed,
+    publics: &Bits,
+    privates: &Bits,
+    counters: &mut Vec<u32>,
+    numbers: &mut Vec<u64>,
+    queue: &mut Queue,
+) -> Result<(), OutOfMemory>
+    requires counted { vec_len counters.old ≡ length problem.now.operators }
+    requires sized { vec_len numbers.old ≡ problem.now.facts }
+    requires publics { publics.now.size ≡ problem.now.publics }
+    requires privates { problem.now.publics + privates.now.size ≡ problem.now.facts }
+    ensures values { OnOk result (AreValues problem.now publics.now.members privates.now.members
+        numbers.new.items) }
+    ensures counted { vec_len counters.new ≡ vec_len counters.old }
+    ensures len { vec_len numbers.new ≡ vec_len numbers.old }
+{
+    let _ = problem.operators();
+    let _ = problem.facts();
+    begin(problem, publics, privates, numbers, queue)?;
+    settle(problem, counters, numbers, queue)?;
+    Ok(())
+}
