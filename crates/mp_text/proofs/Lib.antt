@@ -22,3 +22,9 @@ pub mod PlainLemmas
 pub mod AgainLemmas
 -- a share with one action more
 pub mod ShareLemmas
+-- what a trace tells of a log, what is counted over it, and that its events are those of their agents
+pub mod ToldLemmas
+pub mod CountLemmas
+pub mod OwnLemmas
+-- logs with the same texts
+pub mod SameLemmas

@@ -10,3 +10,5 @@ pub mod Reading
 pub mod Again
 -- the text of an outcome
 pub mod Outcome
+-- logs with the same texts
+pub mod Alike

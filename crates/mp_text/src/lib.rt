@@ -9,7 +9,7 @@ mod schedule;
 mod trace;
 mod write;
 
-pub use laws::traces_are_read_again;
+pub use laws::{logs_of_one_schedule_tell_the_same, traces_are_read_again};
 pub use outcome::outcome_text;
 pub use schedule::{EventLine, EventLines, LineRefusal, read_schedule};
 pub use trace::trace_text;
