@@ -6,6 +6,7 @@ use Rattle.mp_joint.specs.Fact.{Text}
 use Rattle.mp_joint.specs.declared.plan.PlanStep.{PlanStep}
 use Rattle.mp_task.specs.AgentTask.{AgentTask}
 use Rattle.mp_messages.specs.declared.history.Event.{Event}
+use Rattle.mp_messages.specs.History.{schedule as schedule_of}
 use Rattle.mp_world.specs.Answers.{answer_of, outcome_of}
 use Rattle.mp_world.specs.Events.{is_legal, run}
 use Rattle.mp_world.specs.Logs.{IsLog, log_of_run}
@@ -51,33 +52,41 @@ module _
       pub printed : found.text ≡ answer_text (length team) found.answer plan found.log
 
     -- This was found for the files of a team, where each agent may expand so many entries, by a schedule: the agents have
-    -- the tasks of the files, the schedule is legal for them, and the log is that of its run. The text tells the agents'
-    -- shares by the names that their actions stand for. Once all agents have ended, the answer is right for the files;
-    -- before, there is no answer, and no text.
+    -- the tasks of the files, the schedule is legal for them, and the log is one of the team with this schedule; where the
+    -- messages stand in it between entries of other agents is open. The text tells the agents' shares by the names that
+    -- their actions stand for. Once all agents have ended, the answer is right for the files; before, there is no answer,
+    -- and no text.
     pub record IsFound (schedule : List Event) (found : Solution) : Type 0 where
       pub tasks : Tasks
       pub are_tasks : AreTasksOf team tasks
       pub views : found.views ≡ tasks.views
       pub last : World
       pub leads : run value limit tasks.tasks schedule ≡ Some last
-      pub logged : found.log ≡ log_of_run value limit tasks.tasks schedule
       pub is_log : IsLog value limit tasks.tasks found.log
+      pub logged : schedule_of found.log ≡ schedule
       pub answer : found.answer ≡ answer_of last
       pub told : found.text ≡ outcome_text (outcome_of last) (names_of team tasks.steps) found.log
       pub right : is_over last ≡ true → IsRightFor tasks.tasks schedule last found
       pub goes_on : is_over last ≡ false → (found.answer ≡ Nothing) × (found.text ≡ [])
 
+    -- This was found by a schedule whose events happened one after another: the log is that of its run, in which each
+    -- message stands directly behind the event that sent it.
+    pub record IsFoundInTurn (schedule : List Event) (found : Solution) : Type 0 where
+      pub is_found : IsFound schedule found
+      pub logged : found.log ≡ log_of_run value limit is_found.tasks.tasks schedule
+
     -- this was found by round robin, until all agents had ended
     pub record IsSolution (found : Solution) : Type 0 where
       pub schedule : List Event
-      pub is_found : IsFound schedule found
-      pub round_robin : IsRoundRobin value (start_world value limit is_found.tasks.tasks) schedule is_found.last
+      pub in_turn : IsFoundInTurn schedule found
+      pub round_robin :
+          IsRoundRobin value (start_world value limit in_turn.is_found.tasks.tasks) schedule in_turn.is_found.last
 
     -- this was found by the schedule that a text has
     pub record IsReplayed (text : Text) (found : Solution) : Type 0 where
       pub lines : List EventLine
       pub read : schedule_in (length team) text ≡ Ok lines
-      pub is_found : IsFound (map (λ line. line.event) lines) found
+      pub in_turn : IsFoundInTurn (map (λ line. line.event) lines) found
 
     -- the schedule that a text has stops short at a line
     pub record MayNotHappen (text : Text) (number : ℕ) : Type 0 where
