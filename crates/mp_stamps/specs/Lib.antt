@@ -4,3 +4,5 @@ pub mod Mail
 pub mod Lists
 -- one log of all lists
 pub mod Merged
+-- a sort by stamps
+pub mod Sorting

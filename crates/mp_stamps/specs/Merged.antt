@@ -1,5 +1,5 @@
 -- Stamped lists merged to one log (Lamport 1978).
-use Rattle.std.specs.Prelude.{◌≡◌, ◌<◌, ◌≤◌, ◌⊎◌, ℕ, List}
+use Rattle.std.specs.Prelude.{◌≡◌, ◌<◌, ◌≤◌, ◌⊎◌, List}
 use Rattle.std.specs.List.{AllPairs, flat_map}
 use Rattle.std.specs.List.Sorted.{IsPermutation}
 use Rattle.mp_messages.specs.declared.history.Entry.{Entry}

@@ -1,6 +1,8 @@
 //! What agents did, with stamps, and the one log of all.
 #![tactic(auto)]
 
+mod merging;
 mod stamped;
 
+pub use merging::merge_stamped;
 pub use stamped::{Stamped, StampedList, StampedLists};

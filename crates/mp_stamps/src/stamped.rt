@@ -123,6 +123,10 @@ impl StampedLists {
         std::mem::replace(&mut self.lists[at], list)
     }
 
+    pub(crate) fn allocator(&self) -> Global {
+        *self.lists.allocator()
+    }
+
     /// The lists, that of agent 1 first.
     pub fn as_slice(&self) -> &[StampedList]
         ensures { result.now ≡ self.now }
