@@ -1,3 +1,9 @@
 pub mod Distance
 pub mod Pattern
+pub mod Masks
+pub mod PatternFields
+pub mod Moves
+pub mod Table
+pub mod Queue
+pub mod Pdb
 pub mod Laws

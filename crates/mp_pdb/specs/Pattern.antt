@@ -14,12 +14,16 @@ use Rattle.mp_pdb.specs.Distance.{distance}
 abbrev pub is_in : List ℕ → ℕ → Bool
 is_in facts x = list_any (λ y. y == x) facts
 
--- what operators need that add a fact of a pattern, and the pattern has not
+-- of some facts those that a pattern has not
+abbrev pub missing_among : List ℕ → List ℕ → List ℕ
+missing_among pattern facts = filter (λ x. not (is_in pattern x)) facts
+
+-- A pattern misses what an operator needs that adds a fact of it.
+abbrev pub missing_of : List ℕ → Operator → List ℕ
+missing_of pattern o = if list_any (is_in pattern) o.add then missing_among pattern o.pre else []
+
 abbrev pub missing : List Operator → List ℕ → List ℕ
-missing operators pattern =
-    flat_map
-    (λ o. if list_any (is_in pattern) o.add then filter (λ x. not (is_in pattern x)) o.pre else [])
-    operators
+missing operators pattern = flat_map (missing_of pattern) operators
 
 abbrev pub least : List ℕ → Option ℕ
 least [] = None

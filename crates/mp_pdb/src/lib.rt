@@ -2,5 +2,12 @@
 #![tactic(auto)]
 
 mod laws;
+mod moves;
+mod operators;
+mod pattern;
+mod pdb;
+mod queue;
+mod table;
 
 pub use laws::distances_are_least_costs;
+pub use pdb::Pdb;

@@ -1,0 +1,140 @@
+//! The operators of a projected problem, as far as a pattern sees them.
+
+ghost use Rattle.std.specs.Prelude.{◌≡◌, ◌<◌, ◌≤◌, ◌+◌, ◌++◌, ◌∷◌, [], ℕ, List, IfOk, OnOk, take};
+ghost use Rattle.mp_estimates.specs.Estimates.{lesser};
+ghost use Rattle.mp_task.specs.Limits.{ActFits, FarFits, IsWithinLimits};
+ghost use Rattle.mp_task.specs.Projected.{far_operator, own_operator, projected};
+ghost use Rattle.mp_task.specs.Strips.{Operator};
+ghost use Rattle.mp_pdb.specs.Moves.{AreMoves, StandsFor};
+ghost use Rattle.mp_pdb.specs.Pattern.{least, missing, missing_of, pattern_of};
+
+use crate::moves::Move;
+use crate::pattern::{MOST, Pattern};
+use mp_list::OutOfMemory;
+use mp_task::{Act, Far, Task};
+use std::alloc::Global;
+
+/// The move of an own action.
+fn own_move(pattern: &Pattern, publics: u32, privates: u32, act: &Act) -> Move
+    requires sized { pattern.now.size ≡ publics + privates }
+    requires fits { ActFits publics privates act.now }
+    ensures { StandsFor pattern.now.facts (own_operator publics act.now) result }
+{
+    Move {
+        pre: pattern.mask_of(publics, &act.pre_pub, &act.pre_priv),
+        add: pattern.mask_of(publics, &act.add_pub, &act.add_priv),
+        del: pattern.mask_of(publics, &act.del_pub, &act.del_priv),
+        cost: act.cost,
+    }
+}
+
+/// The move of the part of another agent's action.
+fn far_move(pattern: &Pattern, agents: u16, publics: u32, part: &Far) -> Move
+    requires sized { publics ≤ pattern.now.size }
+    requires fits { FarFits agents publics part.now }
+    ensures { StandsFor pattern.now.facts (far_operator part.now) result }
+{
+    Move {
+        pre: pattern.mask(0, part.pre.as_slice()),
+        add: pattern.mask(0, part.add.as_slice()),
+        del: pattern.mask(0, part.del.as_slice()),
+        cost: part.cost,
+    }
+}
+
+/// Adds a move, unless it changes nothing.
+fn note(moves: &mut Vec<Move>, found: Move) -> Result<(), OutOfMemory>
+    ensures { OnOk result ((pattern : List ℕ) (operators : List Operator) (o : Operator)
+        → AreMoves pattern operators moves.old.items → StandsFor pattern o found
+        → AreMoves pattern (operators ++ o ∷ []) moves.new.items) }
+{
+    if !found.is_idle() {
+        moves.push(found)?;
+    }
+    Ok(())
+}
+
+/// The moves of the operators of a task's projected problem.
+pub(crate) fn moves_of(alloc: Global, task: &Task, pattern: &Pattern) -> Result<Vec<Move>, OutOfMemory>
+    requires { pattern.now.size ≡ task.now.publics + task.now.privates }
+    ensures { IfOk result (λ moves. AreMoves pattern.now.facts (projected task.now).operators moves.items) }
+{
+    let mut moves = Vec::new(alloc);
+    for act in task.acts.as_slice() {
+        note(&mut moves, own_move(pattern, task.publics, task.privates, act))?;
+    }
+    for part in task.far.as_slice() {
+        note(&mut moves, far_move(pattern, task.agents, task.publics, part))?;
+    }
+    Ok(moves)
+}
+
+/// The lowest of a fact and of those that an own action needs, where it adds a fact of a pattern, and the pattern misses.
+fn lowest_of_own(pattern: &Pattern, publics: u32, privates: u32, act: &Act, lowest: Option<u32>) -> Option<u32>
+    requires sized { pattern.now.size ≡ publics + privates }
+    requires fits { ActFits publics privates act.now }
+    ensures { result ≡ lesser lowest (least (missing_of pattern.now.facts (own_operator publics act.now))) }
+{
+    if pattern.mask_of(publics, &act.add_pub, &act.add_priv) == 0 {
+        return lowest;
+    }
+    let lowest = pattern.lowest_missing(0, act.pre_pub.as_slice(), lowest);
+    pattern.lowest_missing(publics, act.pre_priv.as_slice(), lowest)
+}
+
+/// The lowest of a fact and of those that the part of another agent's action needs, where it adds a fact of a pattern, and
+/// the pattern misses.
+fn lowest_of_far(pattern: &Pattern, agents: u16, publics: u32, part: &Far, lowest: Option<u32>) -> Option<u32>
+    requires sized { publics ≤ pattern.now.size }
+    requires fits { FarFits agents publics part.now }
+    ensures { result ≡ lesser lowest (least (missing_of pattern.now.facts (far_operator part.now))) }
+{
+    if pattern.mask(0, part.add.as_slice()) == 0 {
+        return lowest;
+    }
+    pattern.lowest_missing(0, part.pre.as_slice(), lowest)
+}
+
+/// The lowest fact that a pattern misses.
+fn next_of(task: &Task, pattern: &Pattern) -> Option<u32>
+    requires { pattern.now.size ≡ task.now.publics + task.now.privates }
+    ensures { result ≡ least (missing (projected task.now).operators pattern.now.facts) }
+{
+    let mut lowest = None;
+    for act in task.acts.as_slice() {
+        lowest = lowest_of_own(pattern, task.publics, task.privates, act, lowest);
+    }
+    for part in task.far.as_slice() {
+        lowest = lowest_of_far(pattern, task.agents, task.publics, part, lowest);
+    }
+    lowest
+}
+
+/// The first goals of a task, as a pattern.
+fn goals_of(alloc: Global, task: &Task) -> Result<Pattern, OutOfMemory>
+    ensures { IfOk result (λ made. made ≡ record {
+        size = task.now.publics + task.now.privates;
+        facts = take 12 (projected task.now).goals }) }
+{
+    let mut pattern = Pattern::new(alloc, task.publics + task.privates)?;
+    pattern.push_first(0, task.goal_pub.as_slice())?;
+    pattern.push_first(task.publics, task.goal_priv.as_slice())?;
+    Ok(pattern)
+}
+
+/// The pattern of a task's projected problem.
+pub(crate) fn pattern_for(alloc: Global, task: &Task) -> Result<Pattern, OutOfMemory>
+    ensures made { IfOk result (λ made. made ≡ record {
+        size = task.now.publics + task.now.privates;
+        facts = pattern_of (projected task.now) }) }
+    ensures limits { IfOk result (λ _. IsWithinLimits task.now) }
+{
+    let mut pattern = goals_of(alloc, task)?;
+    for _ in pattern.len()..MOST {
+        let Some(fact) = next_of(task, &pattern) else {
+            return Ok(pattern);
+        };
+        pattern.push(fact)?;
+    }
+    Ok(pattern)
+}
