@@ -1,6 +1,6 @@
 //! The operators of a projected problem, as far as a pattern sees them.
 
-ghost use Rattle.std.specs.Prelude.{◌≡◌, ◌<◌, ◌≤◌, ◌+◌, ◌++◌, ◌∷◌, [], ℕ, List, IfOk, OnOk, take};
+ghost use Rattle.std.specs.Prelude.{◌≡◌, ◌<◌, ◌≤◌, ◌+◌, ◌++◌, ◌∷◌, [], ℕ, List, IfOk, IfSome, OnOk, take};
 ghost use Rattle.mp_estimates.specs.Estimates.{lesser};
 ghost use Rattle.mp_task.specs.Limits.{ActFits, FarFits, IsWithinLimits};
 ghost use Rattle.mp_task.specs.Projected.{far_operator, own_operator, projected};
@@ -20,10 +20,13 @@ fn own_move(pattern: &Pattern, publics: u32, privates: u32, act: &Act) -> Move
     requires fits { ActFits publics privates act.now }
     ensures { StandsFor pattern.now.facts (own_operator publics act.now) result }
 {
+    let pre = pattern.mask_of(publics, &act.pre_pub, &act.pre_priv);
+    let add = pattern.mask_of(publics, &act.add_pub, &act.add_priv);
+    let del = pattern.mask_of(publics, &act.del_pub, &act.del_priv);
     Move {
-        pre: pattern.mask_of(publics, &act.pre_pub, &act.pre_priv),
-        add: pattern.mask_of(publics, &act.add_pub, &act.add_priv),
-        del: pattern.mask_of(publics, &act.del_pub, &act.del_priv),
+        pre,
+        add,
+        del,
         cost: act.cost,
     }
 }
@@ -34,10 +37,13 @@ fn far_move(pattern: &Pattern, agents: u16, publics: u32, part: &Far) -> Move
     requires fits { FarFits agents publics part.now }
     ensures { StandsFor pattern.now.facts (far_operator part.now) result }
 {
+    let pre = pattern.mask_of_publics(&part.pre);
+    let add = pattern.mask_of_publics(&part.add);
+    let del = pattern.mask_of_publics(&part.del);
     Move {
-        pre: pattern.mask(0, part.pre.as_slice()),
-        add: pattern.mask(0, part.add.as_slice()),
-        del: pattern.mask(0, part.del.as_slice()),
+        pre,
+        add,
+        del,
         cost: part.cost,
     }
 }
@@ -89,7 +95,7 @@ fn lowest_of_far(pattern: &Pattern, agents: u16, publics: u32, part: &Far, lowes
     requires fits { FarFits agents publics part.now }
     ensures { result ≡ lesser lowest (least (missing_of pattern.now.facts (far_operator part.now))) }
 {
-    if pattern.mask(0, part.add.as_slice()) == 0 {
+    if pattern.mask_of_publics(&part.add) == 0 {
         return lowest;
     }
     pattern.lowest_missing(0, part.pre.as_slice(), lowest)
@@ -98,7 +104,8 @@ fn lowest_of_far(pattern: &Pattern, agents: u16, publics: u32, part: &Far, lowes
 /// The lowest fact that a pattern misses.
 fn next_of(task: &Task, pattern: &Pattern) -> Option<u32>
     requires { pattern.now.size ≡ task.now.publics + task.now.privates }
-    ensures { result ≡ least (missing (projected task.now).operators pattern.now.facts) }
+    ensures least { result ≡ least (missing (projected task.now).operators pattern.now.facts) }
+    ensures below { IfSome result (λ x. x < pattern.now.size) }
 {
     let mut lowest = None;
     for act in task.acts.as_slice() {
@@ -130,7 +137,7 @@ pub(crate) fn pattern_for(alloc: Global, task: &Task) -> Result<Pattern, OutOfMe
     ensures limits { IfOk result (λ _. IsWithinLimits task.now) }
 {
     let mut pattern = goals_of(alloc, task)?;
-    for _ in pattern.len()..MOST {
+    'grow: while pattern.len() < MOST {
         let Some(fact) = next_of(task, &pattern) else {
             return Ok(pattern);
         };

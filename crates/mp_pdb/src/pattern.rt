@@ -47,6 +47,8 @@ impl Pattern {
     pub(crate) fn len(&self) -> usize
         ensures len { result ≡ length self.now.facts }
         ensures few { length self.now.facts ≤ 12 }
+        ensures small { self.now.size < 2 ^ 32 }
+        ensures below { All (λ x. x < self.now.size) self.now.facts }
     {
         self.facts.len()
     }
@@ -77,11 +79,13 @@ impl Pattern {
         ensures { OnOk result (self.new ≡ record self.old {
             facts = take 12 (self.old.facts ++ map (λ k. offset + k) facts.now) }) }
     {
+        let mut room = MOST - self.len();
         for k in facts {
-            if self.len() == MOST {
+            if room == 0 {
                 return Ok(());
             }
             self.push(offset + *k)?;
+            room -= 1;
         }
         Ok(())
     }
@@ -115,12 +119,21 @@ impl Pattern {
         self.mask(0, pub_facts.as_slice()) | self.mask(publics, priv_facts.as_slice())
     }
 
+    /// Which facts of the pattern are among some public ones.
+    pub(crate) fn mask_of_publics(&self, facts: &FactList) -> u16
+        requires { All (λ x. x < self.now.size) facts.now }
+        ensures { Shows self.now.facts (is_in facts.now) result }
+    {
+        self.mask(0, facts.as_slice())
+    }
+
     /// The lowest of a fact and of those of some facts, whose numbers stand above an offset, that are not in the pattern.
     pub(crate) fn lowest_missing(&self, offset: u32, facts: &[u32], lowest: Option<u32>) -> Option<u32>
         requires { All (λ k. offset + k < self.now.size) facts.now }
         ensures { result ≡ lesser lowest
             (least (missing_among self.now.facts (map (λ k. offset + k) facts.now))) }
     {
+        let _ = &self.facts;
         let mut lowest = lowest;
         for k in facts {
             lowest = self.lowest_with(offset + *k, lowest);

@@ -1,6 +1,6 @@
 //! The heuristic.
 
-ghost use Rattle.std.specs.Prelude.{◌≡◌, ◌+◌, ◌<◌, ◌≤◌, ◌^◌, All, length, vec_len};
+ghost use Rattle.std.specs.Prelude.{◌≡◌, ◌+◌, ◌<◌, ◌≤◌, ◌*◌, ◌%◌, ◌^◌, All, bit_or, length, vec_len, if◌then◌else◌};
 ghost use Rattle.mp_task.specs.AgentTask.{AgentTask};
 ghost use Rattle.mp_task.specs.Projected.{projected_state};
 ghost use Rattle.std.specs.FinSet as set;
@@ -34,6 +34,28 @@ impl Drop for Pdb {
     }
 }
 
+/// Whether a fact of a projected problem is true.
+fn holds(fact: u32, split: u32, publics: &Bits, privates: &Bits) -> bool
+    requires publics { publics.now.size ≡ split }
+    requires below { fact < split + privates.now.size }
+    ensures { (t : AgentTask) → t.publics ≡ split → t.privates ≡ privates.now.size
+        → result ≡ set.contains (projected_state t publics.now.members privates.now.members) fact }
+{
+    if fact < split {
+        publics.contains(fact)
+    } else {
+        privates.contains(fact - split)
+    }
+}
+
+/// A set of places with one more of them, where that is wanted.
+fn with_place(mask: u16, place: usize, wanted: bool) -> u16
+    requires { place < 16 }
+    ensures { result ≡ (if wanted then bit_or mask (1 * 2 ^ place % 2 ^ 16) else mask) }
+{
+    if wanted { mask | (1 << place) } else { mask }
+}
+
 /// Which facts of a pattern are true, by their places.
 fn mask_of(facts: &[u32], split: u32, publics: &Bits, privates: &Bits) -> u16
     requires few { length facts.now ≤ 12 }
@@ -44,14 +66,7 @@ fn mask_of(facts: &[u32], split: u32, publics: &Bits, privates: &Bits) -> u16
 {
     let mut mask = 0;
     for (place, fact) in facts.iter().enumerate() {
-        let holds = if *fact < split {
-            publics.contains(*fact)
-        } else {
-            privates.contains(*fact - split)
-        };
-        if holds {
-            mask |= 1 << place;
-        }
+        mask = with_place(mask, place, holds(*fact, split, publics, privates));
     }
     mask
 }
@@ -71,9 +86,10 @@ impl Heuristic for Pdb {
         let moves = moves_of(alloc, task, &pattern)?;
         let goal = pattern.mask_of(task.publics, &task.goal_pub, &task.goal_priv);
         let table = settled(alloc, pattern.len(), moves.as_slice(), goal)?;
+        let facts = pattern.into_facts();
         Ok(Pdb {
             publics: task.publics,
-            facts: pattern.into_facts(),
+            facts,
             table,
         })
     }

@@ -32,13 +32,13 @@ use Rattle.mp_pdb.specs.Laws.Sizes.{Below, rounds-Below}
 use Rattle.mp_pdb.specs.Laws.Growth.{at_most_12}
 
 -- the operator of a step that leads on, and what it does
-record Step (problem : Problem) (s t : Numbers) (k : ℕ) : Type 0 where
-  operator : Operator
-  is : slice_get problem.operators k ≡ Some operator
-  holds : holds s operator.pre ≡ true
-  leads : after s operator.del operator.add ≡ t
+pub record Step (problem : Problem) (s t : Numbers) (k : ℕ) : Type 0 where
+  pub operator : Operator
+  pub is : slice_get problem.operators k ≡ Some operator
+  pub holds : holds s operator.pre ≡ true
+  pub leads : after s operator.del operator.add ≡ t
 
-step_of : (problem : Problem) (s t : Numbers) (k : ℕ) → (strips_system problem).after s k ≡ Some t → Step problem s t k
+pub step_of : (problem : Problem) (s t : Numbers) (k : ℕ) → (strips_system problem).after s k ≡ Some t → Step problem s t k
 step_of problem s t k e = by (slice_get problem.operators k) refl e
   where
     by : (m : Option Operator) → slice_get problem.operators k ≡ m → option_and_then (after_operator s) m ≡ Some t → Step problem s t k
@@ -47,15 +47,15 @@ step_of problem s t k e = by (slice_get problem.operators k) refl e
         let parts = cond_some (holds s o.pre) (after s o.del o.add) t e in
         record { operator = o; is = here; holds = parts.0; leads = parts.1 }
 
-step_leads : (problem : Problem) (s : Numbers) (k : ℕ) (o : Operator) → slice_get problem.operators k ≡ Some o → holds s o.pre ≡ true → (strips_system problem).after s k ≡ Some (after s o.del o.add)
+pub step_leads : (problem : Problem) (s : Numbers) (k : ℕ) (o : Operator) → slice_get problem.operators k ≡ Some o → holds s o.pre ≡ true → (strips_system problem).after s k ≡ Some (after s o.del o.add)
 step_leads problem s k o here ready =
     ap (option_and_then (after_operator s)) here ∙ ap (λ b. cond b (Some (after s o.del o.add)) None) ready
 
 module _ (pattern : List ℕ) (problem : Problem) where
-  abstract_at : (k : ℕ) → slice_get (abstraction pattern problem).operators k ≡ option_map (abstract_operator pattern) (slice_get problem.operators k)
+  pub abstract_at : (k : ℕ) → slice_get (abstraction pattern problem).operators k ≡ option_map (abstract_operator pattern) (slice_get problem.operators k)
   abstract_at k = slice_get-map (abstract_operator pattern) problem.operators k
 
-  abstract_cost : (k : ℕ) → (strips_system (abstraction pattern problem)).cost k ≡ (strips_system problem).cost k
+  pub abstract_cost : (k : ℕ) → (strips_system (abstraction pattern problem)).cost k ≡ (strips_system problem).cost k
   abstract_cost k = ap (λ m. option_map_or (λ (o : Operator). o.cost) m 0) (abstract_at k) ∙ by (slice_get problem.operators k)
     where
       by : (m : Option Operator) → option_map_or (λ (o : Operator). o.cost) (option_map (abstract_operator pattern) m) 0 ≡ option_map_or (λ (o : Operator). o.cost) m 0
@@ -117,7 +117,7 @@ module _ (pattern : List ℕ) (problem : Problem) where
 
 -- the actions of a plan are numbers of operators
 
-number_among : (n k : ℕ) → k < n → Contains (range_with_len 0 n) k
+pub number_among : (n k : ℕ) → k < n → Contains (range_with_len 0 n) k
 number_among n k lt =
     let long = length-range_with_len 0 n in
     (k, (let h : k < length (range_with_len 0 n) = omega arith in h), get_or-range_with_len 0 n k k lt ∙ (let e : 0 + k ≡ k = omega arith in e))
@@ -174,7 +174,7 @@ value_is_dead t p q plan none plans =
 
 -- how great a value is at most
 
-costs_fit : (t : AgentTask) → IsWithinLimits t → All (λ o. o.cost ≤ 16000000) (projected t).operators
+pub costs_fit : (t : AgentTask) → IsWithinLimits t → All (λ o. o.cost ≤ 16000000) (projected t).operators
 costs_fit t fits =
     All-append (λ o. o.cost ≤ 16000000) (map (own_operator t.publics) t.acts) (map far_operator t.far)
     (All-map (λ o. o.cost ≤ 16000000) (own_operator t.publics) t.acts (λ k d h. (fits.acts k d h).cost))
@@ -187,19 +187,20 @@ cost_fits problem e fits k = by (slice_get problem.operators k) refl
     by None here = zero-le
     by (Some o) here = All-contains (λ (p : Operator). p.cost ≤ e) problem.operators o fits (Contains-slice_get problem.operators k o here)
 
-pub value_is_small : (t : AgentTask) (p q : Numbers) → IsWithinLimits t → IfSome (pattern_value t p q) (λ h. h < 2 ^ 50)
-value_is_small t p q fits =
-    let pattern = pattern_of (projected t) in
-    let system = strips_system (abstraction pattern (projected t)) in
-    by (pattern_value t p q)
-    (rounds-Below system (actions_of (projected t)) 16000000
-    (λ k. subst (λ c. c ≤ 16000000) (sym (abstract_cost pattern (projected t) k)) (cost_fits (projected t) 16000000 (costs_fit t fits) k))
-    (length (abstract_states pattern)) (abstract_state pattern (projected_state t p q)))
+pub abstract_distance_is_small : (pattern : List ℕ) (problem : Problem) → length pattern ≤ 12 → All (λ o. o.cost ≤ 16000000) problem.operators → (s : Numbers) → IfSome (abstract_distance pattern problem s) (λ h. h < 2 ^ 50)
+abstract_distance_is_small pattern problem few cheap s =
+    by (abstract_distance pattern problem s)
+    (rounds-Below (strips_system (abstraction pattern problem)) (actions_of problem) 16000000
+    (λ k. subst (λ c. c ≤ 16000000) (sym (abstract_cost pattern problem k)) (cost_fits problem 16000000 cheap k))
+    (length (abstract_states pattern)) s)
   where
-    by : (a : Option ℕ) → Below (length (abstract_states (pattern_of (projected t))) * 16000000) a → IfSome a (λ h. h < 2 ^ 50)
+    by : (a : Option ℕ) → Below (length (abstract_states pattern) * 16000000) a → IfSome a (λ h. h < 2 ^ 50)
     by None h = tt
     by (Some h) le =
-        let few = at_most_12 (projected t) in
-        let many = length-abstract_states (pattern_of (projected t)) in
-        let power : 2 ^ length (pattern_of (projected t)) ≤ 4096 = pow-le-pow_right {n = 2} (omega arith) few in
+        let many = length-abstract_states pattern in
+        let power : 2 ^ length pattern ≤ 4096 = pow-le-pow_right {n = 2} (omega arith) few in
         omega arith
+
+pub value_is_small : (t : AgentTask) (p q : Numbers) → IsWithinLimits t → IfSome (pattern_value t p q) (λ h. h < 2 ^ 50)
+value_is_small t p q fits =
+    abstract_distance_is_small (pattern_of (projected t)) (projected t) (at_most_12 (projected t)) (costs_fit t fits) (abstract_state (pattern_of (projected t)) (projected_state t p q))

@@ -1,0 +1,63 @@
+-- Moves of operators, one after another.
+use Rattle.std.proofs.Common.{◌≡◌, ℕ, ◌+◌, ◌<◌, ◌≤◌, List, [], ◌∷◌, ◌++◌, length, map, take, get_or, All, Contains, refl, sym, ap, ◌∙◌, subst, arith}
+use Rattle.std.proofs.lemmas.List.{take_more, map-append}
+use Rattle.std.proofs.lemmas.List.Elements.{All-append, All-cons, All-nil, All-weaker, All-map, Contains-append_left, Contains-append_right}
+use Rattle.mp_task.specs.AgentTask.{AgentTask}
+use Rattle.mp_task.specs.Limits.{IsWithinLimits}
+use Rattle.mp_task.specs.Projected.{facts_of, own_operator, far_operator, projected}
+use Rattle.mp_task.specs.Strips.{Operator}
+use Rattle.mp_pdb.specs.declared.moves.Move.{Move}
+use Rattle.mp_pdb.specs.Moves.{HasLists, StandsFor, IsIdle, HasMove, IsMoveOf, AreMoves}
+use Rattle.mp_pdb.specs.Moves.HasMove.{by_move, by_nothing}
+
+one_of : {X : Type 0} (x : X) → Contains (x ∷ []) x
+one_of x = (0, (let lt : 0 < length (x ∷ []) = omega arith in lt), refl)
+
+module _ (pattern : List ℕ) where
+  pub no_moves : AreMoves pattern [] []
+  no_moves = record { sound = All-nil (IsMoveOf pattern []); whole = All-nil (HasMove pattern []) }
+
+  module _ (operators : List Operator) (moves : List Move) (o : Operator) (move : Move) (are : AreMoves pattern operators moves) (stands : StandsFor pattern o move) where
+    still_of : (m : Move) → IsMoveOf pattern operators m → IsMoveOf pattern (operators ++ o ∷ []) m
+    still_of m of = record { operator = of.operator; among = Contains-append_left operators (o ∷ []) of.operator of.among; stands = of.stands }
+
+    still_has : (p : Operator) → HasMove pattern moves p → HasMove pattern (moves ++ move ∷ []) p
+    still_has p (by_move m among lists le) = by_move m (Contains-append_left moves (move ∷ []) m among) lists le
+    still_has p (by_nothing m lists idle) = by_nothing m lists idle
+
+    pub one_move_more : AreMoves pattern (operators ++ o ∷ []) (moves ++ move ∷ [])
+    one_move_more = record {
+      sound =
+          All-append (IsMoveOf pattern (operators ++ o ∷ [])) moves (move ∷ [])
+          (All-weaker (IsMoveOf pattern operators) (IsMoveOf pattern (operators ++ o ∷ [])) still_of moves are.sound)
+          (All-cons (IsMoveOf pattern (operators ++ o ∷ [])) move [] (record { operator = o; among = Contains-append_right operators (o ∷ []) o (one_of o); stands = stands }) (All-nil (IsMoveOf pattern (operators ++ o ∷ []))));
+      whole =
+          All-append (HasMove pattern (moves ++ move ∷ [])) operators (o ∷ [])
+          (All-weaker (HasMove pattern moves) (HasMove pattern (moves ++ move ∷ [])) still_has operators are.whole)
+          (All-cons (HasMove pattern (moves ++ move ∷ [])) o [] (by_move move (Contains-append_right moves (move ∷ []) move (one_of move)) stands.lists (let e = stands.cost in omega arith)) (All-nil (HasMove pattern (moves ++ move ∷ []))));
+    }
+
+    pub none_more : IsIdle move → AreMoves pattern (operators ++ o ∷ []) moves
+    none_more idle = record {
+      sound = All-weaker (IsMoveOf pattern operators) (IsMoveOf pattern (operators ++ o ∷ [])) still_of moves are.sound;
+      whole =
+          All-append (HasMove pattern moves) operators (o ∷ []) are.whole
+          (All-cons (HasMove pattern moves) o [] (by_nothing move stands.lists idle) (All-nil (HasMove pattern moves)));
+    }
+
+-- one more operator of a list
+pub mapped_more : {X : Type 0} (f : X → Operator) (xs : List X) (i : ℕ) (d : X) → i < length xs → map f (take (i + 1) xs) ≡ map f (take i xs) ++ f (get_or xs i d) ∷ []
+mapped_more f xs i d within = ap (map f) (take_more xs i d within) ∙ map-append f (take i xs) (get_or xs i d ∷ [])
+
+-- preconditions are facts of the problem
+pub facts_fit : (publics privates : ℕ) (xs ys : List ℕ) → All (λ x. x < publics) xs → All (λ y. y < privates) ys → All (λ x. x < publics + privates) (facts_of publics xs ys)
+facts_fit publics privates xs ys h k =
+    All-append (λ x. x < publics + privates) xs (map (λ y. publics + y) ys)
+    (λ i d lt. let small = h i d lt in omega arith)
+    (All-map (λ x. x < publics + privates) (λ y. publics + y) ys (λ i d lt. let small = k i d lt in omega arith))
+
+pub pres_fit : (t : AgentTask) → IsWithinLimits t → All (λ (o : Operator). All (λ x. x < t.publics + t.privates) o.pre) (projected t).operators
+pres_fit t fits =
+    All-append (λ (o : Operator). All (λ x. x < t.publics + t.privates) o.pre) (map (own_operator t.publics) t.acts) (map far_operator t.far)
+    (All-map (λ (o : Operator). All (λ x. x < t.publics + t.privates) o.pre) (own_operator t.publics) t.acts (λ i d lt. facts_fit t.publics t.privates _ _ (fits.acts i d lt).pre_pub (fits.acts i d lt).pre_priv))
+    (All-map (λ (o : Operator). All (λ x. x < t.publics + t.privates) o.pre) far_operator t.far (λ i d lt j e less. let small = (fits.far i d lt).pre j e less in omega arith))

@@ -1,0 +1,15 @@
+use Rattle.std.proofs.Common.{◌++◌, ◌∷◌, [], sym, subst}
+use Rattle.std.proofs.lemmas.Bool.{not-false}
+use Rattle.mp_pdb.specs.Moves.{AreMoves}
+use Rattle.mp_pdb.proofs.OperatorLemmas.{one_move_more, none_more}
+use Rattle.mp_pdb.proofs.operators.note.Goals as goal
+
+pub returns-in_ok-push : goal.returns-in_ok-push
+returns-in_ok-push c = λ pattern operators o are stands.
+    subst (AreMoves pattern (operators ++ o ∷ [])) (sym c.in_ok-push.ensures.items)
+    (one_move_more pattern operators c.args.moves.now.items o c.args.found are stands)
+
+pub returns-else-not-is_idle : goal.returns-else-not-is_idle
+returns-else-not-is_idle c = λ pattern operators o are stands.
+    none_more pattern operators c.args.moves.now.items o c.args.found are stands
+    (c.is_idle.ensures.0 (not-false c.is_idle.result c.if-not-is_idle.false))
