@@ -1,5 +1,5 @@
 -- Bits of masks, and sets of facts of a pattern as masks.
-use Rattle.std.proofs.Common.{◌≡◌, ℕ, zero, suc, ◌+◌, ◌-◌, ◌*◌, ◌%◌, ◌^◌, ◌<◌, ◌≤◌, min, max, Bool, true, false, not, ◌&&◌, ◌||◌, ltb, eqb, List, [], ◌∷◌, ◌++◌, length, map, take, drop, get_or, ◌⊎◌, refl, sym, ap, ◌∙◌, subst, inl, inr, ⊎_elim, arith, w16}
+use Rattle.std.proofs.Common.{◌≡◌, ℕ, zero, suc, ◌+◌, ◌-◌, ◌*◌, ◌%◌, ◌^◌, ◌<◌, ◌≤◌, min, max, Bool, true, false, cond, not, ◌&&◌, ◌||◌, ltb, eqb, List, [], ◌∷◌, ◌++◌, length, map, take, drop, get_or, ◌⊎◌, refl, sym, ap, ◌∙◌, subst, inl, inr, ⊎_elim, arith, w16}
 use Rattle.std.proofs.Math.ListN.{set as set_at}
 use Rattle.std.proofs.lemmas.Bool.{false≢true, and_parts, and_from, or_cases, or_left, or_right, eqb-true, eq-eqb, ne_eqb, lt-ltb, le-ltb, cases_lt, cases_eq, false_from_ne_true, not_from_true, not_from_false, and_right, true_from_ne_false}
 use Rattle.std.proofs.lemmas.List.{length-append, append_assoc, map-append, take_more, take_all, take-append-le, take-append-drop, get_or_append_left, get_or-append_right, get_or-set_same, get_or-set_other, length-set, get_or_default}
@@ -183,6 +183,15 @@ shows_any pattern f m shows = both_ways (not (eqb m 0)) (list_any f pattern) one
         let here : f (get_or pattern at.0 0) ≡ true = ap f (get_or_default pattern at.0 0 at.1 at.2 ∙ at.3) ∙ at.4 in
         not_from_false (eqb m 0) (ne_eqb m 0 (λ zeroed.
         false≢true (sym (ap (λ n. bit n at.0) zeroed ∙ bit-zero at.0) ∙ shows.bits at.0 ∙ and_from (ltb at.0 (length pattern)) (f (get_or pattern at.0 0)) (lt-ltb at.0 (length pattern) at.2) here)))
+
+-- one more place of a pattern
+pub place_more : (pattern : List ℕ) (test : ℕ → Bool) (n mask : ℕ) (b : Bool) → n < 16 → b ≡ test (get_or pattern n 0) → ShowsFirst n pattern test mask → ShowsFirst (n + 1) pattern test (cond b (bit_or mask (1 * 2 ^ n % 2 ^ 16)) mask)
+place_more pattern test n mask true fits is shows = record {
+  bits = set_more n (λ i. test (get_or pattern i 0)) (λ i. test (get_or pattern i 0)) mask fits (λ i lt. refl) (sym is) shows.bits;
+}
+place_more pattern test n mask false fits is shows = record {
+  bits = skip_more n (λ i. test (get_or pattern i 0)) (λ i. test (get_or pattern i 0)) mask (λ i lt. refl) (sym is) shows.bits;
+}
 
 -- lists that have a fact in common
 

@@ -119,9 +119,10 @@ fn next_of(task: &Task, pattern: &Pattern) -> Option<u32>
 
 /// The first goals of a task, as a pattern.
 fn goals_of(alloc: Global, task: &Task) -> Result<Pattern, OutOfMemory>
-    ensures { IfOk result (λ made. made ≡ record {
+    ensures made { IfOk result (λ made. made ≡ record {
         size = task.now.publics + task.now.privates;
         facts = take 12 (projected task.now).goals }) }
+    ensures limits { IfOk result (λ _. IsWithinLimits task.now) }
 {
     let mut pattern = Pattern::new(alloc, task.publics + task.privates)?;
     pattern.push_first(0, task.goal_pub.as_slice())?;

@@ -1,5 +1,4 @@
 use Rattle.std.proofs.Common.{◌++◌, ◌∷◌, [], sym, subst}
-use Rattle.std.proofs.lemmas.Bool.{not-false}
 use Rattle.mp_pdb.specs.Moves.{AreMoves}
 use Rattle.mp_pdb.proofs.OperatorLemmas.{one_move_more, none_more}
 use Rattle.mp_pdb.proofs.operators.note.Goals as goal
@@ -12,4 +11,4 @@ returns-in_ok-push c = λ pattern operators o are stands.
 pub returns-else-not-is_idle : goal.returns-else-not-is_idle
 returns-else-not-is_idle c = λ pattern operators o are stands.
     none_more pattern operators c.args.moves.now.items o c.args.found are stands
-    (c.is_idle.ensures.0 (not-false c.is_idle.result c.if-not-is_idle.false))
+    (c.is_idle.ensures.0 c.if-not-is_idle.false)

@@ -7,13 +7,13 @@ use Rattle.mp_pdb.proofs.pattern.Pattern.push_first.Goals as goal
 pub loop-k-init : goal.loop-k-init
 loop-k-init c = record {
   size = refl;
-  left = (let few = c.len.ensures.few in let long = c.len.ensures.len in omega arith);
+  left = (let few = c.len-room.ensures.few in let long = c.len-room.ensures.len in omega arith);
   facts = sym (append-nil c.args.self.now.facts);
 }
 
 pub overflow_add-offset : goal.overflow_add-offset
 overflow_add-offset c =
-    let small = c.len.ensures.small in
+    let small = c.len-room.ensures.small in
     let size = c.loop-k.invariant.size in
     let below = c.requires c.loop-k.k-index 0 c.loop-k-test.true in
     omega arith
@@ -23,7 +23,7 @@ loop-k-preserved c =
     let i = c.loop-k.k-index in
     let xs = c.args.facts.now in
     let new = ap (λ (s : SizedPattern). s.facts) c.in_ok-push.ensures in
-    let longer = length-append c.loop-k.self.facts (c.args.offset + get_or xs i 0 ∷ []) in
+    let longer = length-append c.loop-k.self.facts ((c.args.offset + get_or xs i 0) ∷ []) in
     let long = ap length new in
     let left = c.loop-k.invariant.left in
     record {
@@ -42,8 +42,8 @@ returns-then-room-eq0 c =
       facts = (c.loop-k.invariant.facts ∙ first_full (λ k. c.args.offset + k) c.args.self.now.facts c.args.facts.now c.loop-k.k-index (sym (ap length c.loop-k.invariant.facts) ∙ full)) j;
     }
 
-pub returns-after-loop-k : goal.returns-after-loop-k
-returns-after-loop-k c =
+pub returns : goal.returns
+returns c =
     let left = c.loop-k.invariant.left in
     let long = ap length c.loop-k.invariant.facts in
     λ j. record {
