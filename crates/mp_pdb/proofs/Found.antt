@@ -1,6 +1,7 @@
 -- A table of moves has the distances of the abstract problem.
 use Rattle.std.proofs.Common.{◌≡◌, ℕ, ◌+◌, ◌^◌, ◌<◌, ◌≤◌, true, Option, Some, None, option_map, List, [], ◌∷◌, length, get_or, All, Contains, refl, sym, ap, ◌∙◌, subst, arith}
 use Rattle.std.proofs.Math.Nat.{pow-le-pow_right}
+use Rattle.std.proofs.lemmas.List.{get_or_default}
 use Rattle.std.proofs.lemmas.List.Elements.{All-contains}
 use Rattle.std.proofs.lemmas.Option.{none-some, same_Some, slice_get-get_or}
 use Rattle.std.specs.FinSet as set
@@ -13,6 +14,8 @@ use Rattle.mp_runs.specs.System.{IsPlanFrom, plan_cost}
 use Rattle.mp_runs.proofs.Costs.{plan_cost-cons}
 use Rattle.mp_runs.proofs.Runs.{run-none, run-cons}
 use Rattle.mp_sets.specs.Numbers.{Numbers, holds, after}
+use Rattle.mp_task.specs.AgentTask.{AgentTask}
+use Rattle.mp_task.specs.Projected.{projected, projected_state}
 use Rattle.mp_task.specs.Strips.{Operator, Problem, strips_system}
 use Rattle.mp_task.proofs.Agreeing.{Contains-slice_get}
 use Rattle.mp_pdb.specs.declared.moves.Move.{Move}
@@ -20,7 +23,8 @@ use Rattle.mp_pdb.specs.Distance.{HasPlan}
 use Rattle.mp_pdb.specs.Masks.{Shows}
 use Rattle.mp_pdb.specs.Moves.{HasLists, IsMoveOf, HasMove, AreMoves, after_move, has_all}
 use Rattle.mp_pdb.specs.Moves.HasMove.{by_move, by_nothing}
-use Rattle.mp_pdb.specs.Pattern.{is_in, of_pattern, abstract_operator, abstraction, abstract_state, abstract_states, actions_of, abstract_distance}
+use Rattle.mp_pdb.specs.Pattern.{is_in, of_pattern, abstract_operator, abstraction, abstract_state, abstract_states, actions_of, abstract_distance, pattern_value}
+use Rattle.mp_pdb.specs.Pdb.{IsDatabaseOf}
 use Rattle.mp_pdb.specs.Table.{unknown, known, number_at, IsTable, AreLow}
 use Rattle.mp_pdb.specs.Laws.Bounds.{Step, step_of, step_leads, abstract_at, abstract_cost, are_closed, abstract_distance_is_least, abstract_distance_is_small, number_among}
 use Rattle.mp_pdb.specs.Laws.Least.{goal_costs, action_costs}
@@ -126,3 +130,10 @@ module _ (pattern : List ℕ) (problem : Problem) (moves : List Move) (goal : �
           let cost = plan.3 in
           let le : number_at numbers mask ≤ n = omega arith in
           subst (λ a. AtMost a (Some n)) (sym (known-some (number_at numbers mask) (omega arith))) le
+
+-- what is looked up is the value
+pub value_is : (t : AgentTask) (p q : Numbers) (publics : ℕ) (facts slice numbers : List ℕ) (mask number : ℕ) → IsDatabaseOf t publics facts numbers → slice ≡ facts → Shows slice (set.contains (projected_state t p q)) mask → mask < length numbers → number ≡ get_or numbers mask number → known number ≡ pattern_value t p q
+value_is t p q publics facts slice numbers mask number database same shows within read =
+    ap known (read ∙ get_or_default numbers mask number unknown within)
+    ∙ database.numbers (projected_state t p q) mask (subst (λ fs. Shows fs (set.contains (projected_state t p q)) mask) same shows)
+    ∙ ap (λ fs. abstract_distance fs (projected t) (abstract_state fs (projected_state t p q))) database.pattern

@@ -1,7 +1,7 @@
 -- The lowest fact that a pattern misses, found one after another; and how a pattern grows.
-use Rattle.std.proofs.Common.{◌≡◌, ℕ, zero, suc, ◌+◌, ◌-◌, ◌<◌, ◌≤◌, min, Bool, true, false, cond, not, eqb, Option, Some, None, List, [], ◌∷◌, ◌++◌, length, map, filter, take, get_or, All, IsTrue, ⊎_elim, refl, sym, ap, ◌∙◌, subst, append-nil, arith}
+use Rattle.std.proofs.Common.{◌≡◌, ℕ, zero, suc, ◌+◌, ◌<◌, min, Bool, true, false, cond, not, eqb, Option, Some, None, List, [], ◌∷◌, ◌++◌, length, map, take, get_or, All, ⊎_elim, refl, sym, ap, ◌∙◌, subst, append-nil, arith}
 use Rattle.std.proofs.lemmas.Bool.{cases_lt}
-use Rattle.std.proofs.lemmas.List.{take_more, map-append}
+use Rattle.std.proofs.lemmas.List.{take_more}
 use Rattle.std.proofs.lemmas.List.Concat.{flat_map-append}
 use Rattle.std.proofs.lemmas.List.Elements.{All-cons, All-head, All-tail, All-nil, All-append}
 use Rattle.std.proofs.lemmas.List.Folds.{flat_map-map}
@@ -12,9 +12,9 @@ use Rattle.mp_task.specs.AgentTask.{AgentTask}
 use Rattle.mp_task.specs.declared.act.Act.{Act}
 use Rattle.mp_task.specs.declared.act.Far.{Far}
 use Rattle.mp_task.specs.Projected.{own_operator, far_operator, projected}
-use Rattle.mp_task.specs.Strips.{Operator, Problem}
+use Rattle.mp_task.specs.Strips.{Operator}
 use Rattle.mp_pdb.specs.Masks.{Shows}
-use Rattle.mp_pdb.specs.Pattern.{is_in, least, missing, missing_among, missing_of, with_next, grown, pattern_of}
+use Rattle.mp_pdb.specs.Pattern.{is_in, least, missing, missing_among, missing_of, grown}
 use Rattle.mp_pdb.proofs.MaskLemmas.{map_more, map_zero, meet_both, shows_any}
 
 -- the lowest of facts

@@ -1,5 +1,5 @@
 -- Moves of operators, one after another.
-use Rattle.std.proofs.Common.{◌≡◌, ℕ, ◌+◌, ◌<◌, ◌≤◌, List, [], ◌∷◌, ◌++◌, length, map, take, get_or, All, Contains, refl, sym, ap, ◌∙◌, subst, arith}
+use Rattle.std.proofs.Common.{◌≡◌, ℕ, ◌+◌, ◌<◌, List, [], ◌∷◌, ◌++◌, length, map, take, get_or, All, Contains, refl, ap, ◌∙◌, arith}
 use Rattle.std.proofs.lemmas.List.{take_more, map-append}
 use Rattle.std.proofs.lemmas.List.Elements.{All-append, All-cons, All-nil, All-weaker, All-map, Contains-append_left, Contains-append_right}
 use Rattle.mp_task.specs.AgentTask.{AgentTask}
@@ -7,7 +7,7 @@ use Rattle.mp_task.specs.Limits.{IsWithinLimits}
 use Rattle.mp_task.specs.Projected.{facts_of, own_operator, far_operator, projected}
 use Rattle.mp_task.specs.Strips.{Operator}
 use Rattle.mp_pdb.specs.declared.moves.Move.{Move}
-use Rattle.mp_pdb.specs.Moves.{HasLists, StandsFor, IsIdle, HasMove, IsMoveOf, AreMoves}
+use Rattle.mp_pdb.specs.Moves.{StandsFor, IsIdle, HasMove, IsMoveOf, AreMoves}
 use Rattle.mp_pdb.specs.Moves.HasMove.{by_move, by_nothing}
 
 one_of : {X : Type 0} (x : X) → Contains (x ∷ []) x

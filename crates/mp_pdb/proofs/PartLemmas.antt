@@ -1,10 +1,9 @@
 -- The parts of a mask, from the greatest binary number on: what follows a part is the greatest one below it.
-use Rattle.std.proofs.Common.{◌≡◌, ℕ, zero, suc, ◌+◌, ◌-◌, ◌*◌, ◌/◌, ◌%◌, ◌^◌, ◌<◌, ◌≤◌, min, refl, sym, ap, ◌∙◌, subst, inl, inr, ⊎_elim, arith}
+use Rattle.std.proofs.Common.{◌≡◌, ℕ, zero, suc, ◌-◌, ◌*◌, ◌/◌, ◌%◌, ◌^◌, ◌<◌, ◌≤◌, min, sym, ap, ◌∙◌, ⊎_elim, arith}
 use Rattle.std.proofs.Math.Nat.{pow-succ'}
 use Rattle.std.proofs.lemmas.Bool.{cases_eq}
 use Rattle.std.proofs.lemmas.Nat.{and_shr}
-use Rattle.std.proofs.lemmas.Nat.Bits.{bit_at_and, bit_at_lowest, same_from_bits}
-use Rattle.std.specs.Int.{bit_at}
+use Rattle.std.proofs.lemmas.Nat.Bits.{bit_at_and, bit_at_lowest}
 use Rattle.std.specs.Prelude.{bit_and}
 
 half : (a b : ℕ) → bit_and a b / 2 ≡ bit_and (a / 2) (b / 2)

@@ -1,7 +1,6 @@
 -- Sets of facts of a pattern as binary numbers: bit i says whether the pattern's fact at place i is a member.
-use Rattle.std.specs.Prelude.{◌≡◌, ℕ, ◌+◌, ◌==◌, ◌&&◌, ◌<◌, ◌≤◌, nat_lt, Bool, List, length, slice_index}
+use Rattle.std.specs.Prelude.{◌≡◌, ℕ, ◌==◌, ◌&&◌, ◌<◌, ◌≤◌, nat_lt, Bool, List, length, slice_index}
 use Rattle.std.specs.Int.{bit_at}
-use Rattle.mp_pdb.specs.Pattern.{is_in}
 
 abbrev pub bit : ℕ → ℕ → Bool
 bit mask i = bit_at mask i == 1

@@ -1,5 +1,5 @@
 -- Abstract operators over sets of facts of a pattern that are binary numbers.
-use Rattle.std.specs.Prelude.{◌≡◌, ℕ, ◌+◌, ◌<◌, ◌≤◌, ◌==◌, Bool, IsTrue, bit_and, bit_or, List, All, Contains}
+use Rattle.std.specs.Prelude.{◌≡◌, ℕ, ◌≤◌, ◌==◌, Bool, IsTrue, bit_and, bit_or, List, All, Contains}
 use Rattle.std.specs.Int.{bit_not, w16}
 use Rattle.mp_task.specs.Strips.{Operator}
 use Rattle.mp_pdb.specs.declared.moves.Move.{Move}

@@ -1,5 +1,5 @@
 -- What a pattern database was made of.
-use Rattle.std.specs.Prelude.{◌≡◌, ℕ, ◌+◌, ◌<◌, List, All, length}
+use Rattle.std.specs.Prelude.{◌≡◌, ℕ, ◌+◌, ◌<◌, List, All}
 use Rattle.std.specs.FinSet as set
 use Rattle.mp_sets.specs.Numbers.{Numbers}
 use Rattle.mp_task.specs.AgentTask.{AgentTask}

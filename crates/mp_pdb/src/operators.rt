@@ -61,22 +61,38 @@ fn note(moves: &mut Vec<Move>, found: Move) -> Result<(), OutOfMemory>
 }
 
 /// The moves of the operators of a task's projected problem.
-pub(crate) fn moves_of(alloc: Global, task: &Task, pattern: &Pattern) -> Result<Vec<Move>, OutOfMemory>
+pub(crate) fn moves_of(
+    alloc: Global,
+    task: &Task,
+    pattern: &Pattern,
+) -> Result<Vec<Move>, OutOfMemory>
     requires { pattern.now.size ≡ task.now.publics + task.now.privates }
     ensures { IfOk result (λ moves. AreMoves pattern.now.facts (projected task.now).operators moves.items) }
 {
     let mut moves = Vec::new(alloc);
     for act in task.acts.as_slice() {
-        note(&mut moves, own_move(pattern, task.publics, task.privates, act))?;
+        note(
+            &mut moves,
+            own_move(pattern, task.publics, task.privates, act),
+        )?;
     }
     for part in task.far.as_slice() {
-        note(&mut moves, far_move(pattern, task.agents, task.publics, part))?;
+        note(
+            &mut moves,
+            far_move(pattern, task.agents, task.publics, part),
+        )?;
     }
     Ok(moves)
 }
 
 /// The lowest of a fact and of those that an own action needs, where it adds a fact of a pattern, and the pattern misses.
-fn lowest_of_own(pattern: &Pattern, publics: u32, privates: u32, act: &Act, lowest: Option<u32>) -> Option<u32>
+fn lowest_of_own(
+    pattern: &Pattern,
+    publics: u32,
+    privates: u32,
+    act: &Act,
+    lowest: Option<u32>,
+) -> Option<u32>
     requires sized { pattern.now.size ≡ publics + privates }
     requires fits { ActFits publics privates act.now }
     ensures { result ≡ lesser lowest (least (missing_of pattern.now.facts (own_operator publics act.now))) }
@@ -90,7 +106,13 @@ fn lowest_of_own(pattern: &Pattern, publics: u32, privates: u32, act: &Act, lowe
 
 /// The lowest of a fact and of those that the part of another agent's action needs, where it adds a fact of a pattern, and
 /// the pattern misses.
-fn lowest_of_far(pattern: &Pattern, agents: u16, publics: u32, part: &Far, lowest: Option<u32>) -> Option<u32>
+fn lowest_of_far(
+    pattern: &Pattern,
+    agents: u16,
+    publics: u32,
+    part: &Far,
+    lowest: Option<u32>,
+) -> Option<u32>
     requires sized { publics ≤ pattern.now.size }
     requires fits { FarFits agents publics part.now }
     ensures { result ≡ lesser lowest (least (missing_of pattern.now.facts (far_operator part.now))) }
@@ -120,8 +142,9 @@ fn next_of(task: &Task, pattern: &Pattern) -> Option<u32>
 /// The first goals of a task, as a pattern.
 fn goals_of(alloc: Global, task: &Task) -> Result<Pattern, OutOfMemory>
     ensures made { IfOk result (λ made. made ≡ record {
-        size = task.now.publics + task.now.privates;
-        facts = take 12 (projected task.now).goals }) }
+      size = task.now.publics + task.now.privates;
+      facts = take 12 (projected task.now).goals;
+    }) }
     ensures limits { IfOk result (λ _. IsWithinLimits task.now) }
 {
     let mut pattern = Pattern::new(alloc, task.publics + task.privates)?;
@@ -133,8 +156,9 @@ fn goals_of(alloc: Global, task: &Task) -> Result<Pattern, OutOfMemory>
 /// The pattern of a task's projected problem.
 pub(crate) fn pattern_for(alloc: Global, task: &Task) -> Result<Pattern, OutOfMemory>
     ensures made { IfOk result (λ made. made ≡ record {
-        size = task.now.publics + task.now.privates;
-        facts = pattern_of (projected task.now) }) }
+      size = task.now.publics + task.now.privates;
+      facts = pattern_of (projected task.now);
+    }) }
     ensures limits { IfOk result (λ _. IsWithinLimits task.now) }
 {
     let mut pattern = goals_of(alloc, task)?;

@@ -77,7 +77,8 @@ impl Pattern {
     pub(crate) fn push_first(&mut self, offset: u32, facts: &[u32]) -> Result<(), OutOfMemory>
         requires { All (λ k. offset + k < self.old.size) facts.now }
         ensures { OnOk result (self.new ≡ record self.old {
-            facts = take 12 (self.old.facts ++ map (λ k. offset + k) facts.now) }) }
+          facts = take 12 (self.old.facts ++ map (λ k. offset + k) facts.now);
+        }) }
     {
         let mut room = MOST - self.len();
         for k in facts {
@@ -128,7 +129,12 @@ impl Pattern {
     }
 
     /// The lowest of a fact and of those of some facts, whose numbers stand above an offset, that are not in the pattern.
-    pub(crate) fn lowest_missing(&self, offset: u32, facts: &[u32], lowest: Option<u32>) -> Option<u32>
+    pub(crate) fn lowest_missing(
+        &self,
+        offset: u32,
+        facts: &[u32],
+        lowest: Option<u32>,
+    ) -> Option<u32>
         requires { All (λ k. offset + k < self.now.size) facts.now }
         ensures { result ≡ lesser lowest
             (least (missing_among self.now.facts (map (λ k. offset + k) facts.now))) }

@@ -38,7 +38,7 @@ impl Drop for Pdb {
 fn holds(fact: u32, split: u32, publics: &Bits, privates: &Bits) -> bool
     requires publics { publics.now.size ≡ split }
     requires below { fact < split + privates.now.size }
-    ensures { (t : AgentTask) → t.publics ≡ split → t.privates ≡ privates.now.size
+    ensures { (t : AgentTask) → t.publics ≡ split → fact < t.publics + t.privates
         → result ≡ set.contains (projected_state t publics.now.members privates.now.members) fact }
 {
     if fact < split {
@@ -61,7 +61,7 @@ fn mask_of(facts: &[u32], split: u32, publics: &Bits, privates: &Bits) -> u16
     requires few { length facts.now ≤ 12 }
     requires publics { publics.now.size ≡ split }
     requires below { All (λ x. x < split + privates.now.size) facts.now }
-    ensures { (t : AgentTask) → t.publics ≡ split → t.privates ≡ privates.now.size
+    ensures { (t : AgentTask) → t.publics ≡ split → All (λ x. x < t.publics + t.privates) facts.now
         → Shows facts.now (set.contains (projected_state t publics.now.members privates.now.members)) result }
 {
     let mut mask = 0;

@@ -99,7 +99,12 @@ fn relax_all(
 }
 
 /// Gives a set the number 0 where it has all goals.
-fn begin_at(goal: u16, mask: u16, numbers: &mut Vec<u64>, queue: &mut Queue) -> Result<(), OutOfMemory>
+fn begin_at(
+    goal: u16,
+    mask: u16,
+    numbers: &mut Vec<u64>,
+    queue: &mut Queue,
+) -> Result<(), OutOfMemory>
     requires { mask < vec_len numbers.old }
     ensures fallen { OnOk result (HaveFallen numbers.old.items queue.old
         numbers.new.items queue.new) }

@@ -1,7 +1,7 @@
 -- The laws of the heuristic: the abstract problem simulates the projected one, so that a value is at most the cost of each
 -- plan; and how great a value is at most.
-use Rattle.std.proofs.Common.{◌≡◌, ℕ, zero, suc, ◌+◌, ◌*◌, ◌^◌, ◌<◌, ◌≤◌, Bool, true, false, cond, Option, Some, None, option_map, List, [], ◌∷◌, ◌++◌, length, map, All, Contains, refl, sym, ap, ◌∙◌, subst, zero-le, arith}
-use Rattle.std.proofs.Math.Nat.{pow-le-pow_right, mul-le-mul_right}
+use Rattle.std.proofs.Common.{◌≡◌, ℕ, ◌+◌, ◌*◌, ◌^◌, ◌<◌, ◌≤◌, true, cond, Option, Some, None, option_map, List, [], ◌∷◌, length, map, All, Contains, refl, sym, ap, ◌∙◌, subst, zero-le, arith}
+use Rattle.std.proofs.Math.Nat.{pow-le-pow_right}
 use Rattle.std.proofs.lemmas.List.{length-map}
 use Rattle.std.proofs.lemmas.List.Concat.{flat_map_single}
 use Rattle.std.proofs.lemmas.List.Elements.{All-append, All-map, All-cons, All-nil, All-contains}
@@ -9,10 +9,10 @@ use Rattle.std.proofs.lemmas.List.FromFn.{length-range_with_len, get_or-range_wi
 use Rattle.std.proofs.lemmas.Option.{none-some, same_Some, cond_some, slice_get-map, slice_get_within}
 use Rattle.std.specs.List.{flat_map, range_with_len, slice_get}
 use Rattle.std.specs.Option.{IfSome, IsSomeAnd, option_and_then, option_map_or}
-use Rattle.mp_estimates.specs.Estimates.{AtMost, lesser}
+use Rattle.mp_estimates.specs.Estimates.{AtMost}
 use Rattle.mp_runs.specs.Run.{run}
 use Rattle.mp_runs.specs.Simulation.{HasAnswer, Simulates}
-use Rattle.mp_runs.specs.System.{System, IsPlanFrom, plan_cost}
+use Rattle.mp_runs.specs.System.{IsPlanFrom, plan_cost}
 use Rattle.mp_runs.proofs.Costs.{plan_cost-one, equal_costs}
 use Rattle.mp_runs.proofs.Runs.{run-one, run-cons}
 use Rattle.mp_runs.proofs.Simulations.{mapped_plan}
@@ -23,9 +23,8 @@ use Rattle.mp_task.specs.Projected.{own_operator, far_operator, projected, proje
 use Rattle.mp_task.specs.Seen.{seen_system}
 use Rattle.mp_task.specs.Strips.{Operator, Problem, after_operator, strips_system}
 use Rattle.mp_task.proofs.Agreeing.{Contains-slice_get}
-use Rattle.mp_pdb.specs.Distance.{cost_by, least_by, after_rounds, distance, IsLeastCost, AreClosed}
+use Rattle.mp_pdb.specs.Distance.{IsLeastCost, AreClosed}
 use Rattle.mp_pdb.specs.Pattern.{pattern_of, of_pattern, abstract_operator, abstraction, abstract_state, abstract_states, actions_of, abstract_distance, pattern_value}
-use Rattle.mp_pdb.specs.Laws.Rounds.{first_round, next_round}
 use Rattle.mp_pdb.specs.Laws.Least.{is_least}
 use Rattle.mp_pdb.specs.Laws.States.{IsOf, state_is_of, is_state, length-abstract_states, abstract_state_is_of, after_is_of, abstract_state-after, holds-abstract_state}
 use Rattle.mp_pdb.specs.Laws.Sizes.{Below, rounds-Below}
@@ -80,8 +79,7 @@ module _ (pattern : List ℕ) (problem : Problem) where
   follows : (t s reached : Numbers) (k : ℕ) → t ≡ abstract_state pattern s → Step problem s reached k → HasAnswer (strips_system (abstraction pattern problem)) (λ u v. u ≡ abstract_state pattern v) (λ ks. ks ≡ k ∷ []) (λ c d. c ≡ d) t reached ((strips_system problem).cost k)
   follows t s reached k same step =
       let o = step.operator in
-      let second = strips_system (abstraction pattern problem) in
-      (
+      let second = strips_system (abstraction pattern problem) in (
         k ∷ [],
         record {
           stand = refl;

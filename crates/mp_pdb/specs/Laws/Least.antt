@@ -5,12 +5,12 @@ use Rattle.std.proofs.lemmas.Option.{none-some, same_Some}
 use Rattle.std.proofs.lemmas.List.Elements.{All-cons, All-head, All-tail, All-nil}
 use Rattle.std.specs.Option.{IfSome, IsSomeAnd, option_and_then}
 use Rattle.mp_estimates.specs.Estimates.{AtMost, lesser}
-use Rattle.mp_estimates.specs.Laws.Order.{AtMost-refl, AtMost-trans, plus-mono}
+use Rattle.mp_estimates.specs.Laws.Order.{AtMost-trans, plus-mono}
 use Rattle.mp_runs.specs.Run.{run}
 use Rattle.mp_runs.specs.System.{System, IsPlanFrom, plan_cost}
 use Rattle.mp_runs.proofs.Costs.{plan_cost-cons}
 use Rattle.mp_runs.proofs.Runs.{run-none, run-cons, run-first}
-use Rattle.mp_pdb.specs.Distance.{cost_by, least_by, next_costs, after_rounds, distance, HasPlan, IsLeastCost, AreClosed}
+use Rattle.mp_pdb.specs.Distance.{cost_by, least_by, after_rounds, distance, HasPlan, IsLeastCost, AreClosed}
 use Rattle.mp_pdb.specs.Laws.Rounds.{least_below, next_round, settled, first_round}
 
 lesser_is : (a b : Option ℕ) (n : ℕ) → lesser a b ≡ Some n → (a ≡ Some n) ⊎ (b ≡ Some n)
@@ -42,13 +42,12 @@ module _ {S A : Type 0} (system : System S A) where
       ([], All-nil (Contains actions), subst (λ o. IsSomeAnd o (λ last. system.is_goal last ≡ true)) (sym (run-none system.after s)) goal, (let none : plan_cost system [] ≡ 0 = omega arith in none))
 
   one_more : (actions : List A) (s t : S) (a : A) (n : ℕ) → Contains actions a → system.after s a ≡ Some t → HasPlan system actions t n → HasPlan system actions s (system.cost a + n)
-  one_more actions s t a n here leads found =
-      (
-        a ∷ found.0,
-        All-cons (Contains actions) a found.0 here found.1,
-        subst (λ o. IsSomeAnd o (λ last. system.is_goal last ≡ true)) (sym (run-first system.after s t a found.0 leads)) found.2,
-        plan_cost-cons system a found.0 ∙ ap (λ m. system.cost a + m) found.3,
-      )
+  one_more actions s t a n here leads found = (
+    a ∷ found.0,
+    All-cons (Contains actions) a found.0 here found.1,
+    subst (λ o. IsSomeAnd o (λ last. system.is_goal last ≡ true)) (sym (run-first system.after s t a found.0 leads)) found.2,
+    plan_cost-cons system a found.0 ∙ ap (λ m. system.cost a + m) found.3,
+  )
 
   cost_is : (v : S → Option ℕ) (s : S) (a : A) (n : ℕ) → cost_by system v s a ≡ Some n → (t : S) × (m : ℕ) × (system.after s a ≡ Some t) × (v t ≡ Some m) × (system.cost a + m ≡ n)
   cost_is v s a n e = by (system.after s a) refl e

@@ -1,9 +1,8 @@
 -- Rounds come to an end: what it costs from a state comes to be within a limit in a round because that from another state
 -- did so in the round before, within what the action leaves of the limit, and these states are different ones.
-use Rattle.std.proofs.Common.{◌≡◌, ℕ, zero, suc, ◌+◌, ◌-◌, ◌<◌, ◌≤◌, Bool, true, false, cond, not, ◌&&◌, ◌||◌, Option, Some, None, option_map, List, [], ◌∷◌, length, get_or, Contains, refl, sym, ap, ◌∙◌, subst, arith}
+use Rattle.std.proofs.Common.{◌≡◌, ℕ, zero, suc, ◌+◌, ◌-◌, ◌<◌, ◌≤◌, Bool, true, false, cond, not, ◌&&◌, ◌||◌, Option, Some, None, option_map, List, [], ◌∷◌, length, Contains, refl, sym, ap, ◌∙◌, subst, arith}
 use Rattle.std.proofs.lemmas.Bool.{false≢true, leb-true, leb-false, le-leb, lt-leb, and_from, not_from_false, both_ways}
 use Rattle.std.proofs.lemmas.List.Folds.{list_any_at}
-use Rattle.std.proofs.lemmas.List.Elements.{Contains-get_or}
 use Rattle.std.proofs.lemmas.List.Sums.{count_by-le-length, sum_by-cons}
 use Rattle.std.specs.List.{list_any, count_by}
 use Rattle.std.specs.Option.{option_and_then}
@@ -214,7 +213,7 @@ module _ {S A : Type 0} (system : System S A) (actions : List A) where
             let same = counted_is (suc k) t in
             let most = count_by-le-length (λ u. within t (after_rounds system actions (suc k) u)) states in
             omega arith
-        )
+            )
 
     -- so that costs satisfy the equations
     pub settled : (s : S) → Contains states s → after_rounds system actions (length states) s ≡ next_costs system actions (after_rounds system actions (length states)) s

@@ -1,4 +1,4 @@
-use Rattle.std.proofs.Common.{◌≡◌, ◌≤◌, length}
+use Rattle.std.proofs.Common.{◌≡◌, ◌+◌, ◌<◌, All}
 use Rattle.std.specs.FinSet as set
 use Rattle.mp_task.specs.AgentTask.{AgentTask}
 use Rattle.mp_task.specs.Projected.{projected_state}
@@ -9,5 +9,5 @@ abbrev pub invariant-loop-place : goal.invariant-loop-place
 invariant-loop-place l =
     (t : AgentTask)
     → t.publics ≡ l.split
-    → t.privates ≡ l.privates.size
+    → All (λ x. x < t.publics + t.privates) l.facts
     → ShowsFirst l.place l.facts (set.contains (projected_state t l.publics.members l.privates.members)) l.mask

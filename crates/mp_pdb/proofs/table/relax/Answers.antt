@@ -13,7 +13,7 @@ returns-then-to-found-clause-reached c = λ mask within ready leads.
     let fits = c.requires.fits in
     let pre = fits.pre in let add = fits.add in let del = fits.del in
     absurd (c.if-to-found.true
-        (must_arrive c.args.found.now c.args.to (omega arith) (omega arith) (omega arith) (omega arith) mask (omega arith) ready leads ∙ sym c.after.ensures))
+    (must_arrive c.args.found.now c.args.to (omega arith) (omega arith) (omega arith) (omega arith) mask (omega arith) ready leads ∙ sym c.after.ensures))
 
 pub lower-requires : goal.lower-requires
 lower-requires c =

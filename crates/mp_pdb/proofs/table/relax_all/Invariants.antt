@@ -1,4 +1,4 @@
-use Rattle.std.proofs.Common.{◌≡◌, ℕ, ◌+◌, All, take, vec_len}
+use Rattle.std.proofs.Common.{◌≡◌, ◌+◌, All, take, vec_len}
 use Rattle.mp_estimates.specs.Estimates.{AtMost}
 use Rattle.mp_pdb.specs.declared.moves.Move.{Move}
 use Rattle.mp_pdb.specs.Table.{AreBelow, AreLow, AreReached, HaveFallen, Values, known}

@@ -1,4 +1,4 @@
-use Rattle.std.proofs.Common.{◌≡◌, ◌+◌, ◌++◌, ◌∷◌, [], length, map, take, get_or, append-nil, sym, ap, refl, ◌∙◌, subst, arith}
+use Rattle.std.proofs.Common.{◌≡◌, ◌+◌, ◌∷◌, [], length, get_or, append-nil, sym, ap, refl, ◌∙◌, arith}
 use Rattle.std.proofs.lemmas.List.{length-append}
 use Rattle.mp_pdb.specs.Masks.{SizedPattern}
 use Rattle.mp_pdb.proofs.MaskLemmas.{first_full, first_all, more_facts}
