@@ -37,48 +37,48 @@ no_text : (w : World) (names : List (List PlanStep)) (log : List Entry) → Noth
 no_text w names log none =
     ap (λ a. outcome_text (record { answer = a; shares = map (λ (x : AgentRecord). x.share) w.agents }) names log) none
 
-module _ (value : AgentTask → Numbers → Numbers → Option ℕ) (r : TeamRun)
-    (done : HasDoneAll value r.limit r.tasks r.schedule r)
-    (machines : List AgentMachine)
-    (agents : map (λ m. m.done) machines ≡ r.world.agents)
-  where
-    pub are_of_run : AreOfRun value machines
-    are_of_run = record {
-      limit = r.limit;
-      tasks = r.tasks;
-      schedule = r.schedule;
-      last = r.world;
-      agree = done.team.agree;
-      within = done.team.within;
-      few_entries = done.team.few_entries;
-      leads = done.run.leads;
-      agents = sym agents;
-    }
+-- the machines of a team that has done something
+pub are_of_run : (value : AgentTask → Numbers → Numbers → Option ℕ) (r : TeamRun)
+    → HasDoneAll value r.limit r.tasks r.schedule r → (machines : List AgentMachine)
+    → map (λ m. m.done) machines ≡ r.world.agents → AreOfRun value machines
+are_of_run value r done machines agents = record {
+  limit = r.limit;
+  tasks = r.tasks;
+  schedule = r.schedule;
+  last = r.world;
+  agree = done.team.agree;
+  within = done.team.within;
+  few_entries = done.team.few_entries;
+  leads = done.run.leads;
+  agents = sym agents;
+}
 
+module _ (last : World) (machines : List AgentMachine) (agents : last.agents ≡ map (λ m. m.done) machines)
+  where
     told_of : (found : Option Outcome) → Tells machines found
-        → MatchOption found (is_over r.world ≡ false) (λ o. (is_over r.world ≡ true) × (o ≡ outcome_of r.world))
-    told_of found tells = tells r.world (sym agents)
+        → MatchOption found (is_over last ≡ false) (λ o. (is_over last ≡ true) × (o ≡ outcome_of last))
+    told_of found tells = tells last agents
 
     what_was_found : (found : Option Outcome) → Tells machines found → (o : Outcome) → found ≡ Some o
-        → o ≡ outcome_of r.world
+        → o ≡ outcome_of last
     what_was_found None tells o is = absurd (let impossible : ⊥ = cc in impossible)
     what_was_found (Some other) tells o is = let same : other ≡ o = cc in sym same ∙ (told_of (Some other) tells).1
 
     pub answer_is : (found : Option Outcome) → Tells machines found → (o : Outcome) → found ≡ Some o
-        → o.answer ≡ answer_of r.world
+        → o.answer ≡ answer_of last
     answer_is found tells o is = ap (λ (x : Outcome). x.answer) (what_was_found found tells o is)
 
     pub text_is : (found : Option Outcome) → Tells machines found → (o : Outcome) → found ≡ Some o
-        → (names : List (List PlanStep)) (log : List Entry) → outcome_text o names log ≡ outcome_text (outcome_of r.world) names log
+        → (names : List (List PlanStep)) (log : List Entry) → outcome_text o names log ≡ outcome_text (outcome_of last) names log
     text_is found tells o is names log = ap (λ (x : Outcome). outcome_text x names log) (what_was_found found tells o is)
 
-    goes_on : (found : Option Outcome) → Tells machines found → found ≡ None → is_over r.world ≡ false
+    goes_on : (found : Option Outcome) → Tells machines found → found ≡ None → is_over last ≡ false
     goes_on None tells is = told_of None tells
     goes_on (Some o) tells is = let impossible : ⊥ = cc in absurd impossible
 
-    pub nothing_is : (found : Option Outcome) → Tells machines found → found ≡ None → Nothing ≡ answer_of r.world
-    nothing_is found tells is = no_answer r.world (goes_on found tells is)
+    pub nothing_is : (found : Option Outcome) → Tells machines found → found ≡ None → Nothing ≡ answer_of last
+    nothing_is found tells is = no_answer last (goes_on found tells is)
 
     pub no_text_is : (found : Option Outcome) → Tells machines found → found ≡ None
-        → (names : List (List PlanStep)) (log : List Entry) → outcome_text nothing_found names log ≡ outcome_text (outcome_of r.world) names log
-    no_text_is found tells is names log = no_text r.world names log (nothing_is found tells is)
+        → (names : List (List PlanStep)) (log : List Entry) → outcome_text nothing_found names log ≡ outcome_text (outcome_of last) names log
+    no_text_is found tells is names log = no_text last names log (nothing_is found tells is)

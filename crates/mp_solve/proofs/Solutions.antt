@@ -1,5 +1,5 @@
 -- What a team has found is right for its files.
-use Rattle.std.proofs.Common.{◌≡◌, ◌≤◌, ℕ, true, false, List, [], length, map, All, Option, Some}
+use Rattle.std.proofs.Common.{◌≡◌, ◌≤◌, ℕ, true, List, [], length, map, All, Option, Some}
 use Rattle.std.proofs.Common.{sym, ap, subst, ◌∙◌}
 use Rattle.std.specs.Prelude.{IfOk, Result, Ok, Err}
 use Rattle.mp_factor.specs.declared.factor.Factor.{Factor}
@@ -12,14 +12,15 @@ use Rattle.mp_grounder.specs.Checked.{IsChecked}
 use Rattle.mp_machine.specs.AgentRecord.{AgentRecord}
 use Rattle.mp_messages.specs.declared.history.Entry.{Entry}
 use Rattle.mp_messages.specs.declared.history.Event.{Event}
+use Rattle.mp_messages.specs.History.{schedule as schedule_of}
 use Rattle.mp_world.specs.declared.answer.Answer.TheVariants.{Nothing}
 use Rattle.mp_world.specs.Answers.{answer_of, outcome_of}
 use Rattle.mp_world.specs.Events.{run}
 use Rattle.mp_world.specs.Logs.{IsLog, log_of_run}
 use Rattle.mp_world.specs.RoundRobin.{is_over}
-use Rattle.mp_world.specs.World.{World, start_world}
+use Rattle.mp_world.specs.World.{AreNumbered, World}
 use Rattle.mp_world.proofs.Agents.{agree_numbered}
-use Rattle.mp_world.proofs.LogOfRun.{run_log_is_log}
+use Rattle.mp_world.proofs.LogOfRun.{run_log_is_log, run_log_schedule}
 use Rattle.mp_schedule.specs.TeamRun.{TeamRun}
 use Rattle.mp_split.specs.Team.{AreTasksOf}
 use Rattle.mp_split.specs.declared.team.Tasks.{Tasks}
@@ -29,7 +30,7 @@ use Rattle.mp_outcome.specs.Names.{names_of}
 use Rattle.mp_solutions.specs.declared.solution.Solution.{Solution}
 use Rattle.mp_solutions.specs.PlanText.{answer_text}
 use Rattle.mp_solutions.specs.Right.{IsRight}
-use Rattle.mp_solutions.specs.Solution.{IsFound, IsRightFor, IsSolution}
+use Rattle.mp_solutions.specs.Solution.{IsFound, IsFoundInTurn, IsRightFor, IsSolution}
 use Rattle.mp_solve.specs.Ended.{HasDoneAll, HasEnded}
 use Rattle.mp_solve.proofs.Finds.{no_answer}
 
@@ -68,9 +69,11 @@ module _ (value : AgentTask → Numbers → Numbers → Option ℕ) (limit : ℕ
     logged =
         done.run.logged ∙ (λ i. log_of_run value (done.limit_is i) (done.tasks_are i) (done.schedule_is i))
 
+    numbered : AreNumbered tasks.tasks
+    numbered = agree_numbered tasks.tasks (subst Agree done.tasks_are done.team.agree)
+
     is_log : IsLog value limit tasks.tasks (log_of_run value limit tasks.tasks schedule)
-    is_log = run_log_is_log value tasks.tasks
-        (agree_numbered tasks.tasks (subst Agree done.tasks_are done.team.agree)) limit schedule r.world leads
+    is_log = run_log_is_log value tasks.tasks numbered limit schedule r.world leads
 
     module _ (s : Solution) (answer : s.answer ≡ answer_of r.world) (log : s.log ≡ r.log)
         (text : s.text ≡ outcome_text (outcome_of r.world) (names_of team tasks.steps) r.log)
@@ -94,7 +97,7 @@ module _ (value : AgentTask → Numbers → Numbers → Option ℕ) (limit : ℕ
               views = views;
               last = r.world;
               leads = leads;
-              logged = whole;
+              logged = ap schedule_of whole ∙ run_log_schedule value tasks.tasks numbered limit schedule r.world leads;
               is_log = subst (IsLog value limit tasks.tasks) (sym whole) is_log;
               answer = answer;
               told = text ∙ ap (λ l. outcome_text (outcome_of r.world) (names_of team tasks.steps) l) (sym log);
@@ -103,6 +106,10 @@ module _ (value : AgentTask → Numbers → Numbers → Option ℕ) (limit : ℕ
                   let none = no_answer r.world over in
                   (answer ∙ sym none, text ∙ no_text r.world (names_of team tasks.steps) r.log none);
             }
+
+        pub found_in_turn : s.views ≡ tasks.views → IsFoundInTurn value limit team schedule s
+        unfolding is_found
+        found_in_turn views = record { is_found = is_found views; logged = log ∙ logged }
 
 -- what was found by round robin
 pub if_solution : (value : AgentTask → Numbers → Numbers → Option ℕ) (limit : ℕ) (team : List Factor) (tasks : Tasks)
@@ -113,11 +120,12 @@ pub if_solution : (value : AgentTask → Numbers → Numbers → Option ℕ) (li
     → IfOk found (λ s. s.log ≡ r.log) → IfOk found (λ s. s.answer ≡ answer_of r.world)
     → IfOk found (λ s. s.text ≡ outcome_text (outcome_of r.world) (names_of team tasks.steps) r.log)
     → IfOk found (IsSolution value limit team)
-unfolding is_found
+unfolding is_found found_in_turn
 if_solution value limit team tasks r law checked some are few ended (Ok s) views log answer text =
     record {
       schedule = r.schedule;
-      is_found = is_found value limit team tasks r.schedule r law checked some are few ended.done s answer log text views;
+      in_turn = found_in_turn value limit team tasks r.schedule r law checked some are few ended.done s answer log text
+          views;
       round_robin = ended.round_robin;
     }
 if_solution value limit team tasks r law checked some are few ended (Err e) views log answer text = tt

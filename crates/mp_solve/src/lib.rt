@@ -6,9 +6,10 @@ mod machines;
 mod refusal;
 mod replaying;
 mod solving;
-mod told;
+mod telling;
 
 pub use mp_solutions::Solution;
 pub use refusal::ReplayRefusal;
 pub use replaying::replay;
 pub use solving::solve;
+pub use telling::{ToldAnswer, told};

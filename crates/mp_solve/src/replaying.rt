@@ -2,7 +2,7 @@
 
 ghost use Rattle.std.specs.Prelude.{◌≡◌, ◌≤◌, ◌++◌, ◌∷◌, [], length, map, All, Ok, IfOk, IfErr, OnOk};
 ghost use Rattle.mp_schedule.specs.Happening.{IsOfTeam};
-ghost use Rattle.mp_solutions.specs.Solution.{IsFound, IsReplayed};
+ghost use Rattle.mp_solutions.specs.Solution.{IsFoundInTurn, IsReplayed};
 ghost use Rattle.mp_solve.specs.Ended.{HasDoneAll};
 ghost use Rattle.mp_solve.specs.Refused.{AreWithin, IsUnread, MayNot, Refuses, Stops};
 ghost use Rattle.mp_split.specs.Team.{AreTasksOf};
@@ -10,7 +10,7 @@ ghost use Rattle.mp_text.specs.Schedule.{schedule_in};
 
 use crate::machines::begun;
 use crate::refusal::ReplayRefusal;
-use crate::told::told;
+use crate::telling::solution_of;
 use mp_ground::GroundRefusal;
 use mp_grounder::laws::checked_factors_are_checked;
 use mp_schedule::{EventRefusal, World};
@@ -71,7 +71,7 @@ fn replayed<H: Heuristic>(
     requires at_most { length factors.now ≤ 16 }
     requires tasks { AreTasksOf factors.now given }
     requires of_team { All (λ line. IsOfTeam (length factors.now) line.event) lines.now }
-    ensures found { IfOk result (IsFound H.value limit factors.now (map (λ line. line.event) lines.now)) }
+    ensures found { IfOk result (IsFoundInTurn H.value limit factors.now (map (λ line. line.event) lines.now)) }
     ensures refused { IfErr result (Stops H.value limit given.tasks lines.now) }
 {
     let Tasks {
@@ -84,7 +84,7 @@ fn replayed<H: Heuristic>(
     answers_are_right_for_files::<H>();
     let mut world = begun::<H>(alloc, tasks, limit)?;
     match happen_all(&mut world, lines) {
-        Ok(()) => Ok(told(alloc, factors, steps.as_slice(), views, world)?),
+        Ok(()) => Ok(solution_of(alloc, factors, steps.as_slice(), views, world)?),
         Err(refusal) => Err(refusal),
     }
 }

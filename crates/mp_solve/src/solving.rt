@@ -7,7 +7,7 @@ ghost use Rattle.mp_solutions.specs.Solution.{IsSolution};
 ghost use Rattle.mp_split.specs.Team.{AreTasksOf, IsFirstRefusal, known_at};
 
 use crate::machines::ended;
-use crate::told::told;
+use crate::telling::solution_of;
 use mp_ground::GroundRefusal;
 use mp_grounder::laws::checked_factors_are_checked;
 use mp_list::OutOfMemory;
@@ -41,7 +41,7 @@ fn solved<H: Heuristic>(
     tasks_stand_for_files();
     answers_are_right_for_files::<H>();
     let world = ended::<H>(alloc, tasks, limit)?;
-    told(alloc, factors, steps.as_slice(), views, world)
+    solution_of(alloc, factors, steps.as_slice(), views, world)
 }
 
 /// What the agents of a team find, each of which expands at most `limit` entries, from 1 to 10,000,000: their factors are

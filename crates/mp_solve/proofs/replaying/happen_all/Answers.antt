@@ -1,5 +1,4 @@
-use Rattle.std.proofs.Common.{◌+◌, drop, map, take}
-use Rattle.mp_text.specs.declared.schedule.EventLine.{EventLine}
+use Rattle.std.proofs.Common.{◌+◌, drop, take}
 use Rattle.mp_solve.proofs.Happens.{parted, stops}
 use Rattle.mp_solve.proofs.replaying.happen_all.Goals as goal
 

@@ -8,7 +8,7 @@ use Rattle.mp_world.specs.Answers.{outcome_of}
 use Rattle.mp_outcome.specs.Names.{names_of}
 use Rattle.mp_solve.specs.Ended.{HasDoneAll}
 use Rattle.mp_solve.proofs.Ends.{done_for}
-use Rattle.mp_solve.proofs.Solutions.{AnswersAreRight, is_found}
+use Rattle.mp_solve.proofs.Solutions.{AnswersAreRight, found_in_turn}
 use Rattle.mp_solve.proofs.replaying.replayed.Goals as goal
 
 pub begun-requires-clause-agree : goal.begun-requires-clause-agree
@@ -33,9 +33,9 @@ returns-in-Ok-clause-found g c =
     let done : HasDoneAll value c.args.limit c.args.given.tasks schedule r =
     done_for value c.args.limit begun.limit c.args.given.tasks begun.tasks schedule r c.in_ok-world.ensures.team.limit_is
     c.in_ok-world.ensures.team.tasks_are c.in-Ok.ensures.done in
-    let s = c.in_ok-told-in-Ok.field-0 in
-    let told = c.in_ok-told-in-Ok.ensures in
-    is_found value c.args.limit c.args.factors.now c.args.given schedule r law c.checked_factors_are_checked.ensures
+    let s = c.in_ok-solution_of-in-Ok.field-0 in
+    let told = c.in_ok-solution_of-in-Ok.ensures in
+    found_in_turn value c.args.limit c.args.factors.now c.args.given schedule r law c.checked_factors_are_checked.ensures
     c.requires.some c.requires.tasks c.requires.limit done s told.answer told.log
     (subst (λ steps. s.text ≡ outcome_text (outcome_of r.world) (names_of c.args.factors.now steps) r.log)
     c.as_slice.ensures told.text)

@@ -20,8 +20,8 @@ ended-requires g c =
       at_most = subst (λ n. n ≤ 16) (sym size) c.requires.at_most;
     }
 
-pub told-requires : goal.told-requires
-told-requires g c =
+pub solution_of-requires : goal.solution_of-requires
+solution_of-requires g c =
     let r = c.in_ok-world.world in
     record {
       team = c.requires.at_most;
@@ -35,7 +35,7 @@ returns g c =
     if_solution g.H.Heuristic.value c.args.limit c.args.factors.now c.args.given r law c.checked_factors_are_checked.ensures
     c.requires.some c.requires.tasks c.requires.limit
     c.in_ok-world.ensures
-    c.told.result c.told.ensures.views c.told.ensures.log c.told.ensures.answer
-    (subst (λ steps. IfOk c.told.result (λ (s : Solution). s.text
+    c.solution_of.result c.solution_of.ensures.views c.solution_of.ensures.log c.solution_of.ensures.answer
+    (subst (λ steps. IfOk c.solution_of.result (λ (s : Solution). s.text
     ≡ outcome_text (outcome_of r.world) (names_of c.args.factors.now steps) r.log)) c.as_slice.ensures
-    c.told.ensures.text)
+    c.solution_of.ensures.text)
