@@ -1,0 +1,9 @@
+-- marks and a search by them; supports; the goal zone; the near side; the cut; problems at other costs; deletes; rounds
+pub mod MarkLemmas
+pub mod SupportLemmas
+pub mod ZoneLemmas
+pub mod NearLemmas
+pub mod CutLemmas
+pub mod CostLemmas
+pub mod DeleteLemmas
+pub mod RoundLemmas

@@ -1,0 +1,77 @@
+-- Rounds: what the marks say of the cut, and what is left after a round.
+use Rattle.std.proofs.Common.{◌≡◌, ℕ, zero, suc, ◌+◌, ◌-◌, ◌*◌, ◌<◌, ◌≤◌, Bool, true, false, cond, ◌&&◌, Option, Some, None, option_map, List, length, map, All, refl, sym, ap, ◌∙◌, arith}
+use Rattle.std.proofs.lemmas.List.Elements.{All-filter, All-map}
+use Rattle.std.specs.List.{filter, list_all, list_any}
+use Rattle.std.specs.Option.{unwrap_or}
+use Rattle.mp_sets.specs.Numbers.{Numbers}
+use Rattle.mp_task.specs.AgentTask.{AgentTask}
+use Rattle.mp_task.specs.Projected.{projected, projected_state}
+use Rattle.mp_task.specs.Strips.{Operator}
+use Rattle.mp_relaxed.specs.Relaxed.{RelaxedProblem, delete_relaxation, state_of}
+use Rattle.mp_relaxed.specs.Search.{value_at}
+use Rattle.mp_relaxed.specs.Values.{Values, fact_values, greatest}
+use Rattle.mp_lmcut.specs.Cut.{all_valued, cheaper_where, cut_cost, cuts, in_cut, is_positive, least, lmcut, lmcut_of, lowered, support}
+use Rattle.mp_lmcut.specs.Sides.{IsNearSide, IsZone, is_between, least_where}
+use Rattle.mp_lmcut.specs.Laws.Costs.{least_small}
+use Rattle.mp_lmcut.proofs.DeleteLemmas.{lmcut_bare}
+
+module _ (r : RelaxedProblem) (s : Numbers) (numbers : List ℕ) (zone near : List Bool) (values : (x : ℕ) → value_at numbers x ≡ fact_values r.operators s x) (zoned : IsZone (value_at numbers) r.operators r.goals zone) (neared : IsNearSide (value_at numbers) r.operators r.goals s near) where
+  abbrev between : Operator → Bool
+  between = is_between (value_at numbers) zone near
+
+  same_cut : (o : Operator) → between o ≡ in_cut (fact_values r.operators s) r.operators r.goals s o
+  unfolding in_cut
+  same_cut o =
+      (λ i. all_valued (value_at numbers) o.pre && (list_all (λ x. neared x i) (support (value_at numbers) o.pre) && list_any (λ x. zoned x i) o.add))
+      ∙ (λ i. in_cut (λ x. values x i) r.operators r.goals s o)
+
+  pub cost_is : unwrap_or (least_where between r.operators) 0 ≡ cut_cost (fact_values r.operators s) r.operators r.goals s
+  unfolding cut_cost
+  cost_is = λ i. unwrap_or (least (map (λ o. o.cost) (filter (λ o. same_cut o i) r.operators))) 0
+
+  pub lowered_is : (c : ℕ) → c ≡ cut_cost (fact_values r.operators s) r.operators r.goals s → cheaper_where between c r.operators ≡ lowered (fact_values r.operators s) r.operators r.goals s
+  unfolding lowered
+  lowered_is c e = λ i. cheaper_where (λ o. same_cut o i) (e i) r.operators
+
+pub cost_small : (such : Operator → Bool) (os : List Operator) (e : ℕ) → All (λ o. o.cost ≤ e) os → unwrap_or (least_where such os) 0 ≤ e
+cost_small such os e fits = least_small _ e (All-map (λ n. n ≤ e) (λ o. o.cost) _ (All-filter such (λ o. o.cost ≤ e) os fits))
+
+-- cuts
+
+pub no_cuts : (os : List Operator) (goals : List ℕ) (s : Numbers) → cuts 0 os goals s ≡ 0
+unfolding cuts
+no_cuts os goals s = refl
+
+pub cuts_end : (os : List Operator) (goals : List ℕ) (s : Numbers) → is_positive (greatest (fact_values os s) goals) ≡ false → (rounds : ℕ) → cuts (suc rounds) os goals s ≡ 0
+unfolding cuts
+cuts_end os goals s e rounds =
+    λ i. cond (e i) (cut_cost (fact_values os s) os goals s + cuts rounds (lowered (fact_values os s) os goals s) goals s) 0
+
+cuts_go_on : (os : List Operator) (goals : List ℕ) (s : Numbers) → is_positive (greatest (fact_values os s) goals) ≡ true → (rounds : ℕ) → cuts (suc rounds) os goals s ≡ cut_cost (fact_values os s) os goals s + cuts rounds (lowered (fact_values os s) os goals s) goals s
+unfolding cuts
+cuts_go_on os goals s e rounds =
+    λ i. cond (e i) (cut_cost (fact_values os s) os goals s + cuts rounds (lowered (fact_values os s) os goals s) goals s) 0
+
+pub cuts_more : (r next : RelaxedProblem) (p q : Numbers) (cost : ℕ) → is_positive (greatest (fact_values r.operators (state_of r p q)) r.goals) ≡ true → cost ≡ cut_cost (fact_values r.operators (state_of r p q)) r.operators r.goals (state_of r p q) → next ≡ record r { operators = lowered (fact_values r.operators (state_of r p q)) r.operators r.goals (state_of r p q) } → (rounds : ℕ) → cuts (suc rounds) r.operators r.goals (state_of r p q) ≡ cost + cuts rounds next.operators next.goals (state_of next p q)
+cuts_more r next p q cost positive is after rounds =
+    cuts_go_on r.operators r.goals (state_of r p q) positive rounds
+    ∙ ap (λ n. n + cuts rounds (lowered (fact_values r.operators (state_of r p q)) r.operators r.goals (state_of r p q)) r.goals (state_of r p q)) (sym is)
+    ∙ ap (λ (m : RelaxedProblem). cost + cuts rounds m.operators m.goals (state_of m p q)) (sym after)
+
+-- the heuristic
+
+same_found : (total : ℕ) (a : Option ℕ) (n : ℕ) → a ≡ Some n → Some total ≡ option_map (λ _. total) a
+same_found total a n e = ap (option_map (λ _. total)) (sym e)
+
+pub none_found : (r : RelaxedProblem) (p q : Numbers) → greatest (fact_values r.operators (state_of r p q)) r.goals ≡ None → None ≡ lmcut_of r.operators r.goals (state_of r p q)
+none_found r p q e = ap (option_map (λ _. cuts (length r.operators) r.operators r.goals (state_of r p q))) (sym e)
+
+pub some_found : (r : RelaxedProblem) (p q : Numbers) (n total : ℕ) → greatest (fact_values r.operators (state_of r p q)) r.goals ≡ Some n → total ≡ cuts (length r.operators) r.operators r.goals (state_of r p q) → Some total ≡ lmcut_of r.operators r.goals (state_of r p q)
+some_found r p q n total e is =
+    ap (λ a. Some a) is
+    ∙ same_found (cuts (length r.operators) r.operators r.goals (state_of r p q)) (greatest (fact_values r.operators (state_of r p q)) r.goals) n e
+
+pub lmcut_found : (t : AgentTask) (r : RelaxedProblem) (p q : Numbers) → r ≡ delete_relaxation t → lmcut_of r.operators r.goals (state_of r p q) ≡ lmcut t p q
+lmcut_found t r p q e =
+    ap (λ (m : RelaxedProblem). lmcut_of m.operators m.goals (state_of m p q)) e
+    ∙ lmcut_bare (projected t).operators (projected t).goals (projected_state t p q)

@@ -1,0 +1,50 @@
+-- Supports by the numbers of facts.
+use Rattle.std.proofs.Common.{◌≡◌, ℕ, suc, ◌+◌, ◌<◌, ◌≤◌, Bool, true, false, cond, not, ltb, leb, ◌&&◌, ◌||◌, Option, Some, None, List, [], ◌∷◌, length, get_or, drop, refl, sym, ap, ◌∙◌, subst, ⊎_elim, add-one, arith}
+use Rattle.std.proofs.Math.Seq.{drop-cons}
+use Rattle.std.proofs.lemmas.Bool.{cases_lt, lt-ltb, le-ltb, le-leb, lt-leb}
+use Rattle.std.proofs.lemmas.List.{drop_more}
+use Rattle.std.specs.Option.{is_some}
+use Rattle.mp_list.specs.First.{earlier, leftmost}
+use Rattle.mp_relaxed.specs.Search.{known, number_at, unknown, value_at}
+use Rattle.mp_relaxed.proofs.SearchLemmas.{known-none, known-some}
+use Rattle.mp_lmcut.specs.Cut.{all_valued, is_above, supports_before}
+
+pub valued_more : (numbers xs : List ℕ) (i : ℕ) → i < length xs → number_at numbers (get_or xs i 0) < unknown → all_valued (value_at numbers) (drop i xs) ≡ all_valued (value_at numbers) (drop (i + 1) xs)
+valued_more numbers xs i lt less =
+    ap (all_valued (value_at numbers)) (drop_more xs i 0 lt)
+    ∙ ap (λ a. is_some a && all_valued (value_at numbers) (drop (i + 1) xs)) (known-some (number_at numbers (get_or xs i 0)) less)
+
+pub valued_not : (numbers xs : List ℕ) (i : ℕ) → i < length xs → unknown ≤ number_at numbers (get_or xs i 0) → all_valued (value_at numbers) (drop i xs) ≡ false
+valued_not numbers xs i lt le =
+    ap (all_valued (value_at numbers)) (drop_more xs i 0 lt)
+    ∙ ap (λ a. is_some a && all_valued (value_at numbers) (drop (i + 1) xs)) (known-none (number_at numbers (get_or xs i 0)) le)
+
+above_is : (m n : ℕ) → m ≤ unknown → n ≤ unknown → is_above (known m) (known n) ≡ ltb n m
+above_is m n first second = ⊎_elim
+    (λ h. ⊎_elim
+    (λ k. λ i. is_above (known-some m h i) (known-some n k i))
+    (λ k. (λ i. is_above (known-some m h i) (known-none n k i)) ∙ sym (le-ltb n m (omega arith)))
+    (cases_lt n unknown))
+    (λ h. ⊎_elim
+    (λ k. (λ i. is_above (known-none m h i) (known-some n k i)) ∙ sym (lt-ltb n m (omega arith)))
+    (λ k. (λ i. is_above (known-none m h i) (known-none n k i)) ∙ sym (le-ltb n m (omega arith)))
+    (cases_lt n unknown))
+    (cases_lt m unknown)
+
+not_less : (m n : ℕ) → not (ltb m n) ≡ leb n m
+not_less m n = ⊎_elim
+    (λ h. ap not (lt-ltb m n h) ∙ sym (lt-leb n m h))
+    (λ h. ap not (le-ltb m n h) ∙ sym (le-leb n m h))
+    (cases_lt m n)
+
+-- what the code asks of two numbers
+pub before_is : (numbers : List ℕ) (x y : ℕ) → number_at numbers x ≤ unknown → number_at numbers y ≤ unknown → (ltb (number_at numbers y) (number_at numbers x) || (leb (number_at numbers y) (number_at numbers x) && ltb x y)) ≡ supports_before (value_at numbers) x y
+before_is numbers x y first second =
+    let m = number_at numbers x in
+    let n = number_at numbers y in
+    sym ((λ i. above_is m n first second i || (not (above_is n m second first i) && ltb x y))
+    ∙ ap (λ b. ltb n m || (b && ltb x y)) (not_less m n))
+
+-- the first of what is left, after one more
+pub first_more : (before : ℕ → ℕ → Bool) (best : Option ℕ) (xs : List ℕ) (i : ℕ) → i < length xs → leftmost before (Some (earlier before best (get_or xs i 0))) (drop (i + 1) xs) ≡ leftmost before best (drop i xs)
+first_more before best xs i lt = sym (ap (leftmost before best) (drop_more xs i 0 lt))

@@ -1,0 +1,12 @@
+use Rattle.std.proofs.Common.{◌≡◌, ◌≤◌, length}
+use Rattle.mp_relaxed.specs.Search.{value_at}
+use Rattle.mp_lmcut.specs.Sides.{is_between}
+use Rattle.mp_lmcut.proofs.CutLemmas.{lowered_first}
+use Rattle.mp_lmcut.proofs.cut.lower_all.Given as goal
+
+abbrev pub invariant-loop-k : goal.invariant-loop-k
+invariant-loop-k l = record {
+  as_many : length l.problem.operators ≡ length l.initial.problem.operators;
+  facts : l.problem.facts ≡ l.initial.problem.facts;
+  is : l.problem ≡ record l.initial.problem { operators = lowered_first (is_between (value_at l.numbers) l.zone.flags l.near.flags) l.by l.k l.initial.problem.operators };
+}

@@ -1,0 +1,20 @@
+use Rattle.std.proofs.Common.{◌≡◌, ◌≤◌, length, map, All, ap, sym, ◌∙◌, subst}
+use Rattle.std.proofs.lemmas.List.Elements.{All-map}
+use Rattle.mp_task.specs.Strips.{Operator}
+use Rattle.mp_lmcut.proofs.CostLemmas.{repriced_own}
+use Rattle.mp_lmcut.proofs.lmcut.LmCutHeuristic.make.Goals as goal
+
+pub invariant_of-result-clause-cheap : goal.invariant_of-result-clause-cheap
+invariant_of-result-clause-cheap c =
+    subst (All (λ n. n ≤ 16000000)) (sym c.in_ok-costs.ensures)
+    (All-map (λ n. n ≤ 16000000) (λ (o : Operator). o.cost) _ c.operators.ensures.cheap)
+
+pub invariant_of-result-clause-added : goal.invariant_of-result-clause-added
+invariant_of-result-clause-added c = record {
+  sized = c.in_ok-adders.ensures.each;
+  all = c.in_ok-adders.ensures.all;
+  below = c.in_ok-adders.ensures.below;
+}
+
+pub returns : goal.returns
+returns c = (repriced_own _ _ c.in_ok-costs.ensures ∙ c.in_ok-problem.ensures.made, c.in_ok-problem.ensures.limits)

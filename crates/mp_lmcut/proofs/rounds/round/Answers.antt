@@ -1,0 +1,23 @@
+use Rattle.std.proofs.Common.{◌≡◌, true, false, ap, sym, ◌∙◌}
+use Rattle.std.proofs.lemmas.Bool.{not-true}
+use Rattle.mp_relaxed.specs.Relaxed.{state_of}
+use Rattle.mp_relaxed.specs.Search.{value_at}
+use Rattle.mp_relaxed.specs.Values.{fact_values, greatest}
+use Rattle.mp_lmcut.specs.Cut.{is_positive}
+use Rattle.mp_lmcut.proofs.RoundLemmas.{cuts_end, cuts_more}
+use Rattle.mp_lmcut.proofs.rounds.round.Goals as goal
+
+pub returns-then-not-is_left-clause-paid : goal.returns-then-not-is_left-clause-paid
+returns-then-not-is_left-clause-paid c =
+    let r = c.args.problem.now in
+    let s = state_of r c.args.publics.now.members c.args.privates.now.members in
+    let found = c.greatest.ensures ∙ (λ i. greatest (λ x. c.in_ok-find.ensures.values x i) (c.goals.ensures.value i)) in
+    cuts_end r.operators r.goals s (sym (c.is_left.ensures ∙ ap is_positive found) ∙ c.if-not-is_left.true)
+
+pub returns-clause-paid : goal.returns-clause-paid
+returns-clause-paid c =
+    let r = c.args.problem.now in
+    let p = c.args.publics.now.members in
+    let q = c.args.privates.now.members in
+    let found = c.greatest.ensures ∙ (λ i. greatest (λ x. c.in_ok-find.ensures.values x i) (c.goals.ensures.value i)) in
+    cuts_more r c.lower.new.problem p q c.in_ok-cost.cost (sym (c.is_left.ensures ∙ ap is_positive found) ∙ c.if-not-is_left.false) c.in_ok-cost.ensures.cost c.in_ok-cost.ensures.lowered

@@ -1,0 +1,14 @@
+//! The heuristic LM-cut (`specs/Cut.antt`).
+#![tactic(auto)]
+
+mod cut;
+mod laws;
+mod lmcut;
+mod marks;
+mod near;
+mod rounds;
+mod supports;
+mod zone;
+
+pub use laws::cuts_are_paid;
+pub use lmcut::LmCut;

@@ -1,0 +1,128 @@
+//! The heuristic.
+
+ghost use Rattle.std.specs.Prelude.{◌≡◌, ◌+◌, ◌≤◌, All, IfOk, length};
+ghost use Rattle.mp_task.specs.AgentTask.{AgentTask};
+ghost use Rattle.mp_relaxed.specs.Relaxed.{RelaxedProblem, delete_relaxation};
+ghost use Rattle.mp_lmcut.specs.Cut.{lmcut};
+ghost use Rattle.mp_lmcut.specs.Sides.{AreAdders, costless, repriced};
+
+use crate::marks::Marks;
+use crate::rounds::value_of;
+use mp_list::{List, OutOfMemory};
+use mp_relaxed::{Relaxed, Search};
+use mp_sets::Bits;
+use mp_task::{Heuristic, Task};
+use std::alloc::Global;
+
+/// The heuristic LM-cut (Helmert and Domshlak 2009): what the cuts of its rounds cost together, each round at the costs
+/// that the one before has left. None where a goal cannot be made true. It keeps its arrays from call to call, so that
+/// a value takes memory only where a queue or a list grows.
+pub struct LmCut {
+    problem: Relaxed,
+    costs: Vec<u64>,
+    adders: Vec<List<u32>>,
+    search: Search,
+    zone: Marks,
+    near: Marks,
+    ghost priced: { length costs.items ≡ length problem.operators },
+    ghost cheap: { All (λ c. c ≤ 16000000) costs.items },
+    ghost added: { AreAdders problem.operators problem.facts adders.items },
+    ghost counted: { search.operators ≡ length problem.operators },
+    ghost sized: { length search.numbers ≡ problem.facts },
+}
+
+impl Drop for LmCut {
+    fn drop(self) {
+        let LmCut {
+            problem: _,
+            costs: _,
+            adders: _,
+            search: _,
+            zone: _,
+            near: _,
+        } = self;
+    }
+}
+
+/// Sets the costs of a problem to these, one for each operator.
+fn set_back(problem: &mut Relaxed, costs: &[u64])
+    requires each { length costs.now ≡ length problem.old.operators }
+    requires cheap { All (λ c. c ≤ 16000000) costs.now }
+    ensures { problem.new ≡ repriced costs.now problem.old }
+{
+    problem.price(costs);
+}
+
+/// The value of a state, from the problem at these costs.
+fn estimate(
+    problem: &mut Relaxed,
+    costs: &[u64],
+    adders: &[List<u32>],
+    search: &mut Search,
+    zone: &mut Marks,
+    near: &mut Marks,
+    publics: &Bits,
+    privates: &Bits,
+) -> Result<Option<u64>, OutOfMemory>
+    requires each { length costs.now ≡ length problem.old.operators }
+    requires cheap { All (λ c. c ≤ 16000000) costs.now }
+    requires counted { search.old.operators ≡ length problem.old.operators }
+    requires sized { length search.old.numbers ≡ problem.old.facts }
+    requires adders { AreAdders problem.old.operators problem.old.facts adders.now }
+    requires publics { publics.now.size ≡ problem.old.publics }
+    requires privates { problem.old.publics + privates.now.size ≡ problem.old.facts }
+    ensures found { IfOk result (λ found. (t : AgentTask)
+        → repriced costs.now problem.old ≡ delete_relaxation t
+        → found ≡ lmcut t publics.now.members privates.now.members) }
+    ensures kept { costless problem.new ≡ costless problem.old }
+    ensures counted { search.new.operators ≡ search.old.operators }
+    ensures sized { length search.new.numbers ≡ length search.old.numbers }
+{
+    set_back(problem, costs);
+    let found = value_of(problem, adders, search, zone, near, publics, privates)?;
+    Ok(found)
+}
+
+impl Heuristic for LmCut {
+    ghost use Rattle.mp_task.specs.Limits.{IsWithinLimits};
+    ghost use Rattle.mp_lmcut.specs.Laws.Rounds.{lmcut_is_admissible, lmcut_is_dead, lmcut_is_small};
+
+    ghost is_for = { λ h t. (repriced h.costs.items h.problem ≡ delete_relaxation t) × IsWithinLimits t };
+
+    ghost value = { lmcut };
+
+    fn make(alloc: Global, task: &Task) -> Result<LmCut, OutOfMemory> {
+        let problem = Relaxed::of(alloc, task)?;
+        let costs = problem.costs(alloc)?;
+        let adders = problem.adders(alloc)?;
+        let search = Search::new(alloc, &problem)?;
+        let _ = problem.operators();
+        Ok(LmCut {
+            problem,
+            costs,
+            adders,
+            search,
+            zone: Marks::new(alloc),
+            near: Marks::new(alloc),
+        })
+    }
+
+    fn value(&mut self, publics: &Bits, privates: &Bits) -> Result<Option<u64>, OutOfMemory> {
+        estimate(
+            &mut self.problem,
+            self.costs.as_slice(),
+            self.adders.as_slice(),
+            &mut self.search,
+            &mut self.zone,
+            &mut self.near,
+            publics,
+            privates,
+        )
+    }
+
+    ghost small = { lmcut_is_small };
+
+    ghost dead = { λ t p q _ e plan. lmcut_is_dead t p q plan e };
+
+    ghost admissible = { λ t p q _ plan. lmcut_is_admissible t p q plan };
+}
