@@ -139,7 +139,7 @@ leads_from_users v os zone x users flags has done = λ k d lt led.
     let member : list_any (λ y. eqb y x) o.pre ≡ true = All_at (λ z. list_any (λ y. eqb y z) o.pre ≡ true) (support v o.pre) x (support_among v o.pre) ((and_parts _ _ there).1) in
     let often : 1 ≤ times x (operator_at os k).pre = times_any x (operator_at os k).pre member in
     let listed : times x (operator_at os k).pre ≡ times k users = has k lt in
-    let named : 1 ≤ times k users = omega (arith, often, listed) in
+    let named : 1 ≤ times k users = subst (λ n. 1 ≤ n) listed often in
     subst (λ (q : Operator). AreMarkedOutside zone q flags) (sym same)
     (at_times (λ j. is_led_by v (operator_at os j) x ≡ true → AreMarkedOutside zone (operator_at os j) flags) k users done named there)
 

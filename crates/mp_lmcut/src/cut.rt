@@ -1,7 +1,7 @@
 //! The cut of a round: which operators are in it, what it costs, and what they cost afterwards.
 
 ghost use Rattle.std.specs.Prelude.{◌≡◌, ◌<◌, ◌≤◌, ℕ, All, Some, false, length, true, if◌then◌else◌};
-ghost use Rattle.std.specs.List.{list_all, list_any};
+ghost use Rattle.std.specs.List.{list_all};
 ghost use Rattle.std.specs.Option.{unwrap_or};
 ghost use Rattle.mp_estimates.specs.Estimates.{lesser};
 ghost use Rattle.mp_relaxed.specs.Relaxed.{operator_at, with_cheaper};
@@ -26,19 +26,6 @@ fn is_from(numbers: &[u64], pre: &[u32], near: &Marks) -> bool
     }
 }
 
-/// Whether one of some facts is marked.
-fn is_into(add: &[u32], zone: &Marks) -> bool
-    requires { All (λ x. x < length zone.now.flags) add.now }
-    ensures { result ≡ list_any (is_marked zone.now.flags) add.now }
-{
-    for x in add {
-        if zone.has(*x) {
-            return true;
-        }
-    }
-    false
-}
-
 /// Whether an operator is in the cut.
 fn is_in_cut(problem: &Relaxed, numbers: &[u64], zone: &Marks, near: &Marks, k: u32) -> bool
     requires operator { k < length problem.now.operators }
@@ -49,7 +36,7 @@ fn is_in_cut(problem: &Relaxed, numbers: &[u64], zone: &Marks, near: &Marks, k: 
         (operator_at problem.now.operators k) }
 {
     are_valued(numbers, problem.pre(k))
-        && (is_from(numbers, problem.pre(k), near) && is_into(problem.add(k), zone))
+        && (is_from(numbers, problem.pre(k), near) && zone.has_one_of(problem.add(k)))
 }
 
 /// The lesser one of a cost, if there is one, and another.

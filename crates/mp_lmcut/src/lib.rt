@@ -7,6 +7,7 @@ mod lmcut;
 mod marks;
 mod near;
 mod rounds;
+mod sides;
 mod supports;
 mod zone;
 

@@ -6,8 +6,8 @@ ghost use Rattle.mp_relaxed.specs.Relaxed.{RelaxedProblem, delete_relaxation};
 ghost use Rattle.mp_lmcut.specs.Cut.{lmcut};
 ghost use Rattle.mp_lmcut.specs.Sides.{AreAdders, costless, repriced};
 
-use crate::marks::Marks;
 use crate::rounds::value_of;
+use crate::sides::Sides;
 use mp_list::{List, OutOfMemory};
 use mp_relaxed::{Relaxed, Search};
 use mp_sets::Bits;
@@ -22,8 +22,7 @@ pub struct LmCut {
     costs: Vec<u64>,
     adders: Vec<List<u32>>,
     search: Search,
-    zone: Marks,
-    near: Marks,
+    sides: Sides,
     ghost priced: { length costs.items ≡ length problem.operators },
     ghost cheap: { All (λ c. c ≤ 16000000) costs.items },
     ghost added: { AreAdders problem.operators problem.facts adders.items },
@@ -38,8 +37,7 @@ impl Drop for LmCut {
             costs: _,
             adders: _,
             search: _,
-            zone: _,
-            near: _,
+            sides: _,
         } = self;
     }
 }
@@ -59,8 +57,7 @@ fn estimate(
     costs: &[u64],
     adders: &[List<u32>],
     search: &mut Search,
-    zone: &mut Marks,
-    near: &mut Marks,
+    sides: &mut Sides,
     publics: &Bits,
     privates: &Bits,
 ) -> Result<Option<u64>, OutOfMemory>
@@ -79,7 +76,7 @@ fn estimate(
     ensures sized { length search.new.numbers ≡ length search.old.numbers }
 {
     set_back(problem, costs);
-    let found = value_of(problem, adders, search, zone, near, publics, privates)?;
+    let found = value_of(problem, adders, search, sides, publics, privates)?;
     Ok(found)
 }
 
@@ -102,8 +99,7 @@ impl Heuristic for LmCut {
             costs,
             adders,
             search,
-            zone: Marks::new(alloc),
-            near: Marks::new(alloc),
+            sides: Sides::new(alloc),
         })
     }
 
@@ -113,8 +109,7 @@ impl Heuristic for LmCut {
             self.costs.as_slice(),
             self.adders.as_slice(),
             &mut self.search,
-            &mut self.zone,
-            &mut self.near,
+            &mut self.sides,
             publics,
             privates,
         )

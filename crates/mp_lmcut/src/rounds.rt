@@ -9,8 +9,8 @@ ghost use Rattle.mp_lmcut.specs.Cut.{cut_cost, cuts, is_positive, lmcut_of, lowe
 ghost use Rattle.mp_lmcut.specs.Sides.{AreAdders, costless};
 
 use crate::cut::pay;
-use crate::marks::Marks;
 use crate::near::mark_near;
+use crate::sides::Sides;
 use crate::zone::mark_zone;
 use mp_list::{List, OutOfMemory};
 use mp_relaxed::{Relaxed, Search};
@@ -32,8 +32,7 @@ fn lower(
     problem: &mut Relaxed,
     numbers: &[u64],
     adders: &[List<u32>],
-    zone: &mut Marks,
-    near: &mut Marks,
+    sides: &mut Sides,
     publics: &Bits,
     privates: &Bits,
 ) -> Result<u64, OutOfMemory>
@@ -55,10 +54,17 @@ fn lower(
     ensures small { IfOk result (λ cost. cost ≤ 16000000) }
     ensures kept { costless problem.new ≡ costless problem.old }
 {
-    mark_zone(problem, numbers, adders, zone)?;
-    mark_near(problem, numbers, zone, publics, privates, near)?;
+    mark_zone(problem, numbers, adders, &mut sides.zone)?;
+    mark_near(
+        problem,
+        numbers,
+        &sides.zone,
+        publics,
+        privates,
+        &mut sides.near,
+    )?;
     let _ = problem.operators();
-    Ok(pay(problem, numbers, zone, near))
+    Ok(pay(problem, numbers, &sides.zone, &sides.near))
 }
 
 /// Plays a round: where the goals cost something, it makes the operators of the cut cheaper by what the cut costs, and
@@ -67,8 +73,7 @@ fn round(
     problem: &mut Relaxed,
     adders: &[List<u32>],
     search: &mut Search,
-    zone: &mut Marks,
-    near: &mut Marks,
+    sides: &mut Sides,
     publics: &Bits,
     privates: &Bits,
 ) -> Result<Option<u64>, OutOfMemory>
@@ -95,8 +100,7 @@ fn round(
         problem,
         search.numbers(),
         adders,
-        zone,
-        near,
+        sides,
         publics,
         privates,
     )?;
@@ -109,8 +113,7 @@ fn play(
     problem: &mut Relaxed,
     adders: &[List<u32>],
     search: &mut Search,
-    zone: &mut Marks,
-    near: &mut Marks,
+    sides: &mut Sides,
     publics: &Bits,
     privates: &Bits,
 ) -> Result<u64, OutOfMemory>
@@ -128,7 +131,7 @@ fn play(
 {
     let mut total = 0;
     for _ in 0..problem.operators() {
-        let Some(cost) = round(problem, adders, search, zone, near, publics, privates)? else {
+        let Some(cost) = round(problem, adders, search, sides, publics, privates)? else {
             return Ok(total);
         };
         total += cost;
@@ -151,8 +154,7 @@ pub(crate) fn value_of(
     problem: &mut Relaxed,
     adders: &[List<u32>],
     search: &mut Search,
-    zone: &mut Marks,
-    near: &mut Marks,
+    sides: &mut Sides,
     publics: &Bits,
     privates: &Bits,
 ) -> Result<Option<u64>, OutOfMemory>
@@ -169,6 +171,6 @@ pub(crate) fn value_of(
 {
     search.find(problem, publics, privates)?;
     let found = search.greatest(problem.goals());
-    let total = play(problem, adders, search, zone, near, publics, privates)?;
+    let total = play(problem, adders, search, sides, publics, privates)?;
     Ok(with_total(found, total))
 }
