@@ -1,4 +1,5 @@
--- marks and a search by them; supports; the goal zone; the near side; the cut; problems at other costs; deletes; rounds
+-- marks and a search by them; supports; the goal zone; the near side; the cut; problems at other costs; deletes; rounds;
+-- how rounds end
 pub mod MarkLemmas
 pub mod SupportLemmas
 pub mod ZoneLemmas
@@ -7,3 +8,4 @@ pub mod CutLemmas
 pub mod CostLemmas
 pub mod DeleteLemmas
 pub mod RoundLemmas
+pub mod EndLemmas

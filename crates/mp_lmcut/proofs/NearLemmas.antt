@@ -1,9 +1,8 @@
 -- The near side by marks.
-use Rattle.std.proofs.Common.{◌≡◌, ℕ, ◌+◌, ◌-◌, ◌<◌, ◌≤◌, Bool, true, false, cond, not, eqb, ltb, ◌&&◌, ◌||◌, List, [], ◌∷◌, ◌++◌, length, map, get_or, All, Contains, IsTrue, refl, sym, ap, ◌∙◌, subst, ⊎_elim, arith}
+use Rattle.std.proofs.Common.{◌≡◌, ℕ, ◌+◌, ◌-◌, ◌<◌, ◌≤◌, Bool, true, false, cond, not, eqb, ltb, ◌&&◌, ◌||◌, List, [], ◌∷◌, ◌++◌, length, get_or, All, IsTrue, refl, sym, ap, ◌∙◌, subst, ⊎_elim, arith}
 use Rattle.std.proofs.lemmas.Bool.{and_from, and_parts, both_ways, cases_Bool, cases_lt, eq-eqb, eqb-true, false_from_ne_true, false≢true, le-ltb, lt-ltb, not-true, not_from_false, or_left}
 use Rattle.std.proofs.lemmas.List.{get_or_default}
-use Rattle.std.proofs.lemmas.List.Elements.{All-filter, All-map, Contains-get_or, filter_passes}
-use Rattle.std.proofs.lemmas.List.Sums.{AllPass-from_list_all, list_all-from_AllPass}
+use Rattle.std.proofs.lemmas.List.Elements.{All-filter, All-map, filter_passes}
 use Rattle.std.specs.FinSet as set
 use Rattle.std.specs.List.{filter, list_all, list_any}
 use Rattle.mp_sets.specs.Numbers.{Numbers}
@@ -14,7 +13,7 @@ use Rattle.mp_relaxed.specs.Relaxed.{HasFree, HasUsers, RelaxedProblem, operator
 use Rattle.mp_relaxed.specs.Users.{times}
 use Rattle.mp_relaxed.specs.Values.{Values, adds}
 use Rattle.mp_relaxed.proofs.TimesLemmas.{times_contained}
-use Rattle.mp_lmcut.specs.Cut.{all_valued, avoiding, edge, in_zone, is_near, leads, possible, support}
+use Rattle.mp_lmcut.specs.Cut.{all_valued, avoiding, edge, in_zone, is_near, possible, support}
 use Rattle.mp_lmcut.specs.Marks.{MarkLists}
 use Rattle.mp_lmcut.specs.Marked.{HasGrown, IsReaching, is_marked, weight}
 use Rattle.mp_lmcut.specs.Sides.{AreMarkedOutside, IsLed, IsLedFree, IsMember, IsNearSide, IsZone, LeadsOn, Supports, is_led_by}
@@ -23,7 +22,7 @@ use Rattle.mp_lmcut.specs.Laws.Leading.{leads_on, leads_only, leads_to_start}
 use Rattle.mp_lmcut.specs.Laws.Supports.{IsSupport, supported, support_among}
 use Rattle.mp_lmcut.specs.Laws.Supports.IsSupport.{none, one}
 use Rattle.mp_lmcut.proofs.MarkLemmas.{grown_weaker, marked_below, popped_marked, reaching_grown, reaching_none, reaching_step, weight_falls}
-use Rattle.mp_lmcut.proofs.ZoneLemmas.{at_times, list_all_more, times_any}
+use Rattle.mp_lmcut.proofs.ZoneLemmas.{at_times, times_any}
 
 -- a support that passes a test is all of the list that it stands in
 pub support_passes : (v : Values) (pre : List ℕ) (x : ℕ) (p : ℕ → Bool) → Supports v pre x → p x ≡ true → list_all p (support v pre) ≡ true

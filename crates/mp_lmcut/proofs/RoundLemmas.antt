@@ -1,5 +1,5 @@
 -- Rounds: what the marks say of the cut, and what is left after a round.
-use Rattle.std.proofs.Common.{◌≡◌, ℕ, zero, suc, ◌+◌, ◌-◌, ◌*◌, ◌<◌, ◌≤◌, Bool, true, false, cond, ◌&&◌, Option, Some, None, option_map, List, length, map, All, refl, sym, ap, ◌∙◌, arith}
+use Rattle.std.proofs.Common.{◌≡◌, ℕ, suc, ◌+◌, ◌≤◌, Bool, true, false, cond, ◌&&◌, Option, Some, None, option_map, List, length, map, All, refl, sym, ap, ◌∙◌}
 use Rattle.std.proofs.lemmas.List.Elements.{All-filter, All-map}
 use Rattle.std.specs.List.{filter, list_all, list_any}
 use Rattle.std.specs.Option.{unwrap_or}
@@ -9,7 +9,7 @@ use Rattle.mp_task.specs.Projected.{projected, projected_state}
 use Rattle.mp_task.specs.Strips.{Operator}
 use Rattle.mp_relaxed.specs.Relaxed.{RelaxedProblem, delete_relaxation, state_of}
 use Rattle.mp_relaxed.specs.Search.{value_at}
-use Rattle.mp_relaxed.specs.Values.{Values, fact_values, greatest}
+use Rattle.mp_relaxed.specs.Values.{fact_values, greatest}
 use Rattle.mp_lmcut.specs.Cut.{all_valued, cheaper_where, cut_cost, cuts, in_cut, is_positive, least, lmcut, lmcut_of, lowered, support}
 use Rattle.mp_lmcut.specs.Sides.{IsNearSide, IsZone, is_between, least_where}
 use Rattle.mp_lmcut.specs.Laws.Costs.{least_small}
@@ -47,7 +47,7 @@ unfolding cuts
 cuts_end os goals s e rounds =
     λ i. cond (e i) (cut_cost (fact_values os s) os goals s + cuts rounds (lowered (fact_values os s) os goals s) goals s) 0
 
-cuts_go_on : (os : List Operator) (goals : List ℕ) (s : Numbers) → is_positive (greatest (fact_values os s) goals) ≡ true → (rounds : ℕ) → cuts (suc rounds) os goals s ≡ cut_cost (fact_values os s) os goals s + cuts rounds (lowered (fact_values os s) os goals s) goals s
+pub cuts_go_on : (os : List Operator) (goals : List ℕ) (s : Numbers) → is_positive (greatest (fact_values os s) goals) ≡ true → (rounds : ℕ) → cuts (suc rounds) os goals s ≡ cut_cost (fact_values os s) os goals s + cuts rounds (lowered (fact_values os s) os goals s) goals s
 unfolding cuts
 cuts_go_on os goals s e rounds =
     λ i. cond (e i) (cut_cost (fact_values os s) os goals s + cuts rounds (lowered (fact_values os s) os goals s) goals s) 0

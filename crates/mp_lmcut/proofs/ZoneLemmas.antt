@@ -1,6 +1,6 @@
 -- The goal zone by marks.
-use Rattle.std.proofs.Common.{◌≡◌, ℕ, ◌+◌, ◌<◌, ◌≤◌, Bool, true, false, cond, eqb, ◌&&◌, ◌||◌, List, [], ◌∷◌, ◌++◌, length, map, get_or, All, Contains, refl, sym, ap, ◌∙◌, subst, ⊎_elim, arith}
-use Rattle.std.proofs.lemmas.Bool.{and_from, and_parts, both_ways, cases_Bool, cases_eq, eqb-true, eqb-false, false_from_ne_true, false≢true}
+use Rattle.std.proofs.Common.{◌≡◌, ℕ, ◌+◌, ◌<◌, ◌≤◌, Bool, true, false, cond, eqb, ◌||◌, List, [], ◌∷◌, ◌++◌, length, map, get_or, All, refl, sym, ap, ◌∙◌, subst, ⊎_elim, arith}
+use Rattle.std.proofs.lemmas.Bool.{and_from, and_parts, both_ways, cases_Bool, false_from_ne_true, false≢true}
 use Rattle.std.proofs.lemmas.List.{get_or_default}
 use Rattle.std.proofs.lemmas.List.Elements.{All-cons, All-filter, All-head, All-map, All-nil, All-tail, Contains-get_or, filter_passes}
 use Rattle.std.proofs.lemmas.List.Sums.{AllPass-from_list_all, list_all-from_AllPass}
@@ -13,7 +13,7 @@ use Rattle.mp_relaxed.specs.Relaxed.{HasAdders, operator_at}
 use Rattle.mp_relaxed.specs.Users.{times}
 use Rattle.mp_relaxed.specs.Values.{Values, adds}
 use Rattle.mp_relaxed.proofs.TimesLemmas.{times_contained}
-use Rattle.mp_lmcut.specs.Cut.{all_valued, edge, in_zone, leads, possible, support, turned}
+use Rattle.mp_lmcut.specs.Cut.{all_valued, edge, in_zone, possible, support, turned}
 use Rattle.mp_lmcut.specs.Marked.{is_marked}
 use Rattle.mp_lmcut.specs.Sides.{IsTurned, IsZone, Supports, TurnsBack, is_free}
 use Rattle.mp_lmcut.specs.Laws.Lists.{All-flat_map, All_filtered, All_mapped}

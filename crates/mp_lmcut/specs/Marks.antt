@@ -1,5 +1,5 @@
 -- Facts that are marked, and those of them from which what they lead to is still to be marked.
-use Rattle.std.specs.Prelude.{◌≡◌, ◌⊎◌, ℕ, zero, suc, ◌+◌, ◌*◌, ◌≤◌, Bool, true, false, List, [], ◌∷◌, length, Contains, slice_index_or, if◌then◌else◌}
+use Rattle.std.specs.Prelude.{ℕ, Bool, List}
 use Rattle.mp_lmcut.specs.declared.marks.Marks.TheInside.{Inside}
 
 pub record MarkLists : Type 0 where

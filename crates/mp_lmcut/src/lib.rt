@@ -11,5 +11,5 @@ mod sides;
 mod supports;
 mod zone;
 
-pub use laws::cuts_are_paid;
+pub use laws::{cuts_are_paid, rounds_end};
 pub use lmcut::LmCut;

@@ -96,14 +96,7 @@ fn round(
     if !is_left(search.greatest(problem.goals())) {
         return Ok(None);
     }
-    let cost = lower(
-        problem,
-        search.numbers(),
-        adders,
-        sides,
-        publics,
-        privates,
-    )?;
+    let cost = lower(problem, search.numbers(), adders, sides, publics, privates)?;
     Ok(Some(cost))
 }
 

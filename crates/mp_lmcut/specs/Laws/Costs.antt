@@ -1,7 +1,6 @@
 -- What plans cost where operators have other costs: the plans are the same, and costs part.
-use Rattle.std.proofs.Common.{◌≡◌, ℕ, zero, suc, ◌+◌, ◌-◌, ◌≤◌, Bool, true, false, cond, min, get_or, Option, Some, None, option_map, List, [], ◌∷◌, map, All, refl, sym, ap, ◌∙◌, subst, zero-le, arith}
-use Rattle.std.proofs.lemmas.Bool.{false≢true}
-use Rattle.std.proofs.lemmas.List.Elements.{All-contains, All-cons, All-head, All-nil, All-tail}
+use Rattle.std.proofs.Common.{◌≡◌, ℕ, zero, suc, ◌+◌, ◌≤◌, Bool, true, get_or, Option, Some, None, option_map, List, [], ◌∷◌, map, All, refl, sym, ap, ◌∙◌, subst, zero-le, arith}
+use Rattle.std.proofs.lemmas.List.Elements.{All-contains, All-cons, All-head, All-nil}
 use Rattle.std.specs.List.{filter, slice_get}
 use Rattle.std.specs.Option.{option_and_then, option_map_or, unwrap_or, IsSomeAnd}
 use Rattle.mp_runs.specs.Run.{run}
@@ -11,8 +10,8 @@ use Rattle.mp_sets.specs.Numbers.{Numbers, holds}
 use Rattle.mp_task.specs.Strips.{Operator, Problem, after_operator, strips_system}
 use Rattle.mp_task.proofs.Agreeing.{Contains-slice_get}
 use Rattle.mp_estimates.specs.Estimates.{AtMost, lesser}
-use Rattle.mp_estimates.specs.Laws.Order.{AtMost-refl, AtMost-trans, lesser_left, lesser_right}
-use Rattle.mp_lmcut.specs.Cut.{least, priced_by, cheaper_where}
+use Rattle.mp_estimates.specs.Laws.Order.{AtMost-trans, lesser_left, lesser_right}
+use Rattle.mp_lmcut.specs.Cut.{least, priced_by}
 use Rattle.mp_lmcut.specs.Laws.Lists.{All_filtered, All_mapped}
 
 -- a problem with other operators

@@ -1,6 +1,6 @@
 -- What operators lead to: it is closed under them, and nothing else is in it.
-use Rattle.std.proofs.Common.{◌≡◌, ℕ, ◌+◌, Bool, true, false, cond, max, get_or, Option, Some, None, option_map, List, [], ◌∷◌, ◌&&◌, length, All, refl, sym, ap, ◌∙◌, subst}
-use Rattle.std.proofs.lemmas.Bool.{false≢true, true≢false, and_parts}
+use Rattle.std.proofs.Common.{◌≡◌, ℕ, ◌+◌, Bool, true, false, cond, max, get_or, Option, Some, None, option_map, List, [], ◌∷◌, ◌&&◌, length, All, refl, sym, ap, subst}
+use Rattle.std.proofs.lemmas.Bool.{false≢true, true≢false}
 use Rattle.std.specs.FinSet as set
 use Rattle.std.specs.List.{list_all}
 use Rattle.std.specs.Option.{is_some}

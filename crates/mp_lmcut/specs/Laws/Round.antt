@@ -1,7 +1,7 @@
 -- One round, where the goals cost something: what is in the goal zone is dear, the near side is outside it, and a step
 -- from the near side that leaves it is one of the cut. So every plan pays for the cut.
-use Rattle.std.proofs.Common.{◌≡◌, ℕ, zero, suc, ◌+◌, ◌≤◌, Bool, true, false, cond, not, eqb, leb, ◌&&◌, ◌||◌, ◌⊎◌, inl, inr, get_or, Option, Some, None, option_map, List, [], ◌∷◌, map, All, refl, sym, ap, ◌∙◌, subst, ⊎_elim, arith}
-use Rattle.std.proofs.lemmas.Bool.{false≢true, true≢false, and_parts, and_from, both_ways, eqb-true, false_from_ne_true, lt-leb, le-leb, not-true, not_from_false, or_left, eq-eqb}
+use Rattle.std.proofs.Common.{◌≡◌, ℕ, suc, ◌+◌, Bool, true, false, cond, not, eqb, leb, ◌&&◌, ◌⊎◌, inl, inr, get_or, Option, Some, None, option_map, List, [], ◌∷◌, map, All, refl, sym, ap, ◌∙◌, subst, ⊎_elim, arith}
+use Rattle.std.proofs.lemmas.Bool.{true≢false, and_parts, and_from, both_ways, eqb-true, false_from_ne_true, lt-leb, le-leb, not-true, not_from_false, or_left, eq-eqb}
 use Rattle.std.proofs.lemmas.List.Elements.{All-filter, All-map, filter_passes}
 use Rattle.std.proofs.lemmas.List.Sums.{AllPass-from_list_all, list_all-from_AllPass}
 use Rattle.std.specs.FinSet as set
@@ -15,7 +15,7 @@ use Rattle.mp_estimates.specs.Laws.Order.{AtMost-refl, AtMost-trans, zero_AtMost
 use Rattle.mp_relaxed.specs.Values.{Values, greatest, cost_by, adds, least_cost, next_values, fact_values}
 use Rattle.mp_relaxed.specs.Laws.Equations.{least_above}
 use Rattle.mp_relaxed.specs.Laws.Bounds.{start_zero}
-use Rattle.mp_lmcut.specs.Cut.{leads, edge, support, all_valued, possible, turned, in_zone, avoiding, is_near, in_cut, priced_by}
+use Rattle.mp_lmcut.specs.Cut.{edge, support, all_valued, possible, turned, in_zone, avoiding, is_near, in_cut, priced_by}
 use Rattle.mp_lmcut.specs.Laws.Lists.{All-flat_map, All_mapped, All_filtered, any_filtered, any_passes}
 use Rattle.mp_lmcut.specs.Laws.Leading.{some_at_most, adds_low, adds_valued, leads_to_start, leads_on, leads_only}
 use Rattle.mp_lmcut.specs.Laws.Supports.{IsSupport, supported, support_value, support_among}
@@ -179,7 +179,7 @@ module _ (os : List Operator) (s : Numbers) (goals : List ℕ) where
         by o ready x adding edges false e =
             inl (edges (near_all o ready) (near_support o ready) x (any_filtered (λ y. not (zone y)) x o.add adding (not_from_false (zone x) e)))
 
-    near_start : (x : ℕ) → set.contains s x ≡ true → near x ≡ true
+    pub near_start : (x : ℕ) → set.contains s x ≡ true → near x ≡ true
     unfolding is_near
     near_start x member = leads_to_start (avoiding zone v os) s x member
 

@@ -1,8 +1,7 @@
 -- All rounds: the costs of their cuts together are at most the cost of each plan, and small.
-use Rattle.std.proofs.Common.{◌≡◌, ℕ, zero, suc, ◌+◌, ◌-◌, ◌*◌, ◌^◌, ◌<◌, ◌≤◌, Bool, true, false, cond, ltb, get_or, Option, Some, None, option_map, List, length, All, refl, sym, ap, ◌∙◌, subst, zero-le, arith}
+use Rattle.std.proofs.Common.{◌≡◌, ℕ, zero, suc, ◌+◌, ◌-◌, ◌*◌, ◌^◌, ◌<◌, ◌≤◌, Bool, true, false, cond, get_or, Option, Some, None, option_map, List, length, All, refl, sym, ap, subst, zero-le, arith}
 use Rattle.std.proofs.lemmas.Bool.{lt-ltb}
 use Rattle.std.proofs.lemmas.List.Elements.{All-filter, All-map}
-use Rattle.std.specs.FinSet as set
 use Rattle.std.specs.Option.{IfSome}
 use Rattle.mp_runs.specs.System.{IsPlanFrom, plan_cost}
 use Rattle.mp_sets.specs.Numbers.{Numbers}
@@ -13,11 +12,11 @@ use Rattle.mp_task.specs.Seen.{seen_system}
 use Rattle.mp_task.specs.Strips.{Operator, Problem, strips_system}
 use Rattle.mp_estimates.specs.Estimates.{AtMost}
 use Rattle.mp_estimates.specs.Laws.Order.{AtMost-refl, AtMost-trans}
-use Rattle.mp_relaxed.specs.Values.{Values, greatest, next_values, fact_values}
+use Rattle.mp_relaxed.specs.Values.{Values, greatest, fact_values}
 use Rattle.mp_relaxed.specs.Laws.Rounds.{settled}
 use Rattle.mp_relaxed.specs.Laws.Bounds.{at_most_plans, costs_fit, operators_fit, start_zero}
 use Rattle.mp_lmcut.specs.Cut.{in_cut, cut_cost, lowered, is_positive, cuts, lmcut, priced_by}
-use Rattle.mp_lmcut.specs.Laws.Round.{far, far_low, far_start, goals_cost, of_cut}
+use Rattle.mp_lmcut.specs.Laws.Round.{far, far_low, far_start, goals_cost}
 use Rattle.mp_lmcut.specs.Laws.Costs.{with_operators, still_plans, costs_part, least_of_some, least_small}
 
 module _ (p : Problem) (s : Numbers) where

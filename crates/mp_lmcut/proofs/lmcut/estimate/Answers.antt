@@ -1,6 +1,5 @@
-use Rattle.std.proofs.Common.{◌≡◌, length, ap, sym, ◌∙◌, arith}
-use Rattle.mp_relaxed.specs.Relaxed.{RelaxedProblem}
-use Rattle.mp_lmcut.specs.Sides.{costless, repriced}
+use Rattle.std.proofs.Common.{ap, sym, ◌∙◌, arith}
+use Rattle.mp_lmcut.specs.Sides.{costless}
 use Rattle.mp_lmcut.proofs.CostLemmas.{as_many, costless_repriced, same_adders}
 use Rattle.mp_lmcut.proofs.RoundLemmas.{lmcut_found}
 use Rattle.mp_lmcut.proofs.lmcut.estimate.Goals as goal

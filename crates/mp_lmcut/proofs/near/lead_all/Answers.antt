@@ -1,4 +1,4 @@
-use Rattle.std.proofs.Common.{◌≡◌, ℕ, ◌<◌, true, get_or, length, below_more, ◌∙◌, arith}
+use Rattle.std.proofs.Common.{◌≡◌, true, get_or, below_more, ◌∙◌, arith}
 use Rattle.mp_relaxed.specs.Relaxed.{operator_at}
 use Rattle.mp_relaxed.specs.Search.{value_at}
 use Rattle.mp_lmcut.specs.Sides.{AreMarkedOutside, IsLed, is_led_by}

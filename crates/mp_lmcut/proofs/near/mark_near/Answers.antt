@@ -1,11 +1,11 @@
-use Rattle.std.proofs.Common.{◌≡◌, ℕ, ◌+◌, ◌<◌, ◌++◌, ◌∷◌, [], IsTrue, true, ap, sym, ◌∙◌, subst, length, arith}
+use Rattle.std.proofs.Common.{◌≡◌, ℕ, ◌+◌, IsTrue, true, ap, sym, ◌∙◌, subst, length, arith}
 use Rattle.std.specs.FinSet as set
 use Rattle.mp_relaxed.specs.Relaxed.{operator_at, state_of}
 use Rattle.mp_relaxed.specs.Search.{value_at}
 use Rattle.mp_lmcut.specs.Marked.{HasGrown, is_marked}
 use Rattle.mp_lmcut.specs.Sides.{IsMember, IsNearSide, LeadsOn}
 use Rattle.mp_lmcut.proofs.MarkLemmas.{reached_all}
-use Rattle.mp_lmcut.proofs.NearLemmas.{NearBy, leads_kept, near_begun, near_falls, near_inside, near_kept, near_marked, near_sized, near_step, outside_kept, state_begun}
+use Rattle.mp_lmcut.proofs.NearLemmas.{NearBy, leads_kept, near_begun, near_falls, near_inside, near_kept, near_marked, near_step, outside_kept, state_begun}
 use Rattle.mp_lmcut.proofs.near.mark_near.Goals as goal
 
 pub facts-init : goal.facts-init

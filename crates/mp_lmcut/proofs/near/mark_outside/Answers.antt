@@ -1,4 +1,4 @@
-use Rattle.std.proofs.Common.{◌≡◌, ℕ, ◌<◌, true, false, get_or, length, below_more, eqb, ap, sym, ◌∙◌, subst, arith}
+use Rattle.std.proofs.Common.{◌≡◌, ◌<◌, true, false, get_or, length, below_more, eqb, ap, sym, ◌∙◌, subst, arith}
 use Rattle.std.specs.List.{list_any}
 use Rattle.mp_sets.proofs.NumbersLemmas.{among_itself}
 use Rattle.mp_relaxed.specs.Relaxed.{operator_at}

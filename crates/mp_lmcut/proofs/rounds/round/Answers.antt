@@ -1,8 +1,6 @@
-use Rattle.std.proofs.Common.{◌≡◌, true, false, ap, sym, ◌∙◌}
-use Rattle.std.proofs.lemmas.Bool.{not-true}
+use Rattle.std.proofs.Common.{ap, sym, ◌∙◌}
 use Rattle.mp_relaxed.specs.Relaxed.{state_of}
-use Rattle.mp_relaxed.specs.Search.{value_at}
-use Rattle.mp_relaxed.specs.Values.{fact_values, greatest}
+use Rattle.mp_relaxed.specs.Values.{greatest}
 use Rattle.mp_lmcut.specs.Cut.{is_positive}
 use Rattle.mp_lmcut.proofs.RoundLemmas.{cuts_end, cuts_more}
 use Rattle.mp_lmcut.proofs.rounds.round.Goals as goal

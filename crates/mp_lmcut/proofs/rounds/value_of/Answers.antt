@@ -1,4 +1,4 @@
-use Rattle.std.proofs.Common.{◌≡◌, option_map, ◌∙◌}
+use Rattle.std.proofs.Common.{option_map, ◌∙◌}
 use Rattle.mp_relaxed.specs.Values.{greatest}
 use Rattle.mp_lmcut.proofs.rounds.value_of.Goals as goal
 

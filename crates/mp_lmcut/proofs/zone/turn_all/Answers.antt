@@ -1,4 +1,4 @@
-use Rattle.std.proofs.Common.{◌≡◌, ℕ, true, get_or, below_more, arith, length}
+use Rattle.std.proofs.Common.{◌≡◌, true, get_or, below_more, arith}
 use Rattle.mp_relaxed.specs.Relaxed.{operator_at}
 use Rattle.mp_relaxed.specs.Search.{value_at}
 use Rattle.mp_lmcut.specs.Cut.{in_zone}

@@ -1,4 +1,4 @@
-use Rattle.std.proofs.Common.{◌≡◌, ◌≤◌, length, map, All, ap, sym, ◌∙◌, subst}
+use Rattle.std.proofs.Common.{◌≤◌, All, sym, ◌∙◌, subst}
 use Rattle.std.proofs.lemmas.List.Elements.{All-map}
 use Rattle.mp_task.specs.Strips.{Operator}
 use Rattle.mp_lmcut.proofs.CostLemmas.{repriced_own}

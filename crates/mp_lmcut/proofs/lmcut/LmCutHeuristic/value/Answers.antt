@@ -1,4 +1,4 @@
-use Rattle.std.proofs.Common.{◌≡◌, sym, ◌∙◌}
+use Rattle.std.proofs.Common.{sym, ◌∙◌}
 use Rattle.mp_lmcut.proofs.CostLemmas.{as_many, as_many_facts, same_adders, same_priced}
 use Rattle.mp_lmcut.proofs.lmcut.LmCutHeuristic.value.Goals as goal
 

@@ -1,4 +1,3 @@
-use Rattle.std.proofs.Common.{arith}
 use Rattle.mp_lmcut.proofs.MarkLemmas.{mark_grows, mark_here}
 use Rattle.mp_lmcut.proofs.marks.Marks.mark.Goals as goal
 
