@@ -133,16 +133,18 @@ module _ (agents a : ℕ) (net : Network) (sound : IsSound agents net) (is_a : I
   pub sound_signed : IsSound agents net_signed
   sound_signed = record {
     pairs = pairs;
-    own = of_list (λ agent list. All (λ (s : Stamped). IsOwn agents agent s.entry) list)
-        (All-append (λ (s : Stamped). IsOwn agents a s.entry) (net.lists a) new (sound.own a is_a) (all_own agents a (clock (net.lists a)) batch signable))
-        sound.own;
-    rise = of_list (λ agent list. Rises list)
-        (rises_more (clock (net.lists a)) (net.lists a) new (sound.rise a is_a) (below_last 0 (net.lists a) (sound.rise a is_a))
-        (batch_rises (clock (net.lists a)) batch) (batch_above (clock (net.lists a)) batch))
-        sound.rise;
-    bound = of_list (λ agent list. All (λ (s : Stamped). s.stamp ≤ greatest_stamp s.entry) list)
-        (All-append (λ (s : Stamped). s.stamp ≤ greatest_stamp s.entry) (net.lists a) new (sound.bound a is_a) (batch_bound (clock (net.lists a)) batch fits))
-        sound.bound;
+    lists = record {
+      own = of_list (λ agent list. All (λ (s : Stamped). IsOwn agents agent s.entry) list)
+          (All-append (λ (s : Stamped). IsOwn agents a s.entry) (net.lists a) new (sound.lists.own a is_a) (all_own agents a (clock (net.lists a)) batch signable))
+          sound.lists.own;
+      rise = of_list (λ agent list. Rises list)
+          (rises_more (clock (net.lists a)) (net.lists a) new (sound.lists.rise a is_a) (below_last 0 (net.lists a) (sound.lists.rise a is_a))
+          (batch_rises (clock (net.lists a)) batch) (batch_above (clock (net.lists a)) batch))
+          sound.lists.rise;
+      bound = of_list (λ agent list. All (λ (s : Stamped). s.stamp ≤ greatest_stamp s.entry) list)
+          (All-append (λ (s : Stamped). s.stamp ≤ greatest_stamp s.entry) (net.lists a) new (sound.lists.bound a is_a) (batch_bound (clock (net.lists a)) batch fits))
+          sound.lists.bound;
+    };
     rows = λ post is. dite (ℕ_discrete post a)
         (λ same. ap (λ (k : Kept). length k.waiting) (ap net_signed.posts same ∙ put_here net.posts a (with_puts a new (net.posts a)))
         ∙ (rows_same a 1 new (net.posts a).waiting ∙ sound.rows a is_a))

@@ -38,9 +38,9 @@ module _ (agents id : ℕ) (v : View) (s : State Home View) (k : IsKept agents s
 
   pub lists_match : Matched (lists_of v)
   lists_match = record {
-    rise = λ agent is. subst Rises (sym (same agent (one_of agent is))) (k.sound.rise agent (one_of agent is));
+    rise = λ agent is. subst Rises (sym (same agent (one_of agent is))) (k.sound.lists.rise agent (one_of agent is));
     own = λ agent is. subst (λ n. All (λ (t : Stamped). IsOwn n agent t.entry) (list_of (lists_of v) agent)) (sym many)
-        (subst (All (λ (t : Stamped). IsOwn agents agent t.entry)) (sym (same agent (one_of agent is))) (k.sound.own agent (one_of agent is)));
+        (subst (All (λ (t : Stamped). IsOwn agents agent t.entry)) (sym (same agent (one_of agent is))) (k.sound.lists.own agent (one_of agent is)));
     taken = λ from to is_from is_to. (
       waiting_for to (k.net.posts from),
       subst (λ (l : List Stamped × List Stamped). HasTaken (puts from to l.0) (receipts from to l.1) (waiting_for to (k.net.posts from)))

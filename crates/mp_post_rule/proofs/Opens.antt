@@ -51,9 +51,11 @@ module _ (agents : ℕ) (words : List ℕ) (homes : List Home)
   sound : IsSound agents net
   sound = record {
     pairs = λ from to is_from is_to. record { gone = []; split = sym (all_same agents (to - 1) []); were_taken = none };
-    own = λ a is. All-nil (λ (s : Stamped). IsOwn agents a s.entry);
-    rise = λ a is. λ i j d low within. absurd (omega arith);
-    bound = λ a is. All-nil (λ (s : Stamped). s.stamp ≤ greatest_stamp s.entry);
+    lists = record {
+      own = λ a is. All-nil (λ (s : Stamped). IsOwn agents a s.entry);
+      rise = λ a is. λ i j d low within. absurd (omega arith);
+      bound = λ a is. All-nil (λ (s : Stamped). s.stamp ≤ greatest_stamp s.entry);
+    };
     rows = λ post is. length-replicate agents [];
     named = λ post agent is has. absurd (none-some agent has);
   }

@@ -126,18 +126,20 @@ module _ (agents i r : ℕ) (net : Network) (sound : IsSound agents net) (is_i :
   pub sound_received : IsSound agents net_received
   sound_received = record {
     pairs = pairs;
-    own = of_list (λ agent list. All (λ (s : Stamped). IsOwn agents agent s.entry) list)
-        (All-append (λ (s : Stamped). IsOwn agents r s.entry) (net.lists r) (took ∷ []) (sound.own r is_r)
-        (All-cons (λ (s : Stamped). IsOwn agents r s.entry) took [] (refl, record { of_team = is_i; differs = apart }) (All-nil (λ (s : Stamped). IsOwn agents r s.entry))))
-        sound.own;
-    rise = of_list (λ agent list. Rises list)
-        (rises_more (clock (net.lists r)) (net.lists r) (took ∷ []) (sound.rise r is_r) (below_last 0 (net.lists r) (sound.rise r is_r))
-        (one_rises took) (All-cons (Above (clock (net.lists r))) took [] after_clock (All-nil (Above (clock (net.lists r))))))
-        sound.rise;
-    bound = of_list (λ agent list. All (λ (s : Stamped). s.stamp ≤ greatest_stamp s.entry) list)
-        (All-append (λ (s : Stamped). s.stamp ≤ greatest_stamp s.entry) (net.lists r) (took ∷ []) (sound.bound r is_r)
-        (All-cons (λ (s : Stamped). s.stamp ≤ greatest_stamp s.entry) took [] (omega arith) (All-nil (λ (s : Stamped). s.stamp ≤ greatest_stamp s.entry))))
-        sound.bound;
+    lists = record {
+      own = of_list (λ agent list. All (λ (s : Stamped). IsOwn agents agent s.entry) list)
+          (All-append (λ (s : Stamped). IsOwn agents r s.entry) (net.lists r) (took ∷ []) (sound.lists.own r is_r)
+          (All-cons (λ (s : Stamped). IsOwn agents r s.entry) took [] (refl, record { of_team = is_i; differs = apart }) (All-nil (λ (s : Stamped). IsOwn agents r s.entry))))
+          sound.lists.own;
+      rise = of_list (λ agent list. Rises list)
+          (rises_more (clock (net.lists r)) (net.lists r) (took ∷ []) (sound.lists.rise r is_r) (below_last 0 (net.lists r) (sound.lists.rise r is_r))
+          (one_rises took) (All-cons (Above (clock (net.lists r))) took [] after_clock (All-nil (Above (clock (net.lists r))))))
+          sound.lists.rise;
+      bound = of_list (λ agent list. All (λ (s : Stamped). s.stamp ≤ greatest_stamp s.entry) list)
+          (All-append (λ (s : Stamped). s.stamp ≤ greatest_stamp s.entry) (net.lists r) (took ∷ []) (sound.lists.bound r is_r)
+          (All-cons (λ (s : Stamped). s.stamp ≤ greatest_stamp s.entry) took [] (omega arith) (All-nil (λ (s : Stamped). s.stamp ≤ greatest_stamp s.entry))))
+          sound.lists.bound;
+    };
     rows = λ post is. dite (ℕ_discrete post i)
         (λ same. ap (λ (k : Kept). length k.waiting) (ap net_received.posts same ∙ put_here net.posts i left)
         ∙ (length-set (net.posts i).waiting (r - 1) (drop 1 (waiting_for r (net.posts i))) ∙ sound.rows i is_i))

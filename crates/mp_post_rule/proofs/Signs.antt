@@ -141,9 +141,7 @@ module _ (agents post by id : ℕ) (me : View) (kept : Kept) (p : Party) (is_pos
         (λ same. ap (λ n. waiting_for to (k.net.posts n)) same ∙ sym (ap (waiting_for to) (ap net'.posts same ∙ put_here k.net.posts post (with_halted by (k.net.posts post)))))
         (λ other. sym (ap (waiting_for to) (put_else k.net.posts post from (with_halted by (k.net.posts post)) other))))
         (k.sound.pairs from to is_from is_to);
-    own = k.sound.own;
-    rise = k.sound.rise;
-    bound = k.sound.bound;
+    lists = record { own = k.sound.lists.own; rise = k.sound.lists.rise; bound = k.sound.lists.bound };
     rows = λ q is. dite (ℕ_discrete q post)
         (λ same. ap (λ (x : Kept). length x.waiting) (ap net'.posts same ∙ put_here k.net.posts post (with_halted by (k.net.posts post))) ∙ k.sound.rows post is_post)
         (λ other. ap (λ (x : Kept). length x.waiting) (put_else k.net.posts post q (with_halted by (k.net.posts post)) other) ∙ k.sound.rows q is);

@@ -63,7 +63,8 @@ greatest_stamp (Took by from bytes) = 2 ^ 64 - 1
 module _ (agents : ℕ) (s : State Home View) (net : Network) (by : Holders) where
   -- 1. A turn word is 0 or 1, and 1 exactly where one seat notes that turn.
   pub record TurnsAreNoted : Type 0 where
-    pub words : (post : ℕ) → IsAgentOf agents post → slice_index s.words (2 * post - 2) ≡ turn_word (by.turn post)
+    pub words : (post : ℕ) → IsAgentOf agents post
+        → slice_index s.words (2 * post - 2) ≡ turn_word (by.turn post)
     pub noted : (seat : ℕ) (v : View) (f : Found) → get_elem? s.views seat ≡ some v → v.turn ≡ Some f
         → IsAgentOf agents f.post × (by.turn f.post ≡ Some seat)
     pub held : (post seat : ℕ) → IsAgentOf agents post → by.turn post ≡ Some seat
@@ -86,28 +87,44 @@ module _ (agents : ℕ) (s : State Home View) (net : Network) (by : Holders) whe
 
   -- 5. Each agent is the party of one seat, which has its list and its mark.
   pub record PartiesAreHeld : Type 0 where
-    pub noted : (seat agent : ℕ) (v : View) (p : Party) → get_elem? s.views seat ≡ some v → party_at v agent ≡ Some p
-        → IsAgentOf agents agent × (by.party agent ≡ seat) × (p.list ≡ net.lists agent) × (p.halted ≡ net.halted agent)
+    pub noted : (seat agent : ℕ) (v : View) (p : Party)
+        → get_elem? s.views seat ≡ some v → party_at v agent ≡ Some p
+        → IsAgentOf agents agent × (by.party agent ≡ seat)
+        × (p.list ≡ net.lists agent) × (p.halted ≡ net.halted agent)
     pub held : (agent : ℕ) → IsAgentOf agents agent
         → (v : View) × (p : Party) × (get_elem? s.views (by.party agent) ≡ some v) × (party_at v agent ≡ Some p)
 
   -- 6. Whom a seat has seen halted is marked.
   abbrev pub SeenAreHalted : Type 0
-  SeenAreHalted = (seat : ℕ) (v : View) → get_elem? s.views seat ≡ some v → All (λ agent. net.halted agent ≡ true) v.seen
+  SeenAreHalted = (seat : ℕ) (v : View) → get_elem? s.views seat ≡ some v
+      → All (λ agent. net.halted agent ≡ true) v.seen
 
--- lists and posts fit each other
-pub record IsSound (agents : ℕ) (net : Network) : Type 0 where
-  -- 3. Between each two the first messages were taken, and the others wait at the sender's post.
-  pub pairs : (from to : ℕ) → IsAgentOf agents from → IsAgentOf agents to
+module _ (agents : ℕ) (net : Network) where
+  -- 3. Between each two the first messages were taken, in order, and the others wait at the sender's post.
+  abbrev pub MailIsInOrder : Type 0
+  MailIsInOrder = (from to : ℕ) → IsAgentOf agents from → IsAgentOf agents to
       → HasTaken (puts from to (net.lists from)) (receipts from to (net.lists to)) (waiting_for to (net.posts from))
-  -- 5. A list has its agent's own entries, with stamps that rise and are bounded.
-  pub own : (agent : ℕ) → IsAgentOf agents agent → All (λ s. IsOwn agents agent s.entry) (net.lists agent)
-  pub rise : (agent : ℕ) → IsAgentOf agents agent → Rises (net.lists agent)
-  pub bound : (agent : ℕ) → IsAgentOf agents agent → All (λ s. s.stamp ≤ greatest_stamp s.entry) (net.lists agent)
-  pub rows : (post : ℕ) → IsAgentOf agents post → length (net.posts post).waiting ≡ agents
-  -- 6. Whom a post names as halted is marked.
-  pub named : (post agent : ℕ) → IsAgentOf agents post → (net.posts post).halted ≡ Some agent → net.halted agent ≡ true
 
+  -- 5. A list has its agent's own entries, with stamps that rise and are bounded.
+  pub record ListsAreOwn : Type 0 where
+    pub own : (agent : ℕ) → IsAgentOf agents agent → All (λ s. IsOwn agents agent s.entry) (net.lists agent)
+    pub rise : (agent : ℕ) → IsAgentOf agents agent → Rises (net.lists agent)
+    pub bound : (agent : ℕ) → IsAgentOf agents agent
+        → All (λ s. s.stamp ≤ greatest_stamp s.entry) (net.lists agent)
+
+  -- 6. Whom a post names as halted is marked.
+  abbrev pub NamedAreHalted : Type 0
+  NamedAreHalted = (post agent : ℕ) → IsAgentOf agents post
+      → (net.posts post).halted ≡ Some agent → net.halted agent ≡ true
+
+  -- the points that speak of lists and posts alone; a post has a queue for each agent
+  pub record IsSound : Type 0 where
+    pub pairs : MailIsInOrder
+    pub lists : ListsAreOwn
+    pub named : NamedAreHalted
+    pub rows : (post : ℕ) → IsAgentOf agents post → length (net.posts post).waiting ≡ agents
+
+-- The rule.
 pub record IsKept (agents : ℕ) (s : State Home View) : Type 0 where
   pub words_are : length s.words ≡ 2 * agents
   pub homes_are : length s.homes ≡ agents

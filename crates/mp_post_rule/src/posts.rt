@@ -54,7 +54,8 @@ pub fn try_turn(posts: &Posts, seat: &mut PostSeat, post: Agent) -> bool
     requires post { post ≤ posts.now.shared.key }
     requires free { IsFree seat.old.me }
     ensures same { (seat.new.table_id ≡ seat.old.table_id) × (seat.new.id ≡ seat.old.id) }
-    ensures told { MatchBool result (IsTaken post (posts.now.shared.key) seat.old.me seat.new.me) (seat.new.me ≡ seat.old.me) }
+    ensures told { MatchBool result (IsTaken post posts.now.shared.key seat.old.me seat.new.me)
+        (seat.new.me ≡ seat.old.me) }
 {
     posts
         .shared
@@ -119,7 +120,7 @@ pub fn sign_batch(posts: &Posts, seat: &mut PostSeat, by: Agent, kept: Kept, bat
     requires post { by ≤ posts.now.shared.key }
     requires turn { (noted : KeptValue) × Holds by noted seat.old.me.0 }
     requires slot { HasSlot by seat.old.me }
-    requires may { MaySign (posts.now.shared.key) by batch.now seat.old.me.0 }
+    requires may { MaySign posts.now.shared.key by batch.now seat.old.me.0 }
     requires puts { puts ≡ count_puts batch.now }
     ensures same { (seat.new.table_id ≡ seat.old.table_id) × (seat.new.id ≡ seat.old.id) }
     ensures view { seat.new.me.0 ≡ after_signing by batch.now seat.old.me.0 }
@@ -163,7 +164,8 @@ pub fn sign_receipt(posts: &Posts, seat: &mut PostSeat, post: Agent, by: Agent, 
     requires table { seat.old.table_id ≡ posts.now.shared.table_id }
     requires post { post ≤ posts.now.shared.key }
     requires by { by ≤ posts.now.shared.key }
-    requires may { (noted : KeptValue) × Holds post noted seat.old.me.0 × MayReceive by post noted seat.old.me.0 }
+    requires may { (noted : KeptValue) × Holds post noted seat.old.me.0
+        × MayReceive by post noted seat.old.me.0 }
     requires slot { HasSlot post seat.old.me }
     ensures same { (seat.new.table_id ≡ seat.old.table_id) × (seat.new.id ≡ seat.old.id) }
     ensures view { seat.new.me.0 ≡ after_receipt by seat.old.me.0 }
@@ -196,7 +198,8 @@ fn split_off<const PARTY: u16>(posts: &Posts, seat: &mut PostSeat) -> PostSeat
     requires posts { ArePosts posts.now.shared.table_id posts.now.shared.key }
     requires table { seat.old.table_id ≡ posts.now.shared.table_id }
     requires held { (p : PartyValue) × (party_at seat.old.me.0 PARTY ≡ Some p) }
-    ensures kept { (seat.new.table_id ≡ seat.old.table_id) × (seat.new.me ≡ (without PARTY seat.old.me.0, seat.old.me.1)) }
+    ensures kept { (seat.new.table_id ≡ seat.old.table_id)
+        × (seat.new.me ≡ (without PARTY seat.old.me.0, seat.old.me.1)) }
     ensures new { (result.table_id ≡ seat.old.table_id) × (result.me ≡ (alone PARTY seat.old.me.0, [])) }
 {
     posts.shared.split_seat::<Apart<PARTY>>(seat)
@@ -207,7 +210,8 @@ pub fn split_party(posts: &Posts, seat: &mut PostSeat, party: Agent) -> PostSeat
     requires posts { ArePosts posts.now.shared.table_id posts.now.shared.key }
     requires table { seat.old.table_id ≡ posts.now.shared.table_id }
     requires held { (p : PartyValue) × (party_at seat.old.me.0 party ≡ Some p) }
-    ensures kept { (seat.new.table_id ≡ seat.old.table_id) × (seat.new.me ≡ (without party seat.old.me.0, seat.old.me.1)) }
+    ensures kept { (seat.new.table_id ≡ seat.old.table_id)
+        × (seat.new.me ≡ (without party seat.old.me.0, seat.old.me.1)) }
     ensures new { (result.table_id ≡ seat.old.table_id) × (result.me ≡ (alone party seat.old.me.0, [])) }
 {
     match party.number() {
