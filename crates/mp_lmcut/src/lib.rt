@@ -1,7 +1,7 @@
 //! The heuristic LM-cut (`specs/Cut.antt`).
 #![tactic(auto)]
 
-mod cut;
+mod costs;
 mod laws;
 mod lmcut;
 mod marks;
@@ -12,4 +12,4 @@ mod supports;
 mod zone;
 
 pub use laws::{cuts_are_paid, rounds_end};
-pub use lmcut::LmCut;
+pub use lmcut::Cut;

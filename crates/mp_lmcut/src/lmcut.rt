@@ -17,7 +17,7 @@ use std::alloc::Global;
 /// The heuristic LM-cut (Helmert and Domshlak 2009): what the cuts of its rounds cost together, each round at the costs
 /// that the one before has left. None where a goal cannot be made true. It keeps its arrays from call to call, so that
 /// a value takes memory only where a queue or a list grows.
-pub struct LmCut {
+pub struct Cut {
     problem: Relaxed,
     costs: Vec<u64>,
     adders: Vec<List<u32>>,
@@ -30,9 +30,9 @@ pub struct LmCut {
     ghost sized: { length search.numbers ≡ problem.facts },
 }
 
-impl Drop for LmCut {
+impl Drop for Cut {
     fn drop(self) {
-        let LmCut {
+        let Cut {
             problem: _,
             costs: _,
             adders: _,
@@ -80,7 +80,7 @@ fn estimate(
     Ok(found)
 }
 
-impl Heuristic for LmCut {
+impl Heuristic for Cut {
     ghost use Rattle.mp_task.specs.Limits.{IsWithinLimits};
     ghost use Rattle.mp_lmcut.specs.Laws.Rounds.{lmcut_is_admissible, lmcut_is_dead, lmcut_is_small};
 
@@ -88,13 +88,13 @@ impl Heuristic for LmCut {
 
     ghost value = { lmcut };
 
-    fn make(alloc: Global, task: &Task) -> Result<LmCut, OutOfMemory> {
+    fn make(alloc: Global, task: &Task) -> Result<Cut, OutOfMemory> {
         let problem = Relaxed::of(alloc, task)?;
         let costs = problem.costs(alloc)?;
         let adders = problem.adders(alloc)?;
         let search = Search::new(alloc, &problem)?;
         let _ = problem.operators();
-        Ok(LmCut {
+        Ok(Cut {
             problem,
             costs,
             adders,

@@ -8,7 +8,7 @@ ghost use Rattle.mp_relaxed.specs.Values.{fact_values};
 ghost use Rattle.mp_lmcut.specs.Cut.{cut_cost, cuts, is_positive, lmcut_of, lowered};
 ghost use Rattle.mp_lmcut.specs.Sides.{AreAdders, costless};
 
-use crate::cut::pay;
+use crate::costs::pay;
 use crate::near::mark_near;
 use crate::sides::Sides;
 use crate::zone::mark_zone;

@@ -5,7 +5,7 @@ use Rattle.mp_estimates.specs.Estimates.{lesser}
 use Rattle.mp_relaxed.specs.Search.{value_at}
 use Rattle.mp_lmcut.specs.Sides.{is_between, least_where}
 use Rattle.mp_lmcut.proofs.CutLemmas.{least_more, lesser-none}
-use Rattle.mp_lmcut.proofs.cut.cost_of.Goals as goal
+use Rattle.mp_lmcut.proofs.costs.cost_of.Goals as goal
 
 pub loop-k-preserved : goal.loop-k-preserved
 loop-k-preserved c =

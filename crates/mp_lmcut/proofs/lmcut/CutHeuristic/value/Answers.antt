@@ -1,6 +1,6 @@
 use Rattle.std.proofs.Common.{sym, ◌∙◌}
 use Rattle.mp_lmcut.proofs.CostLemmas.{as_many, as_many_facts, same_adders, same_priced}
-use Rattle.mp_lmcut.proofs.lmcut.LmCutHeuristic.value.Goals as goal
+use Rattle.mp_lmcut.proofs.lmcut.CutHeuristic.value.Goals as goal
 
 pub invariant_of-self-clause-priced : goal.invariant_of-self-clause-priced
 invariant_of-self-clause-priced c =

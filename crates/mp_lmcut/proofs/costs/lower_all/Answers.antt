@@ -4,7 +4,7 @@ use Rattle.mp_relaxed.specs.Relaxed.{RelaxedProblem}
 use Rattle.mp_relaxed.specs.Search.{value_at}
 use Rattle.mp_lmcut.specs.Sides.{is_between}
 use Rattle.mp_lmcut.proofs.CutLemmas.{length-lowered_first, lowered_all, lowered_step, next_in}
-use Rattle.mp_lmcut.proofs.cut.lower_all.Goals as goal
+use Rattle.mp_lmcut.proofs.costs.lower_all.Goals as goal
 
 pub lower_one-requires-clause-enough : goal.lower_one-requires-clause-enough
 lower_one-requires-clause-enough c =

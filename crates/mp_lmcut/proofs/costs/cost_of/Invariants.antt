@@ -2,7 +2,7 @@ use Rattle.std.proofs.Common.{◌≡◌, drop}
 use Rattle.mp_estimates.specs.Estimates.{lesser}
 use Rattle.mp_relaxed.specs.Search.{value_at}
 use Rattle.mp_lmcut.specs.Sides.{is_between, least_where}
-use Rattle.mp_lmcut.proofs.cut.cost_of.Given as goal
+use Rattle.mp_lmcut.proofs.costs.cost_of.Given as goal
 
 abbrev pub invariant-loop-k : goal.invariant-loop-k
 invariant-loop-k l =

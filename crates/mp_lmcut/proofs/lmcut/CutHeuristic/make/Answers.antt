@@ -2,7 +2,7 @@ use Rattle.std.proofs.Common.{◌≤◌, All, sym, ◌∙◌, subst}
 use Rattle.std.proofs.lemmas.List.Elements.{All-map}
 use Rattle.mp_task.specs.Strips.{Operator}
 use Rattle.mp_lmcut.proofs.CostLemmas.{repriced_own}
-use Rattle.mp_lmcut.proofs.lmcut.LmCutHeuristic.make.Goals as goal
+use Rattle.mp_lmcut.proofs.lmcut.CutHeuristic.make.Goals as goal
 
 pub invariant_of-result-clause-cheap : goal.invariant_of-result-clause-cheap
 invariant_of-result-clause-cheap c =

@@ -2,7 +2,7 @@ use Rattle.std.proofs.Common.{◌≡◌, length}
 use Rattle.mp_relaxed.specs.Search.{value_at}
 use Rattle.mp_lmcut.specs.Sides.{is_between}
 use Rattle.mp_lmcut.proofs.CutLemmas.{lowered_first}
-use Rattle.mp_lmcut.proofs.cut.lower_all.Given as goal
+use Rattle.mp_lmcut.proofs.costs.lower_all.Given as goal
 
 abbrev pub invariant-loop-k : goal.invariant-loop-k
 invariant-loop-k l = record {

@@ -3,7 +3,7 @@ use Rattle.mp_task.specs.Strips.{Operator}
 use Rattle.mp_relaxed.specs.Search.{value_at}
 use Rattle.mp_lmcut.specs.Laws.Costs.{least_of_some}
 use Rattle.mp_lmcut.specs.Sides.{is_between}
-use Rattle.mp_lmcut.proofs.cut.pay.Goals as goal
+use Rattle.mp_lmcut.proofs.costs.pay.Goals as goal
 
 pub lower_all-requires-clause-enough : goal.lower_all-requires-clause-enough
 lower_all-requires-clause-enough c =
