@@ -6,18 +6,25 @@ use Rattle.mp_grounder.specs.Checked.{IsChecked}
 use Rattle.mp_sets.specs.Numbers.{Numbers}
 use Rattle.mp_task.specs.AgentTask.{AgentTask}
 use Rattle.mp_messages.specs.declared.history.Event.{Event}
+use Rattle.mp_messages.specs.History.{schedule as schedule_of}
 use Rattle.mp_world.specs.Answers.{answer_of, outcome_of}
 use Rattle.mp_world.specs.Events.{run}
 use Rattle.mp_world.specs.Logs.{IsLog, log_of_run}
+use Rattle.mp_world.specs.World.{AreNumbered}
+use Rattle.mp_logs.proofs.OneSchedule.{logs_alike}
+use Rattle.mp_outcome.specs.Names.{names_of}
 use Rattle.mp_split.specs.Team.{AreTasksOf}
 use Rattle.mp_split.specs.declared.team.Tasks.{Tasks}
 use Rattle.mp_text.specs.Outcome.{outcome_text}
-use Rattle.mp_solutions.specs.Solution.{IsFound}
+use Rattle.mp_text.proofs.SameLemmas.{tell_the_same}
+use Rattle.mp_solutions.specs.Solution.{IsFound, IsFoundInTurn}
 use Rattle.mp_solutions.specs.declared.solution.Solution.{Solution}
 use Rattle.mp_renaming.specs.Renaming.{Renaming}
 use Rattle.mp_renaming.specs.Team.{IsRenamedTeam}
 use Rattle.mp_replays.specs.Renamed.{KeepsTasks}
+use Rattle.mp_replays.specs.Same.{AreSameSearches, IsFoundAgain}
 use Rattle.mp_replays.proofs.OneTeam.{one_names, one_tasks, one_views}
+use Rattle.mp_replays.proofs.Teams.{tasks_numbered}
 
 module _ (value : AgentTask → Numbers → Numbers → Option ℕ) (limit : ℕ) (schedule : List Event)
     (found its : Solution) where
@@ -29,11 +36,27 @@ module _ (value : AgentTask → Numbers → Numbers → Option ℕ) (limit : ℕ
     same_world = same_Some g.last f.last
         (sym (subst (λ ts. run value limit ts schedule ≡ Some g.last) same g.leads) ∙ f.leads)
 
-    pub same_log : its.log ≡ found.log
-    same_log = g.logged ∙ ap (λ ts. log_of_run value limit ts schedule) same ∙ sym f.logged
+    -- the logs are equal where the events of both happened one after another
+    pub same_log : found.log ≡ log_of_run value limit f.tasks.tasks schedule
+        → its.log ≡ log_of_run value limit g.tasks.tasks schedule → its.log ≡ found.log
+    same_log first second = second ∙ ap (λ ts. log_of_run value limit ts schedule) same ∙ sym first
 
     pub same_answer : its.answer ≡ found.answer
     same_answer = g.answer ∙ ap answer_of same_world ∙ sym f.answer
+
+    module _ (numbered : AreNumbered f.tasks.tasks) where
+      other_log : IsLog value limit f.tasks.tasks its.log
+      other_log = subst (λ ts. IsLog value limit ts its.log) same g.is_log
+
+      one_schedule : schedule_of its.log ≡ schedule_of found.log
+      one_schedule = g.logged ∙ sym f.logged
+
+      pub same_search : AreSameSearches found its
+      same_search = record {
+        alike = logs_alike value limit f.tasks.tasks numbered found.log its.log f.is_log other_log one_schedule;
+        told = tell_the_same value limit f.tasks.tasks numbered found.log its.log f.is_log other_log one_schedule;
+        answer = same_answer;
+      }
 
   -- one team
   module _ (law : KeepsTasks) (team : List Factor) (checked : All IsChecked team)
@@ -41,21 +64,25 @@ module _ (value : AgentTask → Numbers → Numbers → Option ℕ) (limit : ℕ
     tasks : g.tasks.tasks ≡ f.tasks.tasks
     tasks = one_tasks law team checked f.tasks g.tasks f.are_tasks g.are_tasks
 
+    numbered : AreNumbered f.tasks.tasks
+    numbered = tasks_numbered team f.tasks checked f.are_tasks
+
+    search : AreSameSearches found its
+    search = same_search team team f g tasks numbered
+
     same_text : its.text ≡ found.text
     same_text =
         let last = same_world team team f g tasks in
         let names = one_names law team checked f.tasks g.tasks f.are_tasks g.are_tasks in
-        let log = same_log team team f g tasks in
-        g.told ∙ (λ i. outcome_text (outcome_of (last i)) (names i) (log i)) ∙ sym f.told
+        g.told ∙ (λ i. outcome_text (outcome_of (last i)) (names i) its.log)
+        ∙ search.told.outcomes (outcome_of f.last) (names_of team f.tasks.steps) ∙ sym f.told
 
-    pub found_one : (its.log ≡ found.log) × (its.answer ≡ found.answer) × (its.text ≡ found.text)
-        × (its.views ≡ found.views)
-    found_one = (
-      same_log team team f g tasks,
-      same_answer team team f g tasks,
-      same_text,
-      g.views ∙ one_views law team checked f.tasks g.tasks f.are_tasks g.are_tasks ∙ sym f.views,
-    )
+    pub found_again : IsFoundAgain found its
+    found_again = record {
+      search = search;
+      text = same_text;
+      views = g.views ∙ one_views law team checked f.tasks g.tasks f.are_tasks g.are_tasks ∙ sym f.views;
+    }
 
 -- ---- one agent renames
 
@@ -73,11 +100,20 @@ module _ (law : KeepsTasks) (value : AgentTask → Numbers → Numbers → Optio
       subst (λ ts. IsLog value limit ts found.log)
       (sym (law.tasks place r team other f.tasks u checked also renamed f.are_tasks of)) f.is_log
 
-  pub messages_stay : (its : Solution) → All IsChecked team → All IsChecked other → IsRenamedTeam place r team other
-      → IsFound value limit team schedule found → IsFound value limit other schedule its
-      → (its.log ≡ found.log) × (its.answer ≡ found.answer)
-  messages_stay its checked also renamed f g =
-      let tasks = law.tasks place r team other f.tasks g.tasks checked also renamed f.are_tasks g.are_tasks in (
-        same_log value limit schedule found its team other f g tasks,
-        same_answer value limit schedule found its team other f g tasks,
-      )
+  module _ (its : Solution) (checked : All IsChecked team) (also : All IsChecked other)
+      (renamed : IsRenamedTeam place r team other) where
+    tasks_stay : (f : IsFound value limit team schedule found) (g : IsFound value limit other schedule its)
+        → g.tasks.tasks ≡ f.tasks.tasks
+    tasks_stay f g = law.tasks place r team other f.tasks g.tasks checked also renamed f.are_tasks g.are_tasks
+
+    pub messages_stay : IsFound value limit team schedule found → IsFound value limit other schedule its
+        → AreSameSearches found its
+    messages_stay f g =
+        same_search value limit schedule found its team other f g (tasks_stay f g)
+        (tasks_numbered team f.tasks checked f.are_tasks)
+
+    pub log_is_one : IsFoundInTurn value limit team schedule found → IsFoundInTurn value limit other schedule its
+        → its.log ≡ found.log
+    log_is_one f g =
+        same_log value limit schedule found its team other f.is_found g.is_found (tasks_stay f.is_found g.is_found)
+        f.logged g.logged

@@ -15,7 +15,7 @@ use Rattle.mp_world.specs.Events.{after_event, agent_of, if_good, is_legal, loca
 use Rattle.mp_world.specs.World.{World, agent_at, start_world}
 use Rattle.mp_text.specs.Schedule.{schedule_in}
 use Rattle.mp_text.specs.declared.schedule.EventLine.{EventLine}
-use Rattle.mp_solutions.specs.Solution.{IsRefusedLine, IsReplayed, StopsAt}
+use Rattle.mp_solutions.specs.Solution.{IsFound, IsRefusedLine, IsReplayed, StopsAt}
 use Rattle.mp_solutions.specs.declared.solution.Solution.{Solution}
 use Rattle.mp_replays.specs.Renamed.{KeepsTasks}
 use Rattle.mp_replays.proofs.OneTeam.{one_tasks}
@@ -130,12 +130,17 @@ module _ (law : KeepsTasks) (value : AgentTask → Numbers → Numbers → Optio
       (subst (λ ls. StopsAt value limit a.tasks.tasks ls n) lines
       (subst (λ ts. StopsAt value limit ts b.lines n) tasks b.stops))
 
+  -- nothing was found by the events of a text with a refused line
+  pub no_refusal : (found : Solution) (n : ℕ) (lines : List EventLine) → schedule_in (length team) text ≡ Ok lines
+      → IsFound value limit team (events lines) found → IsRefusedLine value limit team text n → ⊥
+  no_refusal found n lines read f (inl unread) = both lines n ⊥ read unread
+  no_refusal found n lines read f (inr b) =
+      let tasks = one_tasks law team checked f.tasks b.tasks f.are_tasks b.are_tasks in
+      let same = one_reading b.lines lines b.read read in
+      no_stop value limit f.tasks.tasks lines n f.last f.leads
+      (subst (λ ls. StopsAt value limit f.tasks.tasks ls n) same
+      (subst (λ ts. StopsAt value limit ts b.lines n) tasks b.stops))
+
   pub not_refused : (found : Solution) (n : ℕ) → IsReplayed value limit team text found
       → IsRefusedLine value limit team text n → ⊥
-  not_refused found n f (inl unread) = both f.lines n ⊥ f.read unread
-  not_refused found n f (inr b) =
-      let tasks = one_tasks law team checked f.is_found.tasks b.tasks f.is_found.are_tasks b.are_tasks in
-      let lines = one_reading b.lines f.lines b.read f.read in
-      no_stop value limit f.is_found.tasks.tasks f.lines n f.is_found.last f.is_found.leads
-      (subst (λ ls. StopsAt value limit f.is_found.tasks.tasks ls n) lines
-      (subst (λ ts. StopsAt value limit ts b.lines n) tasks b.stops))
+  not_refused found n f refused = no_refusal found n f.lines f.read f.in_turn.is_found refused

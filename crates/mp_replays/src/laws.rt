@@ -6,7 +6,7 @@ ghost use Rattle.mp_grounder.specs.Checked.{IsChecked};
 ghost use Rattle.mp_joint.specs.Fact.{Text};
 ghost use Rattle.mp_messages.specs.declared.history.Event.{Event};
 ghost use Rattle.mp_sets.specs.Numbers.{Numbers};
-ghost use Rattle.mp_solutions.specs.Solution.{IsFound, IsRefusedLine, IsReplayed};
+ghost use Rattle.mp_solutions.specs.Solution.{IsFound, IsFoundInTurn, IsRefusedLine, IsReplayed};
 ghost use Rattle.mp_solutions.specs.declared.solution.Solution.{Solution};
 ghost use Rattle.mp_split.specs.Team.{AreTasksOf};
 ghost use Rattle.mp_split.specs.declared.team.Tasks.{Tasks};
@@ -15,6 +15,7 @@ ghost use Rattle.mp_world.specs.Logs.{IsLog};
 ghost use Rattle.mp_renaming.specs.Renaming.{Renaming};
 ghost use Rattle.mp_renaming.specs.Team.{IsRenamedTeam};
 ghost use Rattle.mp_replays.specs.Renamed.{KeepsTasks};
+ghost use Rattle.mp_replays.specs.Same.{AreSameSearches, IsFoundAgain};
 ghost use Rattle.mp_replays.specs.Traces.{IsTraceOf};
 
 use mp_renaming::laws::renaming_changes_no_task;
@@ -46,8 +47,9 @@ pub fn refused_lines_are_one()
     renaming_keeps_tasks();
 }
 
-/// Where a team found something by some schedule, the text of its trace is a schedule that is not refused, and what is
-/// found by it is the same: log, answer, text and views.
+/// Where a team found something by some schedule, on one thread or by workers, the text of its trace is a schedule that is
+/// not refused, and what is found by it is the same: schedule, messages of each two agents, trace, answer, text and views.
+/// The logs are equal where the events of both happened one after another.
 pub fn traces_are_replayed()
     ensures accepted { (value : AgentTask → Numbers → Numbers → Option ℕ) (limit : ℕ) (team : List Factor)
         (schedule : List Event) (found : Solution) (text : Text) (n : ℕ)
@@ -59,14 +61,20 @@ pub fn traces_are_replayed()
         → All IsChecked team → length team ≤ 16
         → IsFound value limit team schedule found → IsTraceOf found.log text
         → IsReplayed value limit team text again
-        → (again.log ≡ found.log) × (again.answer ≡ found.answer) × (again.text ≡ found.text)
-        × (again.views ≡ found.views) }
+        → IsFoundAgain found again }
+    ensures in_turn { (value : AgentTask → Numbers → Numbers → Option ℕ) (limit : ℕ) (team : List Factor)
+        (schedule : List Event) (found again : Solution) (text : Text)
+        → All IsChecked team → length team ≤ 16
+        → IsFoundInTurn value limit team schedule found → IsTraceOf found.log text
+        → IsReplayed value limit team text again
+        → again.log ≡ found.log }
 {
     renaming_keeps_tasks();
 }
 
 /// Where one agent of a team renames its private names, all agents show the same bytes; what is a log of the one team
-/// is a log of the other; and by one schedule the same messages are sent, byte for byte, and the same answer is found.
+/// is a log of the other; and by one schedule the same messages are sent between each two agents, byte for byte and in the
+/// same order, and the same answer is found. The logs are equal where the events of both happened one after another.
 pub fn renaming_changes_no_message()
     ensures views { (value : AgentTask → Numbers → Numbers → Option ℕ) (limit place : ℕ) (r : Renaming)
         (team other : List Factor) (schedule : List Event) (found : Solution) (u : Tasks)
@@ -80,7 +88,12 @@ pub fn renaming_changes_no_message()
         (team other : List Factor) (schedule : List Event) (found its : Solution)
         → All IsChecked team → All IsChecked other → IsRenamedTeam place r team other
         → IsFound value limit team schedule found → IsFound value limit other schedule its
-        → (its.log ≡ found.log) × (its.answer ≡ found.answer) }
+        → AreSameSearches found its }
+    ensures in_turn { (value : AgentTask → Numbers → Numbers → Option ℕ) (limit place : ℕ) (r : Renaming)
+        (team other : List Factor) (schedule : List Event) (found its : Solution)
+        → All IsChecked team → All IsChecked other → IsRenamedTeam place r team other
+        → IsFoundInTurn value limit team schedule found → IsFoundInTurn value limit other schedule its
+        → its.log ≡ found.log }
 {
     renaming_keeps_tasks();
 }
