@@ -88,6 +88,16 @@ fn part_of(alloc: Global, by: Agent, agents: u16, line: &str) -> Result<Far, Out
     })
 }
 
+/// Adds a part.
+fn add_far(far: &mut FarList, agents: u16, part: Far) -> Result<(), OutOfMemory>
+    requires old { All (FarFits agents 4) far.old }
+    requires part { FarFits agents 4 part }
+    ensures { OnOk result (All (FarFits agents 4) far.new) }
+{
+    let _ = agents;
+    far.push(part)
+}
+
 /// Adds the part of a line, if it is that of an agent of the team.
 fn push_far(alloc: Global, far: &mut FarList, agents: u16, line: &str) -> Result<(), OutOfMemory>
     requires { All (FarFits agents 4) far.old }
@@ -95,7 +105,11 @@ fn push_far(alloc: Global, far: &mut FarList, agents: u16, line: &str) -> Result
 {
     let by = agent_at(line, 0);
     match line.strip_prefix("far ") {
-        Some(line) if by.number() <= agents => far.push(part_of(alloc, by, agents, line)?),
+        Some(line) if by.number() <= agents => add_far(
+            far,
+            agents,
+            part_of(alloc, by, agents, line)?,
+        ),
         _ => Ok(()),
     }
 }
