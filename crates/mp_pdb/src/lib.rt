@@ -9,5 +9,7 @@ mod pdb;
 mod queue;
 mod table;
 
-pub use laws::distances_are_least_costs;
+pub use laws::{
+    abstract_distances_are_least_costs, distances_are_least_costs, plans_are_abstract_plans,
+};
 pub use pdb::Pdb;
