@@ -1,5 +1,5 @@
 -- Abstract operators over sets of facts of a pattern that are binary numbers.
-use Rattle.std.specs.Prelude.{◌≡◌, ℕ, ◌≤◌, ◌==◌, Bool, IsTrue, bit_and, bit_or, List, All, Contains}
+use Rattle.std.specs.Prelude.{◌≡◌, ℕ, ◌≤◌, ◌==◌, Bool, IsTrue, bit_and, bit_or, List, length, slice_index_or, All, Contains, ◌<◌}
 use Rattle.std.specs.Int.{bit_not, w16}
 use Rattle.mp_task.specs.Strips.{Operator}
 use Rattle.mp_pdb.specs.declared.moves.Move.{Move}
@@ -28,6 +28,17 @@ pub record StandsFor (pattern : List ℕ) (o : Operator) (move : Move) : Type 0 
 pub record IsIdle (move : Move) : Type 0 where
   pub needed : IsTrue (has_all move.pre move.add)
   pub added : IsTrue (has_all move.add move.del)
+
+-- two moves have the same sets
+pub record IsLike (a b : Move) : Type 0 where
+  pub pre : a.pre ≡ b.pre
+  pub add : a.add ≡ b.add
+  pub del : a.del ≡ b.del
+
+-- a move with the same sets as another stands at a place of a list
+pub record IsPlaceOf (moves : List Move) (place : ℕ) (found : Move) : Type 0 where
+  pub within : place < length moves
+  pub like : IsLike (slice_index_or moves place found) found
 
 -- an operator is among moves where one has its lists at no greater cost, or where it changes nothing
 pub data HasMove (pattern : List ℕ) (moves : List Move) (o : Operator) : Type 0 where

@@ -13,7 +13,7 @@ pub(crate) struct Move {
 }
 
 impl Move {
-    ghost use Rattle.mp_pdb.specs.Moves.{IsIdle, after_move, has_all};
+    ghost use Rattle.mp_pdb.specs.Moves.{IsIdle, IsLike, after_move, has_all};
 
     /// The set that it leads to.
     pub(crate) fn after(&self, mask: u16) -> u16
@@ -27,5 +27,12 @@ impl Move {
         ensures { IsTrue result ↔ IsIdle self.now }
     {
         self.pre & self.add == self.add && self.add & self.del == self.del
+    }
+
+    /// Whether another move has the same sets.
+    pub(crate) fn is_like(&self, other: &Move) -> bool
+        ensures { IsTrue result ↔ IsLike self.now other.now }
+    {
+        self.pre == other.pre && self.add == other.add && self.del == other.del
     }
 }

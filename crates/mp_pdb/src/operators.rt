@@ -5,7 +5,7 @@ ghost use Rattle.mp_estimates.specs.Estimates.{lesser};
 ghost use Rattle.mp_task.specs.Limits.{ActFits, FarFits, IsWithinLimits};
 ghost use Rattle.mp_task.specs.Projected.{far_operator, own_operator, projected};
 ghost use Rattle.mp_task.specs.Strips.{Operator};
-ghost use Rattle.mp_pdb.specs.Moves.{AreMoves, StandsFor};
+ghost use Rattle.mp_pdb.specs.Moves.{AreMoves, IsPlaceOf, StandsFor};
 ghost use Rattle.mp_pdb.specs.Pattern.{least, missing, missing_of, pattern_of};
 
 use crate::moves::Move;
@@ -13,6 +13,7 @@ use crate::pattern::{MOST, Pattern};
 use mp_list::OutOfMemory;
 use mp_task::{Act, Far, Task};
 use std::alloc::Global;
+use std::collections::HashMap;
 
 /// The move of an own action.
 fn own_move(pattern: &Pattern, publics: u32, privates: u32, act: &Act) -> Move
@@ -48,15 +49,50 @@ fn far_move(pattern: &Pattern, agents: u16, publics: u32, part: &Far) -> Move
     }
 }
 
-/// Adds a move, unless it changes nothing.
-fn note(moves: &mut Vec<Move>, found: Move) -> Result<(), OutOfMemory>
+/// The place of a move with the same sets, if a map of places knows one: it is looked at, so that nothing has to be known of
+/// the map.
+fn place_of(moves: &[Move], places: &HashMap<(u16, u16, u16), usize>, found: &Move) -> Option<usize>
+    ensures { IfSome result (λ place. IsPlaceOf moves.now place found.now) }
+{
+    let place = *places.get(&(found.pre, found.add, found.del))?;
+    if place < moves.len() && moves[place].is_like(found) {
+        Some(place)
+    } else {
+        None
+    }
+}
+
+/// Makes a move cost less, where it costs more than another with the same sets.
+fn lower_cost(moves: &mut Vec<Move>, place: usize, found: Move)
+    requires { IsPlaceOf moves.old.items place found }
+    ensures { (pattern : List ℕ) (operators : List Operator) (o : Operator)
+        → AreMoves pattern operators moves.old.items → StandsFor pattern o found
+        → AreMoves pattern (operators ++ o ∷ []) moves.new.items }
+{
+    if found.cost < moves[place].cost {
+        moves[place] = found;
+    }
+}
+
+/// Adds a move, unless it changes nothing, or once where there is one with the same sets: at the least cost.
+fn note(
+    moves: &mut Vec<Move>,
+    places: &mut HashMap<(u16, u16, u16), usize>,
+    found: Move,
+) -> Result<(), OutOfMemory>
     ensures { OnOk result ((pattern : List ℕ) (operators : List Operator) (o : Operator)
         → AreMoves pattern operators moves.old.items → StandsFor pattern o found
         → AreMoves pattern (operators ++ o ∷ []) moves.new.items) }
 {
-    if !found.is_idle() {
-        moves.push(found)?;
+    if found.is_idle() {
+        return Ok(());
     }
+    if let Some(place) = place_of(moves.as_slice(), places, &found) {
+        lower_cost(moves, place, found);
+        return Ok(());
+    }
+    places.insert((found.pre, found.add, found.del), moves.len())?;
+    moves.push(found)?;
     Ok(())
 }
 
@@ -70,17 +106,14 @@ pub(crate) fn moves_of(
     ensures { IfOk result (λ moves. AreMoves pattern.now.facts (projected task.now).operators moves.items) }
 {
     let mut moves = Vec::new(alloc);
+    let mut places = HashMap::new(alloc);
     for act in task.acts.as_slice() {
-        note(
-            &mut moves,
-            own_move(pattern, task.publics, task.privates, act),
-        )?;
+        let found = own_move(pattern, task.publics, task.privates, act);
+        note(&mut moves, &mut places, found)?;
     }
     for part in task.far.as_slice() {
-        note(
-            &mut moves,
-            far_move(pattern, task.agents, task.publics, part),
-        )?;
+        let found = far_move(pattern, task.agents, task.publics, part);
+        note(&mut moves, &mut places, found)?;
     }
     Ok(moves)
 }

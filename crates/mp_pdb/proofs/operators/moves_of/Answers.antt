@@ -21,7 +21,7 @@ loop-act-preserved c =
     (ap (λ x. map (own_operator u.publics) (take i u.acts) ++ own_operator u.publics x ∷ []) item ∙ sym (mapped_more (own_operator u.publics) u.acts i a within))
     (c.in_ok-note.ensures pattern (map (own_operator u.publics) (take i u.acts)) (own_operator u.publics a)
     (subst (λ (t : AgentTask). AreMoves pattern (map (own_operator t.publics) (take i t.acts)) c.loop-act.moves.items) (sym c.task.view_is) c.loop-act.invariant)
-    c.own_move.ensures))
+    c.own_move-found.ensures))
 
 pub loop-part-preserved : goal.loop-part-preserved
 loop-part-preserved c =
@@ -40,4 +40,4 @@ loop-part-preserved c =
     ∙ ap (λ l. own ++ l) (ap (λ x. map far_operator (take i u.far) ++ far_operator x ∷ []) item ∙ sym (mapped_more far_operator u.far i p within)))
     (c.in_ok-note-2.ensures pattern (own ++ map far_operator (take i u.far)) (far_operator p)
     (subst (λ (t : AgentTask). AreMoves pattern (map (own_operator t.publics) t.acts ++ map far_operator (take i t.far)) c.loop-part.moves.items) (sym c.task.view_is) c.loop-part.invariant)
-    c.far_move.ensures))
+    c.far_move-found.ensures))
