@@ -1,0 +1,7 @@
+use Rattle.std.proofs.Common.{◌≡◌, map, take}
+use Rattle.mp_checker.specs.Numbering.{amount}
+use Rattle.mp_checker.specs.Private.{private_in}
+use Rattle.mp_checker.proofs.actions.increases_of.Given as goal
+
+abbrev pub invariant-loop-increase : goal.invariant-loop-increase
+invariant-loop-increase l = l.made ≡ map (amount l.names (private_in l.privates) l.params) (take l.increase-index l.increases)

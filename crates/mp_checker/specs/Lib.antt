@@ -1,0 +1,12 @@
+pub mod Mixed
+pub mod Keys
+pub mod Words
+pub mod Private
+pub mod Numbering
+pub mod At
+pub mod Costs
+pub mod Standing
+pub mod AgentView
+pub mod AgentFields
+pub mod Taken
+pub mod Team

@@ -1,0 +1,4 @@
+pub mod Written
+pub mod Verdict
+pub mod Means
+pub mod Examples
