@@ -1,0 +1,14 @@
+-- numbers that grow with their digits
+mod NumberLemmas
+-- names without capital letters
+mod NameLemmas
+-- the first line of a text
+mod LineLemmas
+-- the first word of a text
+mod WordLemmas
+-- the steps of one agent more
+mod AgentLemmas
+-- steps at the places of their times
+mod SlotLemmas
+-- a plan has no more steps than its text has bytes
+pub mod PlanSizes

@@ -1,0 +1,14 @@
+-- fields of a line, read from left to right
+pub mod Fields
+-- the names of a step
+pub mod Names
+-- the lines of a plan
+pub mod Lines
+-- plans as texts
+pub mod Plan
+-- steps at the places of their times
+pub mod Slots
+-- what is told of a plan that was checked
+pub mod Verdict
+-- what is told of a made problem
+pub mod Made

@@ -1,0 +1,15 @@
+//! Plans as texts: read from them, and what is found of a plan or of a made problem, told.
+#![tactic(auto)]
+
+mod field;
+mod line;
+mod made;
+mod name;
+mod order;
+mod plan;
+mod verdict;
+mod write;
+
+pub use made::{made_text, shown_text};
+pub use plan::{PlanText, read_plan};
+pub use verdict::verdict_text;
