@@ -18,7 +18,7 @@ use Rattle.mp_typing.specs.FirstFault.{IsFirst as IsFirstCheck}
 use Rattle.mp_typing.specs.declared.fault.Fault.{Fault as CheckFault}
 use Rattle.mp_files.specs.File.{Checks, Fetches, HasShape, Parts, SaysDomain, SaysProblem, Spells, check_refusal, file_of, longest_file, shape_refusal, text_refusal}
 use Rattle.mp_files.specs.Reading.{Each}
-use Rattle.mp_files.specs.Team.{FetchesTwo, HoldsTeam, IsFirst, ReadsTeam, ReadsTexts, Says, Two}
+use Rattle.mp_files.specs.Team.{FetchesTwo, FindsTwo, HoldsTeam, IsFirst, MeasuresTwo, ReadsMade, ReadsTeam, ReadsTexts, Says, Two}
 use Rattle.mp_files.specs.declared.refusal.FileOf.{FileOf}
 use Rattle.mp_files.specs.declared.refusal.Refusal.{Refusal}
 use Rattle.mp_files.specs.declared.refusal.Refusal.TheVariants as why
@@ -114,10 +114,10 @@ one_check laws agent parts (Err r) (Ok b) h k = absurd (none_checked (check_faul
 one_check laws agent parts (Err r) (Err s) h k =
     ap Err (h.2 ∙ ap (check_refusal agent) (laws.one_check (check_faults parts.domain parts.problem) h.0 k.0 h.1 k.1) ∙ sym k.2)
 
-one_two : (files : Files) (agent : ℕ) (names : Two) → IsOne (FetchesTwo files agent names)
-one_two files agent names =
-    one_then (Fetches (files names.domain) (file_of agent file.Domain)) _ (one_fetched (files names.domain) (file_of agent file.Domain))
-    (λ domain. one_then (Fetches (files names.problem) (file_of agent file.Problem)) _ (one_fetched (files names.problem) (file_of agent file.Problem))
+one_two : (agent : ℕ) (domain_found problem_found : Option Text) → IsOne (FindsTwo agent domain_found problem_found)
+one_two agent domain_found problem_found =
+    one_then (Fetches domain_found (file_of agent file.Domain)) _ (one_fetched domain_found (file_of agent file.Domain))
+    (λ domain. one_then (Fetches problem_found (file_of agent file.Problem)) _ (one_fetched problem_found (file_of agent file.Problem))
     (λ problem. one_given {X = Two} (record { domain = domain; problem = problem })))
 
 one_said : Laws → (agent : ℕ) (texts : Two) → IsOne (Says agent texts)
@@ -134,7 +134,7 @@ one_of_texts laws texts =
 -- what the files of a team lead to is one thing alone
 pub one_read : Laws → (files : Files) (names : List Two) → IsOne (ReadsTeam files names)
 one_read laws files names =
-    one_then (Each (FetchesTwo files) names) ReadsTexts (one_each (FetchesTwo files) (one_two files) names) (one_of_texts laws)
+    one_then (Each (FetchesTwo files) names) ReadsTexts (one_each (FetchesTwo files) (λ agent two. one_two agent (files two.domain) (files two.problem)) names) (one_of_texts laws)
 
 pub one_first : Laws → (files : Files) (names : List Two) (r s : Refusal) → IsFirst files names r → IsFirst files names s → r ≡ s
 one_first laws files names r s h k = as_err (Err r) (Err s) r s (one_read laws files names (Err r) (Err s) h k) refl refl
@@ -142,3 +142,14 @@ one_first laws files names r s h k = as_err (Err r) (Err s) r s (one_read laws f
 -- where the files hold a team, no refusal is the first
 pub found_none : Laws → (files : Files) (names : List Two) (team : List Factor) (r : Refusal) → HoldsTeam files names team → IsFirst files names r → ⊥
 found_none laws files names team r h k = ok_err team r (one_read laws files names (Ok team) (Err r) h k)
+
+-- and so it is with texts in memory
+pub one_made : Laws → (texts : List Two) → IsOne (ReadsMade texts)
+one_made laws texts =
+    one_then (Each MeasuresTwo texts) ReadsTexts (one_each MeasuresTwo (λ agent two. one_two agent (Some two.domain) (Some two.problem)) texts) (one_of_texts laws)
+
+pub one_first_made : Laws → (texts : List Two) (r s : Refusal) → ReadsMade texts (Err r) → ReadsMade texts (Err s) → r ≡ s
+one_first_made laws texts r s h k = as_err (Err r) (Err s) r s (one_made laws texts (Err r) (Err s) h k) refl refl
+
+pub made_none : Laws → (texts : List Two) (team : List Factor) (r : Refusal) → ReadsMade texts (Ok team) → ReadsMade texts (Err r) → ⊥
+made_none laws texts team r h k = ok_err team r (one_made laws texts (Ok team) (Err r) h k)

@@ -1,7 +1,7 @@
 -- What the files of a team lead to, in the one order of refusals: each file, an agent's domain and then its
 -- problem, is looked for and measured; then each text is read and its shape looked at; then names, numbers of
 -- terms and declarations of each agent's factor are checked.
-use Rattle.std.specs.Prelude.{ℕ, List, Ok, Err}
+use Rattle.std.specs.Prelude.{ℕ, List, Option, Some, Ok, Err}
 use Rattle.mp_factor.specs.declared.factor.Factor.{Factor}
 use Rattle.mp_factor.specs.declared.files.File.TheVariants as file
 use Rattle.mp_joint.specs.Fact.{Text}
@@ -15,12 +15,20 @@ pub record Two : Type 0 where
   pub domain : Text
   pub problem : Text
 
+-- what is found of an agent's domain and of its problem leads to the two texts
+abbrev pub FindsTwo : ℕ → Option Text → Option Text → Reading Two
+FindsTwo agent domain_found problem_found =
+    Then (Fetches domain_found (file_of agent file.Domain))
+    (λ domain. Then (Fetches problem_found (file_of agent file.Problem))
+    (λ problem. Gives (record { domain = domain; problem = problem })))
+
 -- the names of an agent's files lead to their texts
 abbrev pub FetchesTwo : Files → ℕ → Two → Reading Two
-FetchesTwo files agent names =
-    Then (Fetches (files names.domain) (file_of agent file.Domain))
-    (λ domain. Then (Fetches (files names.problem) (file_of agent file.Problem))
-    (λ problem. Gives (record { domain = domain; problem = problem })))
+FetchesTwo files agent names = FindsTwo agent (files names.domain) (files names.problem)
+
+-- an agent's texts in memory lead to themselves, unless one is too long
+abbrev pub MeasuresTwo : ℕ → Two → Reading Two
+MeasuresTwo agent texts = FindsTwo agent (Some texts.domain) (Some texts.problem)
 
 -- an agent's texts lead to what they say
 abbrev pub Says : ℕ → Two → Reading Parts
@@ -36,6 +44,10 @@ ReadsTexts texts = Then (Each Says texts) (λ parts. Each Checks parts)
 -- the files of these names lead to the factors of a team
 abbrev pub ReadsTeam : Files → List Two → Reading (List Factor)
 ReadsTeam files names = Then (Each (FetchesTwo files) names) ReadsTexts
+
+-- the texts of a team in memory lead to its factors
+abbrev pub ReadsMade : List Two → Reading (List Factor)
+ReadsMade texts = Then (Each MeasuresTwo texts) ReadsTexts
 
 abbrev pub HoldsTeam : Files → List Two → List Factor → Type 0
 HoldsTeam files names team = ReadsTeam files names (Ok team)

@@ -14,7 +14,7 @@ use mp_outside::{FetchRefusal, Source, fetch};
 use std::alloc::Global;
 
 /// The greatest number of bytes of a factor file.
-const LONGEST: usize = 4_194_304;
+pub(crate) const LONGEST: usize = 4_194_304;
 
 /// The names of an agent's two files.
 #[derive(Clone, Copy)]
@@ -25,9 +25,9 @@ pub struct AgentFiles<'a> {
 
 /// The texts of an agent's two files.
 #[derive(Drop)]
-pub(crate) struct AgentTexts {
-    pub(crate) domain: Vec<u8>,
-    pub(crate) problem: Vec<u8>,
+pub struct AgentTexts {
+    pub domain: Vec<u8>,
+    pub problem: Vec<u8>,
 }
 
 /// The name of one of an agent's files.

@@ -5,12 +5,13 @@
 mod appending;
 mod fetched;
 mod first;
+mod measured;
 mod refusal;
 mod said;
 mod shapes;
 mod team;
 
-pub use fetched::AgentFiles;
+pub use fetched::{AgentFiles, AgentTexts};
 pub use first::one_first;
 pub use refusal::{Fault, FileOf, Refusal};
-pub use team::read_team;
+pub use team::{read_team, read_texts};

@@ -4,9 +4,10 @@ ghost use Rattle.std.specs.Prelude.{◌≡◌, ◌<◌, Ok, IfOk, IfErr, IfSome,
 ghost use Rattle.mp_files.specs.Cause.{IsOfReading, Rests, seen_source};
 ghost use Rattle.mp_files.specs.Fetched.{IsShort, names_of, texts_of};
 ghost use Rattle.mp_files.specs.Reading.{Refuses};
-ghost use Rattle.mp_files.specs.Team.{HoldsTeam, ReadsTexts};
+ghost use Rattle.mp_files.specs.Team.{HoldsTeam, ReadsMade, ReadsTexts};
 
 use crate::fetched::{AgentFiles, AgentTexts, team_texts};
+use crate::measured::measured;
 use crate::refusal::Refusal;
 use crate::said::{factors_of_team, said_by_team};
 use mp_list::List;
@@ -42,5 +43,16 @@ pub fn read_team<S: Source>(
     ensures fault { IfErr result (λ r. S.faults source.old < S.faults source.new → IsOfReading r) }
 {
     let texts = team_texts(alloc, source, names)?;
+    factors_of_texts(alloc, texts)
+}
+
+/// The factors of the agents of a team whose texts stand in memory. Each text is measured; then each is read and its shape
+/// looked at; then each agent's factor is checked. The first of these that goes wrong is answered, as of a file. Refuses
+/// also for want of memory.
+pub fn read_texts(alloc: Global, texts: Vec<AgentTexts>) -> Result<List<CheckedFactor>, Refusal>
+    ensures team { IfOk result (λ team. ReadsMade (map texts_of texts.items) (Ok team)) }
+    ensures cause { IfErr result (Refuses (ReadsMade (map texts_of texts.items))) }
+{
+    let texts = measured(alloc, texts)?;
     factors_of_texts(alloc, texts)
 }

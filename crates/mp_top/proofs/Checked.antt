@@ -1,4 +1,4 @@
--- The factors of a team that files hold are checked.
+-- The factors of a team that texts lead to are checked.
 use Rattle.std.proofs.Common.{◌≡◌, ◌<◌, ℕ, zero, suc, List, [], ◌∷◌, length, Some, Ok, All, refl, sym, subst, arith}
 use Rattle.std.specs.Prelude.{slice_get}
 use Rattle.std.proofs.lemmas.List.Elements.{All-cons, All-nil}
@@ -9,12 +9,15 @@ use Rattle.mp_factor.specs.declared.factor.Factor.{Factor}
 use Rattle.mp_factor.specs.declared.files.File.TheVariants as file
 use Rattle.mp_factor.proofs.FileLemmas.{domain_of_file_fits, domain_of_file_is_named, problem_of_file_fits, problem_of_file_is_named}
 use Rattle.mp_files.specs.File.{Checks, Parts, SaysDomain, SaysProblem, file_of}
-use Rattle.mp_files.specs.Team.{HoldsTeam, Says, Two}
+use Rattle.mp_files.specs.Team.{ReadsTexts, Says, Two}
 use Rattle.mp_files.specs.declared.refusal.FileOf.{FileOf}
 use Rattle.mp_files.proofs.Each.{item_within}
 use Rattle.mp_grounder.specs.Checked.{IsChecked}
 use Rattle.mp_joint.specs.Fact.{Text}
 use Rattle.mp_outside.specs.Source.{Files as Held}
+use Rattle.mp_top.specs.Asked.{Texts}
+use Rattle.mp_top.specs.Asked.Texts.{in_files, made}
+use Rattle.mp_top.specs.Team.{IsTeam}
 
 -- what holds of the item at each place holds of all
 all_places : {X : Type 0} (P : X → Type 0) (xs : List X) → ((k : ℕ) (x : X) → slice_get xs k ≡ Some x → P x) → All P xs
@@ -45,8 +48,9 @@ checked_by agent texts parts factor (domain, d, (problem, p, is)) checks =
     (problem_said (file_of agent file.Problem) texts.problem problem p)
     (subst (λ x. Checks agent x (Ok factor)) is checks)
 
-pub checked_team : (files : Held) (agents : List Two) (team : List Factor) → HoldsTeam files agents team → All IsChecked team
-checked_team files agents team (texts, fetched, (parts, said, checks)) =
+-- of texts
+pub checked_texts : (texts : List Two) (team : List Factor) → ReadsTexts texts (Ok team) → All IsChecked team
+checked_texts texts team (parts, said, checks) =
     all_places IsChecked team (λ k factor at.
     let less : k < length team = slice_get_within team k factor at in
     let of_parts : length team ≡ length parts = checks.0 in
@@ -54,3 +58,8 @@ checked_team files agents team (texts, fetched, (parts, said, checks)) =
     let p = item_within parts k (omega (arith, less, of_parts)) in
     let t = item_within texts k (omega (arith, less, of_parts, of_texts)) in
     checked_by k t.0 p.0 factor (said.1.each k t.0 p.0 t.1 p.1) (checks.1.each k p.0 factor p.1 at))
+
+-- and of the team of a request
+pub checked_team : (files : Held) (texts : Texts) (team : List Factor) → IsTeam (Some files) texts team → All IsChecked team
+checked_team files (in_files names) team (texts, fetched, reads) = checked_texts texts team reads
+checked_team files (made names made_texts) team (texts, measured, reads) = checked_texts texts team reads

@@ -1,25 +1,43 @@
--- From a decision on a team to what the files hold.
-use Rattle.std.proofs.Common.{◌≡◌, List, length, Option, Some, None, Result, Ok, Err, IfOk, IfErr, IfSome, refl, sym, subst}
+-- From a decision on a team to what the texts of a request lead to.
+use Rattle.std.proofs.Common.{◌≡◌, ℕ, Bool, true, List, length, map, Option, Some, None, Result, Ok, Err, All, IfOk, IfErr, IfSome, refl, sym, subst, ap, ◌∙◌}
+use Rattle.std.proofs.lemmas.List.{length-map}
 use Rattle.mp_factor.specs.declared.factor.Factor.{Factor}
 use Rattle.mp_joint.specs.Fact.{Text}
-use Rattle.mp_files.specs.Cause.{IsOfReading, Rests as FilesRest, SeenSource}
-use Rattle.mp_files.specs.Team.{HoldsTeam, Two}
+use Rattle.mp_files.specs.Cause.{IsOfReading, Rests as FilesRest, SeenSource, seen_source}
+use Rattle.mp_files.specs.Reading.{Refuses}
+use Rattle.mp_files.specs.Team.{HoldsTeam, ReadsMade, Two}
 use Rattle.mp_files.specs.declared.refusal.Refusal.{Refusal as FilesRefusal}
 use Rattle.mp_files.specs.declared.refusal.Refusal.TheVariants as files
+use Rattle.mp_ground.specs.declared.refusal.GroundRefusal.{GroundRefusal}
 use Rattle.mp_ground.specs.declared.refusal.GroundRefusal.TheVariants.{TooManyTries, TooManyActions, TooManyFacts, OutOfMemory}
+use Rattle.mp_grounder.specs.Checked.{IsChecked}
+use Rattle.mp_maker.specs.Delivery.{delivery}
 use Rattle.mp_outside.specs.Source.{Files as Held}
-use Rattle.mp_top.specs.Asked.{TeamRequest}
+use Rattle.mp_solutions.specs.Solution.{IsReplayed, IsSolution}
+use Rattle.mp_solutions.specs.declared.solution.Solution.{Solution}
+use Rattle.mp_solve.specs.Refused.{AreWithin, Refuses as ReplayRefuses}
+use Rattle.mp_solve.specs.declared.refusal.ReplayRefusal.{ReplayRefusal}
+use Rattle.mp_solve.specs.declared.refusal.ReplayRefusal.TheVariants as replay
+use Rattle.mp_top.specs.Asked.{FirstFile, TeamRequest, Work, agents_of, longest_plan, longest_schedule, made_texts, names_of_texts, values_of}
+use Rattle.mp_top.specs.Asked.Texts.{in_files, made}
+use Rattle.mp_top.specs.Asked.Work.{checked, replayed, searched}
 use Rattle.mp_top.specs.Cause.{Rests}
-use Rattle.mp_top.specs.Decided.{Decides, IsDecidedFor, IsRefusedTeam, IsRefusedText, request_by}
+use Rattle.mp_top.specs.Decided.{ChecksFor, Decides, IsGroundRefused, IsRefusedTeam, IsTold, MakesFor, ReplaysBy, SolvesFor, refusal_of, report_of, told}
+use Rattle.mp_top.specs.First.{IsSizeRefused}
+use Rattle.mp_top.specs.FirstText.{IsFirstText}
+use Rattle.mp_top.specs.Outcome.{answer_status, printed_text, reported, told_made}
 use Rattle.mp_top.specs.Refusal.{status_of_files}
-use Rattle.mp_top.specs.Schedule.{IsScheduleText}
+use Rattle.mp_top.specs.Team.{IsTeam}
 use Rattle.mp_top.specs.declared.decision.Decision.{Decision}
-use Rattle.mp_top.specs.declared.decision.Search.{Search}
 use Rattle.mp_top.specs.declared.refusal.Refusal.{Refusal}
-use Rattle.mp_top.specs.declared.refusal.Refusal.TheVariants.{Files, Sizes, Schedule}
-use Rattle.mp_top.specs.declared.refusal.ScheduleRefusal.{ScheduleRefusal}
-use Rattle.mp_top.specs.declared.refusal.ScheduleRefusal.TheVariants as schedule
+use Rattle.mp_top.specs.declared.refusal.Refusal.TheVariants.{Files, First, Sizes}
+use Rattle.mp_top.specs.declared.refusal.FirstRefusal.TheVariants as first
 use Rattle.mp_top.specs.declared.status.Status.TheVariants as status
+use Rattle.mp_top.proofs.Made.{never_read}
+use Rattle.mp_top.proofs.Valid.{valid_exactly}
+use Rattle.mp_plan_verdict.specs.Verdict.{verdict}
+use Rattle.mp_words.specs.Requests.{Searching, ToCheck, ToMake, ToReplay, ToSolve}
+use Rattle.mp_words.specs.Requests.Wanted.{checks, makes, replays, solves}
 
 -- through a result
 pub weaker : {X Y : Type 0} (r : Result X Y) (P Q : X → Type 0) → ((x : X) → P x → Q x) → IfOk r P → IfOk r Q
@@ -30,31 +48,104 @@ pub weaker_err : {X Y : Type 0} (r : Result X Y) (P Q : Y → Type 0) → ((y : 
 weaker_err (Ok x) P Q h p = tt
 weaker_err (Err e) P Q h p = h e p
 
--- a refusal of the files of the agents, where the file of the schedule was fetched
-pub files_rest : (source : SeenSource) (request : TeamRequest) (text : Option Text) (r : FilesRefusal) → IsScheduleText source.held request.schedule text → FilesRest source request.agents r → Rests source request (Files r)
-files_rest source request text (files.Read at) is h = record { schedule = (text, is); cannot = h }
-files_rest source request text (files.TooLarge at) is h = record { schedule = (text, is); first = h }
-files_rest source request text (files.Fault at kind place) is h = record { schedule = (text, is); first = h }
-files_rest source request text files.OutOfMemory is h = tt
+pub always_ok : {X Y : Type 0} (r : Result X Y) (P : Type 0) → P → IfOk r (λ _. P)
+always_ok (Ok x) P p = p
+always_ok (Err e) P p = tt
 
--- a refused line of a schedule and a team that the files hold
-line_rests : (source : SeenSource) (name : Option Text) (search : Search) (agents : List Two) (text : Option Text) (team : List Factor) (r : ScheduleRefusal) → IsScheduleText source.held name text → IfSome source.held (λ files. HoldsTeam files agents team) → IsRefusedText search team text r → Rests source (request_by name search agents) (Schedule r)
-line_rests source name search agents None team schedule.Read is holds h = absurd h
-line_rests source name search agents None team schedule.TooLarge is holds h = absurd h
-line_rests source name search agents None team (schedule.Line n) is holds h = absurd h
-line_rests source name search agents (Some text) team schedule.Read is holds h = absurd h
-line_rests source name search agents (Some text) team schedule.TooLarge is holds h = absurd h
-line_rests source name search agents (Some text) team (schedule.Line n) is holds h =
-    record { text = text; schedule = is; team = team; holds = holds; within = h.0; refused = h.1 }
+pub always_err : {X Y : Type 0} (r : Result X Y) (P : Y → Type 0) → ((y : Y) → P y) → IfErr r P
+always_err (Ok x) P p = tt
+always_err (Err e) P p = p e
 
--- a refusal of a team that the files hold rests on its cause
-pub team_rests : (source : SeenSource) (name : Option Text) (search : Search) (agents : List Two) (text : Option Text) (team : List Factor) (r : Refusal) → IsScheduleText source.held name text → IfSome source.held (λ files. HoldsTeam files agents team) → IsRefusedTeam search team text r → Rests source (request_by name search agents) r
-team_rests source name search agents text team (Files r) is holds h = subst (λ x. Rests source (request_by name search agents) (Files x)) (sym h) tt
-team_rests source name search agents text team (Sizes (TooManyTries agent)) is holds h = record { schedule = (text, is); team = team; holds = holds; first = h }
-team_rests source name search agents text team (Sizes (TooManyActions agent n)) is holds h = record { schedule = (text, is); team = team; holds = holds; first = h }
-team_rests source name search agents text team (Sizes (TooManyFacts agent n)) is holds h = record { schedule = (text, is); team = team; holds = holds; first = h }
-team_rests source name search agents text team (Sizes OutOfMemory) is holds h = tt
-team_rests source name search agents text team (Schedule r) is holds h = line_rests source name search agents text team r is holds h
+-- what is seen of a source is the same from a later moment on, before which nothing was seen to change
+pub seen_later : {S : Type 0} (held : S → Option Held) (faults : S → ℕ) (at : S → Option Text) (old mid new : S) → held mid ≡ held old → faults mid ≡ faults old → seen_source held faults at mid new ≡ seen_source held faults at old new
+seen_later held faults at old mid new h f = λ i. record { held = h i; before = f i; now = faults new; fault_at = at new }
+
+-- ---- What a solution is told as.
+
+module _ (s : Solution) (text : Text) (d : Decision) (is : IsTold s text d) where
+  same_solution : reported (report_of d) s.text ≡ s
+  same_solution = λ i. record { views = is.views i; log = is.log i; answer = is.answer i; text = s.text }
+
+  same_end : d.status ≡ answer_status d.answer
+  same_end = is.ended ∙ ap answer_status (sym is.answer)
+
+pub solves_for : (s : Searching) (trace : Bool) (team : List Factor) (found : Solution) (d : Decision) → AreWithin team → IsSolution (values_of s.heuristic) s.limit team found → IsTold found (printed_text trace found.log found.answer found.text) d → SolvesFor s trace team d
+solves_for s trace team found d within solved is = record {
+  outcome = found.text;
+  solved = record { within = within; found = subst (IsSolution (values_of s.heuristic) s.limit team) (sym (same_solution found _ d is)) solved };
+  printed = is.printed ∙ (λ i. printed_text trace (sym is.log i) (sym is.answer i) found.text);
+  ended = same_end found _ d is;
+}
+
+pub replays_by : (s : Searching) (text : Text) (team : List Factor) (found : Solution) (d : Decision) → AreWithin team → IsReplayed (values_of s.heuristic) s.limit team text found → IsTold found (printed_text true found.log found.answer found.text) d → ReplaysBy s text team d
+replays_by s text team found d within by_schedule is = record {
+  outcome = found.text;
+  replayed = record { within = within; found = subst (IsReplayed (values_of s.heuristic) s.limit team text) (sym (same_solution found _ d is)) by_schedule };
+  printed = is.printed ∙ (λ i. printed_text true (sym is.log i) (sym is.answer i) found.text);
+  ended = same_end found _ d is;
+}
+
+pub makes_for : (s : Searching) (show : Bool) (texts : List Text) (size : ℕ) (team : List Factor) (found : Solution) (d : Decision) → AreWithin team → IsSolution (values_of s.heuristic) s.limit team found → IsTold found (told_made show texts size found.answer) d → MakesFor s show texts size team d
+makes_for s show texts size team found d within solved is = record {
+  outcome = found.text;
+  solved = record { within = within; found = subst (IsSolution (values_of s.heuristic) s.limit team) (sym (same_solution found _ d is)) solved };
+  printed = is.printed ∙ ap (told_made show texts size) (sym is.answer);
+  ended = same_end found _ d is;
+}
+
+-- ---- What a refusal rests on.
+
+-- a refusal of the files of the agents, where the first file was fetched
+pub files_rest : (source : SeenSource) (file : Option FirstFile) (names : List Two) (work : Work) (text : Option Text) (r : FilesRefusal) → IsFirstText source.held file text → FilesRest source names r → Rests source (record { first = file; texts = in_files names; work = work }) (Files r)
+files_rest source file names work text (files.Read at) is h = record { first_text = (text, is); cannot = h }
+files_rest source file names work text (files.TooLarge at) is h = record { first_text = (text, is); first = h }
+files_rest source file names work text (files.Fault at kind place) is h = record { first_text = (text, is); first = h }
+files_rest source file names work text files.OutOfMemory is h = tt
+
+-- a refusal of what is made
+pub made_rest : (source : SeenSource) (names texts : List Two) (work : Work) (r : FilesRefusal) → Refuses (ReadsMade texts) r → Rests source (record { first = None; texts = made names texts; work = work }) (Files r)
+made_rest source names texts work (files.Read at) h = absurd (never_read at texts h)
+made_rest source names texts work (files.TooLarge at) h = record { first_text = (None, tt); first = h }
+made_rest source names texts work (files.Fault at kind place) h = record { first_text = (None, tt); first = h }
+made_rest source names texts work files.OutOfMemory h = tt
+
+too_many_tries : (work : Work) (team : List Factor) (agent : ℕ) → IsGroundRefused work team (TooManyTries agent) → IsSizeRefused work team (TooManyTries agent)
+too_many_tries (searched s) team agent h = h
+too_many_tries (replayed s) team agent h = h
+too_many_tries checked team agent h = h
+
+too_many_actions : (work : Work) (team : List Factor) (agent n : ℕ) → IsGroundRefused work team (TooManyActions agent n) → IsSizeRefused work team (TooManyActions agent n)
+too_many_actions (searched s) team agent n h = h
+too_many_actions (replayed s) team agent n h = h
+too_many_actions checked team agent n h = h
+
+too_many_facts : (work : Work) (team : List Factor) (agent n : ℕ) → IsGroundRefused work team (TooManyFacts agent n) → IsSizeRefused work team (TooManyFacts agent n)
+too_many_facts (searched s) team agent n h = h
+too_many_facts (replayed s) team agent n h = h
+too_many_facts checked team agent n h = h
+
+-- a team that the texts lead to, and one of its agents whose factor is not grounded
+pub sizes_rest : (source : SeenSource) (request : TeamRequest) (text : Option Text) (team : List Factor) (r : GroundRefusal) → IsFirstText source.held request.first text → IsTeam source.held request.texts team → IsGroundRefused request.work team r → Rests source request (Sizes r)
+sizes_rest source request text team (TooManyTries agent) is is_team h =
+    record { first_text = (text, is); team = team; is_team = is_team; refused = too_many_tries request.work team agent h }
+sizes_rest source request text team (TooManyActions agent n) is is_team h =
+    record { first_text = (text, is); team = team; is_team = is_team; refused = too_many_actions request.work team agent n h }
+sizes_rest source request text team (TooManyFacts agent n) is is_team h =
+    record { first_text = (text, is); team = team; is_team = is_team; refused = too_many_facts request.work team agent n h }
+sizes_rest source request text team OutOfMemory is is_team h = tt
+
+-- a refusal of a team that the texts lead to, or of the first text
+pub team_rests : (source : SeenSource) (request : TeamRequest) (text : Text) (team : List Factor) (r : Refusal) → IsFirstText source.held request.first (Some text) → IsTeam source.held request.texts team → IsRefusedTeam request.work team text r → Rests source request r
+team_rests source request text team (Files r) is is_team h = subst (λ x. Rests source request (Files x)) (sym h) tt
+team_rests source request text team (Sizes r) is is_team h = sizes_rest source request (Some text) team r is is_team h
+team_rests source request text team (First first.Read) is is_team h = absurd h
+team_rests source request text team (First first.TooLarge) is is_team h = absurd h
+team_rests source request text team (First (first.Line n)) is is_team h =
+    record { text = text; is_text = is; team = team; is_team = is_team; refused = h }
+
+pub refused_replay : (s : Searching) (team : List Factor) (text : Text) (r : ReplayRefusal) → ReplayRefuses (values_of s.heuristic) s.limit team text r → IsRefusedTeam (replayed s) team text (refusal_of r)
+refused_replay s team text (replay.Sizes r) h = h
+refused_replay s team text (replay.Line n) h = h
 
 -- a file that cannot be read has its status
 pub reading_status : (r : FilesRefusal) → IsOfReading r → status_of_files r ≡ status.Read
@@ -63,13 +154,78 @@ reading_status (files.TooLarge at) h = absurd h
 reading_status (files.Fault at kind place) h = absurd h
 reading_status files.OutOfMemory h = absurd h
 
--- a team and a schedule that the files hold, and their outcome
-pub decided : (held : Option Held) (name : Option Text) (agents : List Two) (search : Search) (text : Option Text) (team : List Factor) (d : Decision) → IsScheduleText held name text → length team ≡ length agents → IfSome held (λ files. HoldsTeam files agents team) → Decides team text search d → IsDecidedFor held name agents search d
-decided held name agents search text team d is one_each holds h = record {
-  text = text;
-  is_text = is;
+-- ---- What is decided about each request.
+
+pub decided_solve : (held : Option Held) (w : ToSolve) (names : List Two) (team : List Factor) (d : Decision) → names ≡ agents_of w.names → IfSome held (λ files. HoldsTeam files names team) → length team ≡ length names → All IsChecked team → SolvesFor w.search w.trace team d → Decides held (solves w) d
+decided_solve held w names team d same holds one_each all h = (
+  record {
+    team = team;
+    is_team = record {
+      is_first = tt;
+      is_team = subst (λ ns. IfSome held (λ files. HoldsTeam files ns team)) same holds;
+      one_each = one_each ∙ ap length same;
+      checked = all;
+    };
+    outcome = h.outcome;
+    solved = h.solved;
+    printed = h.printed;
+  },
+  h.ended,
+)
+
+pub decided_replay : (held : Option Held) (w : ToReplay) (names : List Two) (text : Text) (team : List Factor) (d : Decision) → names ≡ agents_of w.names → IsFirstText held (Some (record { name = w.schedule; longest = longest_schedule })) (Some text) → IfSome held (λ files. HoldsTeam files names team) → length team ≡ length names → All IsChecked team → ReplaysBy w.search text team d → Decides held (replays w) d
+decided_replay held w names text team d same is holds one_each all h = (
+  record {
+    schedule = text;
+    team = team;
+    is_team = record {
+      is_first = is;
+      is_team = subst (λ ns. IfSome held (λ files. HoldsTeam files ns team)) same holds;
+      one_each = one_each ∙ ap length same;
+      checked = all;
+    };
+    outcome = h.outcome;
+    replayed = h.replayed;
+    printed = h.printed;
+  },
+  h.ended,
+)
+
+pub decided_check : (held : Option Held) (w : ToCheck) (names : List Two) (text : Text) (team : List Factor) (d : Decision) → names ≡ agents_of w.names → IsFirstText held (Some (record { name = w.plan; longest = longest_plan })) (Some text) → IfSome held (λ files. HoldsTeam files names team) → length team ≡ length names → All IsChecked team → ChecksFor text team d → Decides held (checks w) d
+decided_check held w names text team d same is holds one_each all h = record {
+  first = text;
   team = team;
-  one_each = one_each;
-  holds = holds;
-  decides = h;
+  is_team = record {
+    is_first = is;
+    is_team = subst (λ ns. IfSome held (λ files. HoldsTeam files ns team)) same holds;
+    one_each = one_each ∙ ap length same;
+    checked = all;
+  };
+  plan = h.plan;
+  is_plan = h.is_plan;
+  empty = h.is_told.empty;
+  printed = h.is_told.printed;
+  is_ended = h.is_told.ended;
+  is_valid_text = valid_exactly (verdict team h.plan.plan) h.plan.cost d.status (told d) h.is_told.printed h.is_told.ended;
 }
+
+pub decided_make : (held : Option Held) (w : ToMake) (texts : List Text) (size : ℕ) (team : List Factor) (d : Decision) → texts ≡ delivery w.size w.number → size ≡ w.size → ReadsMade (agents_of texts) (Ok team) → length team ≡ length (names_of_texts (made_texts w.size w.number)) → All IsChecked team → MakesFor w.search w.show texts size team d → Decides held (makes w) d
+decided_make held w texts size team d same same_size reads one_each all h = (
+  record {
+    team = team;
+    is_team = record {
+      is_first = tt;
+      is_team = subst (λ ts. ReadsMade (agents_of ts) (Ok team)) same reads;
+      one_each = one_each;
+      checked = all;
+    };
+    outcome = h.outcome;
+    solved = h.solved;
+    printed = h.printed ∙ (λ i. told_made w.show (same i) (same_size i) d.answer);
+  },
+  h.ended,
+)
+
+-- one factor for each agent whose files were read
+pub as_many : {X : Type 0} (f : X → Two) (files : List X) (names : List Two) (n : ℕ) → map f files ≡ names → n ≡ length files → n ≡ length names
+as_many f files names n same is = is ∙ sym (length-map files f) ∙ ap length same

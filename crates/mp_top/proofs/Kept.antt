@@ -1,56 +1,54 @@
 -- What a call keeps, by how it ends.
-use Rattle.std.proofs.Common.{◌≡◌, ◌<◌, ◌⊎◌, inl, inr, ℕ, List, [], ◌∷◌, ◌++◌, Bool, true, false, Option, Some, None, IfSome, MatchOption, refl, sym, ap, ◌∙◌, subst, arith, if◌then◌else◌}
+use Rattle.std.proofs.Common.{◌≡◌, ◌<◌, ◌⊎◌, inl, inr, ℕ, List, [], Bool, true, false, Option, Some, None, Result, Ok, Err, IfOk, IfErr, IfSome, MatchOption, refl, sym, ap, ◌∙◌, subst, arith, if◌then◌else◌}
 use Rattle.mp_factor.specs.declared.factor.Factor.{Factor}
 use Rattle.mp_files.specs.Cause.{SeenSource}
-use Rattle.mp_files.specs.Team.{HoldsTeam, Two}
+use Rattle.mp_files.specs.Team.{Two}
 use Rattle.mp_files.specs.declared.refusal.FileOf.{FileOf}
 use Rattle.mp_files.specs.declared.refusal.Refusal.TheVariants as files
 use Rattle.mp_ground.specs.declared.refusal.GroundRefusal.TheVariants as sizes
 use Rattle.mp_joint.specs.Fact.{Text}
 use Rattle.mp_joint.specs.declared.plan.PlanStep.{PlanStep}
-use Rattle.mp_messages.specs.declared.history.Entry.{Entry}
 use Rattle.mp_messages.specs.declared.history.Event.{Event}
 use Rattle.mp_outside.specs.Source.{Files as Held}
+use Rattle.mp_plan_verdict.specs.Verdict.{verdict}
 use Rattle.mp_sets.specs.Numbers.{Numbers}
 use Rattle.mp_solutions.specs.Right.{IsRight}
-use Rattle.mp_solutions.specs.Solution.{IsFound}
+use Rattle.mp_solutions.specs.Solution.{IsFound, IsReplayed, IsSolution}
 use Rattle.mp_solutions.specs.declared.solution.Solution.{Solution}
 use Rattle.mp_task.specs.AgentTask.{AgentTask}
-use Rattle.mp_text.specs.Trace.{trace_text}
-use Rattle.mp_words.specs.Requests.{Wanted}
+use Rattle.mp_words.specs.Requests.{Searching, Wanted}
+use Rattle.mp_words.specs.Requests.Wanted.{checks, makes, replays, solves}
 use Rattle.mp_world.specs.RoundRobin.{is_over}
 use Rattle.mp_world.specs.World.{World, start_world}
 use Rattle.mp_world.proofs.Turns.{round_robin_end}
 use Rattle.mp_world.specs.declared.answer.Answer.{Answer}
 use Rattle.mp_world.specs.declared.answer.Answer.TheVariants as answer
-use Rattle.mp_top.specs.Asked.{TeamRequest, agents_of, team_request, values_of}
+use Rattle.mp_top.specs.Asked.{TeamRequest, team_request, values_of}
 use Rattle.mp_top.specs.Call.{Call, Says}
-use Rattle.mp_top.specs.Cause.{CannotReadFactor, CannotReadSchedule, Rests}
-use Rattle.mp_top.specs.Decided.{IsDecidedFor, request_by, search_of}
-use Rattle.mp_top.specs.First.{ComesFirst, IsFirst, IsReplayable}
-use Rattle.mp_solve.specs.Refused.{AreWithin}
-use Rattle.mp_top.specs.Keeps.{IsAnswerStatus, IsOutcomeFor, IsReplay, Keeps, PrintsAnswer, PrintsFor, PrintsNothing, answer_status, line_for}
-use Rattle.mp_top.specs.Outcome.{IsFoundBy, behind_trace, printed_text}
-use Rattle.mp_top.specs.Printed.{Publishes, told as told_text, trace_end}
+use Rattle.mp_top.specs.Cause.{CannotReadFactor, CannotReadFirst, Rests}
+use Rattle.mp_top.specs.Decided.{Decides, report_of, told}
+use Rattle.mp_top.specs.First.{ComesFirst, IsAccepted, IsFirst}
+use Rattle.mp_top.specs.FirstText.{IsFirstText}
+use Rattle.mp_top.specs.Keeps.{IsOutcomeFor, IsOutcomeStatus, IsSolved as IsSolvedStatus, Keeps, PrintsFor, PrintsNothing, PrintsOutcome, line_for}
+use Rattle.mp_top.specs.Outcome.{IsOutcome, answer_status, is_valid, reported}
+use Rattle.mp_top.specs.Printed.{Publishes, TellsRefusal, Writes}
 use Rattle.mp_top.specs.Refusal.{line_of, memory_line, status_of, words_line, write_line}
-use Rattle.mp_top.specs.Schedule.{IsScheduleText}
+use Rattle.mp_top.specs.Team.{IsTeam}
 use Rattle.mp_top.specs.Words.{request_of}
 use Rattle.mp_top.specs.declared.decision.Decision.{Decision}
-use Rattle.mp_top.specs.declared.decision.Search.{Search}
 use Rattle.mp_top.specs.declared.refusal.Refusal.{Refusal}
-use Rattle.mp_top.specs.declared.refusal.Refusal.TheVariants.{Files, Sizes, Schedule}
-use Rattle.mp_top.specs.declared.refusal.ScheduleRefusal.TheVariants as schedule
+use Rattle.mp_top.specs.declared.refusal.Refusal.TheVariants.{Files, First, Sizes}
+use Rattle.mp_top.specs.declared.refusal.FirstRefusal.TheVariants as first
 use Rattle.mp_top.specs.declared.report.Report.{Report}
 use Rattle.mp_top.specs.declared.status.Status.{Status}
 use Rattle.mp_top.specs.declared.status.Status.TheVariants as status
 
--- where the files hold a team whose sizes keep the limits, and the schedule, if one is asked for, is replayed, no refusal is
--- the first one
+-- where the texts lead to a team of which nothing is refused, nor of the text of the first file, no refusal is the first one
 abbrev pub NoneFirst : Type 0
 NoneFirst =
     (files : Held) (request : TeamRequest) (text : Option Text) (team : List Factor) (r : Refusal)
-    → IsScheduleText (Some files) request.schedule text → HoldsTeam files request.agents team → AreWithin team
-    → IsReplayable request team text
+    → IsFirstText (Some files) request.first text → IsTeam (Some files) request.texts team
+    → IsAccepted request.work team text
     → IsFirst files request r → ⊥
 
 -- and at most one is
@@ -138,9 +136,9 @@ not_words (Sizes (sizes.TooManyTries agent)) is = absurd (cc)
 not_words (Sizes (sizes.TooManyActions agent n)) is = absurd (cc)
 not_words (Sizes (sizes.TooManyFacts agent n)) is = absurd (cc)
 not_words (Sizes sizes.OutOfMemory) is = absurd (cc)
-not_words (Schedule schedule.Read) is = absurd (cc)
-not_words (Schedule schedule.TooLarge) is = absurd (cc)
-not_words (Schedule (schedule.Line n)) is = absurd (cc)
+not_words (First first.Read) is = absurd (cc)
+not_words (First first.TooLarge) is = absurd (cc)
+not_words (First (first.Line n)) is = absurd (cc)
 
 not_write : (r : Refusal) → status_of r ≡ status.Write → ⊥
 not_write (Files (files.Read at)) is = absurd (cc)
@@ -151,11 +149,11 @@ not_write (Sizes (sizes.TooManyTries agent)) is = absurd (cc)
 not_write (Sizes (sizes.TooManyActions agent n)) is = absurd (cc)
 not_write (Sizes (sizes.TooManyFacts agent n)) is = absurd (cc)
 not_write (Sizes sizes.OutOfMemory) is = absurd (cc)
-not_write (Schedule schedule.Read) is = absurd (cc)
-not_write (Schedule schedule.TooLarge) is = absurd (cc)
-not_write (Schedule (schedule.Line n)) is = absurd (cc)
+not_write (First first.Read) is = absurd (cc)
+not_write (First first.TooLarge) is = absurd (cc)
+not_write (First (first.Line n)) is = absurd (cc)
 
-cannot_read : (source : SeenSource) (request : TeamRequest) (r : Refusal) → Rests source request r → status_of r ≡ status.Read → CannotReadSchedule source request ⊎ ((at : FileOf) × CannotReadFactor source request at)
+cannot_read : (source : SeenSource) (request : TeamRequest) (r : Refusal) → Rests source request r → status_of r ≡ status.Read → CannotReadFirst source request ⊎ ((at : FileOf) × CannotReadFactor source request at)
 cannot_read source request (Files (files.Read at)) h is = inr (at, h)
 cannot_read source request (Files (files.TooLarge at)) h is = absurd (cc)
 cannot_read source request (Files (files.Fault at kind place)) h is = absurd (cc)
@@ -164,9 +162,9 @@ cannot_read source request (Sizes (sizes.TooManyTries agent)) h is = absurd (cc)
 cannot_read source request (Sizes (sizes.TooManyActions agent n)) h is = absurd (cc)
 cannot_read source request (Sizes (sizes.TooManyFacts agent n)) h is = absurd (cc)
 cannot_read source request (Sizes sizes.OutOfMemory) h is = absurd (cc)
-cannot_read source request (Schedule schedule.Read) h is = inl h
-cannot_read source request (Schedule schedule.TooLarge) h is = absurd (cc)
-cannot_read source request (Schedule (schedule.Line n)) h is = absurd (cc)
+cannot_read source request (First first.Read) h is = inl h
+cannot_read source request (First first.TooLarge) h is = absurd (cc)
+cannot_read source request (First (first.Line n)) h is = absurd (cc)
 
 nothing_printed : (call : Call) (request : Wanted) (r : Refusal) → PrintsNothing call → PrintsFor call request (status_of r)
 nothing_printed call request (Files (files.Read at)) h = h
@@ -177,9 +175,9 @@ nothing_printed call request (Sizes (sizes.TooManyTries agent)) h = h
 nothing_printed call request (Sizes (sizes.TooManyActions agent n)) h = h
 nothing_printed call request (Sizes (sizes.TooManyFacts agent n)) h = h
 nothing_printed call request (Sizes sizes.OutOfMemory) h = h
-nothing_printed call request (Schedule schedule.Read) h = h
-nothing_printed call request (Schedule schedule.TooLarge) h = h
-nothing_printed call request (Schedule (schedule.Line n)) h = h
+nothing_printed call request (First first.Read) h = h
+nothing_printed call request (First first.TooLarge) h = h
+nothing_printed call request (First (first.Line n)) h = h
 
 -- what is told where what the files hold has a first refusal
 abbrev Tells : Call → Wanted → Held → Type 0
@@ -190,15 +188,15 @@ Tells call request held =
 
 -- the refusal that comes is the first one
 module _ (one : OneFirst) (call : Call) (request : Wanted) where
-  told : (held : Held) (r s : Refusal) → IsFirst held (team_request request) r → call.status ≡ status_of r → Says call.err (line_for request r) → IsFirst held (team_request request) s → (call.status ≡ status_of s) × Says call.err (line_for request s)
-  told held r s first is says other =
+  told_so : (held : Held) (r s : Refusal) → IsFirst held (team_request request) r → call.status ≡ status_of r → Says call.err (line_for request r) → IsFirst held (team_request request) s → (call.status ≡ status_of s) × Says call.err (line_for request s)
+  told_so held r s first is says other =
       let same = one held (team_request request) r s first other in
       (is ∙ ap status_of same, subst (λ x. Says call.err (line_for request x)) same says)
 
   first_told : (r : Refusal) → ComesFirst call.source.held (team_request request) r → call.status ≡ status_of r → Says call.err (line_for request r) → IfSome call.source.held (Tells call request)
   first_told r first is says =
       weaken call.source.held (λ held. IsFirst held (team_request request) r) (Tells call request)
-      (λ held h s other. inr (inr (told held r s h is says other)))
+      (λ held h s other. inr (inr (told_so held r s h is says other)))
       (in_told call.source.held (λ held. ComesFirst held (team_request request) r) first)
 
   read_told : call.status ≡ status.Read → IfSome call.source.held (Tells call request)
@@ -216,9 +214,9 @@ module _ (one : OneFirst) (call : Call) (request : Wanted) where
   tells_first (Sizes (sizes.TooManyActions agent n)) h is says = first_told (Sizes (sizes.TooManyActions agent n)) h is says
   tells_first (Sizes (sizes.TooManyFacts agent n)) h is says = first_told (Sizes (sizes.TooManyFacts agent n)) h is says
   tells_first (Sizes sizes.OutOfMemory) h is says = memory_told is
-  tells_first (Schedule schedule.Read) h is says = read_told is
-  tells_first (Schedule schedule.TooLarge) h is says = first_told (Schedule schedule.TooLarge) h is says
-  tells_first (Schedule (schedule.Line n)) h is says = first_told (Schedule (schedule.Line n)) h is says
+  tells_first (First first.Read) h is says = read_told is
+  tells_first (First first.TooLarge) h is says = first_told (First first.TooLarge) h is says
+  tells_first (First (first.Line n)) h is says = first_told (First (first.Line n)) h is says
 
 -- a refusal
 pub kept_refusal : OneFirst → (call : Call) (request : Wanted) (r : Refusal) → request_of call.words ≡ Some request → Rests call.source (team_request request) r → (call.source.before < call.source.now → status_of r ≡ status.Read) → call.status ≡ status_of r → Unwritten call → Says call.err (line_for request r) → Keeps call
@@ -236,131 +234,160 @@ kept_refusal one call request r asks rests fault is unwritten says =
     }
 
 -- an answer that is right has its status
-right_status : (request : Wanted) (value : AgentTask → Numbers → Numbers → Option ℕ) (limit : ℕ) (team : List Factor) (tasks : List AgentTask) (schedule : List Event) (last : World) (a : Answer) (plan : List PlanStep) → IsRight value limit team tasks schedule last a plan → IsAnswerStatus request (answer_status a)
-right_status request value limit team tasks schedule last answer.Nothing plan h = absurd h
-right_status request value limit team tasks schedule last (answer.Solved cost steps) plan h = inl refl
-right_status request value limit team tasks schedule last answer.Unsolvable plan h = inr (inl refl)
-right_status request value limit team tasks schedule last answer.Undecided plan h = inr (inr (inl refl))
+right_status : (value : AgentTask → Numbers → Numbers → Option ℕ) (limit : ℕ) (team : List Factor) (tasks : List AgentTask) (schedule : List Event) (last : World) (a : Answer) (plan : List PlanStep) → IsRight value limit team tasks schedule last a plan → IsSolvedStatus (answer_status a)
+right_status value limit team tasks schedule last answer.Nothing plan h = absurd h
+right_status value limit team tasks schedule last (answer.Solved cost steps) plan h = inl refl
+right_status value limit team tasks schedule last answer.Unsolvable plan h = inr (inl refl)
+right_status value limit team tasks schedule last answer.Undecided plan h = inr (inr refl)
 
 -- what was found has the status of an answer, or of a schedule that ended before there was one
-module _ (request : Wanted) (value : AgentTask → Numbers → Numbers → Option ℕ) (limit : ℕ) (team : List Factor) (schedule : List Event) (s : Solution) (found : IsFound value limit team schedule s) where
-  over_status : is_over found.last ≡ true → IsAnswerStatus request (answer_status s.answer)
+module _ (value : AgentTask → Numbers → Numbers → Option ℕ) (limit : ℕ) (team : List Factor) (schedule : List Event) (s : Solution) (found : IsFound value limit team schedule s) where
+  over_status : is_over found.last ≡ true → IsSolvedStatus (answer_status s.answer)
   over_status over =
       let right = found.right over in
-      right_status request value limit team found.tasks.tasks schedule found.last s.answer right.plan right.right
+      right_status value limit team found.tasks.tasks schedule found.last s.answer right.plan right.right
 
-  found_status : (over : Bool) → is_over found.last ≡ over → IsReplay request → IsAnswerStatus request (answer_status s.answer)
-  found_status true is replay = over_status is
-  found_status false is replay = inr (inr (inr (ap answer_status (found.goes_on is).0, replay)))
+  found_status : (over : Bool) → is_over found.last ≡ over → IsSolvedStatus (answer_status s.answer) ⊎ (answer_status s.answer ≡ status.Unfinished)
+  found_status true is = inl (over_status is)
+  found_status false is = inr (ap answer_status (found.goes_on is).0)
 
--- the text of a schedule is that of a file that is asked for
-asked_file : (held : Option Held) (name : Option Text) (text : Text) → IsScheduleText held name (Some text) → (n : Text) × (name ≡ Some n)
-asked_file held None text is = absurd is
-asked_file held (Some name) text is = (name, refl)
+solved_status : (s : Searching) (team : List Factor) (found : Solution) → IsSolution (values_of s.heuristic) s.limit team found → IsSolvedStatus (answer_status found.answer)
+solved_status s team found is =
+    let value = values_of s.heuristic in
+    over_status value s.limit team is.schedule found is.in_turn.is_found
+    (round_robin_end value (start_world value s.limit is.in_turn.is_found.tasks.tasks) is.in_turn.is_found.last is.schedule is.round_robin)
 
-by_status : (request : Wanted) (held : Option Held) (text : Option Text) (team : List Factor) (s : Solution) → IsScheduleText held request.schedule text → IsFoundBy request.heuristic request.limit team text s → IsAnswerStatus request (answer_status s.answer)
-by_status request held None team s is found =
-    let value = values_of request.heuristic in
-    over_status request value request.limit team found.schedule s found.is_found
-    (round_robin_end value (start_world value request.limit found.is_found.tasks.tasks) found.is_found.last found.schedule found.round_robin)
-by_status request held (Some text) team s is found =
-    found_status request (values_of request.heuristic) request.limit team _ s found.is_found
-    (is_over found.is_found.last) refl (asked_file held request.schedule text is)
+replayed_status : (s : Searching) (team : List Factor) (text : Text) (found : Solution) → IsReplayed (values_of s.heuristic) s.limit team text found → IsSolvedStatus (answer_status found.answer) ⊎ (answer_status found.answer ≡ status.Unfinished)
+replayed_status s team text found is =
+    found_status (values_of s.heuristic) s.limit team _ found is.in_turn.is_found (is_over is.in_turn.is_found.last) refl
 
--- what a report keeps of a decision
-pub record Reported (report : Report) (s : Solution) : Type 0 where
-  pub answer : report.answer ≡ s.answer
-  pub log : report.log ≡ s.log
-  pub views : report.views ≡ s.views
+valid_status : (valid : Bool) → ((if valid then status.Solved else status.No) ≡ status.Solved) ⊎ ((if valid then status.Solved else status.No) ≡ status.No)
+valid_status true = inl refl
+valid_status false = inr refl
 
-reported_solution : (P : Solution → Type 0) (report : Report) (s : Solution) → Reported report s → P s → P (record { views = report.views; log = report.log; answer = report.answer; text = s.text })
-reported_solution P report s kept h =
-    subst (λ v. P (record { views = v; log = report.log; answer = report.answer; text = s.text })) (sym kept.views)
-    (subst (λ l. P (record { views = s.views; log = l; answer = report.answer; text = s.text })) (sym kept.log)
-    (subst (λ a. P (record { views = s.views; log = s.log; answer = a; text = s.text })) (sym kept.answer) h))
+-- an outcome has a status of its request
+outcome_status : (held : Option Held) (request : Wanted) (report : Report) (ended : Status) (text : Text) → IsOutcome held request report ended text → IsOutcomeStatus request ended
+outcome_status held (solves w) report ended text (o, is) =
+    subst IsSolvedStatus (sym is) (solved_status w.search o.team (reported report o.outcome) o.solved.found)
+outcome_status held (replays w) report ended text (o, is) =
+    subst (λ e. IsSolvedStatus e ⊎ (e ≡ status.Unfinished)) (sym is)
+    (replayed_status w.search o.team o.schedule (reported report o.outcome) o.replayed.found)
+outcome_status held (checks w) report ended text o =
+    subst (λ e. (e ≡ status.Solved) ⊎ (e ≡ status.No)) (sym o.is_ended)
+    (valid_status (is_valid (verdict o.team o.plan.plan) o.plan.cost))
+outcome_status held (makes w) report ended text (o, is) =
+    subst IsSolvedStatus (sym is) (solved_status w.search o.team (reported report o.outcome) o.solved.found)
 
--- the text that is told is the one that is printed
-behind : (a : Answer) (outcome : Text) → (behind_trace a ++ 10 ∷ []) ++ outcome ≡ behind_trace a ++ 10 ∷ outcome
-behind answer.Nothing outcome = refl
-behind (answer.Solved cost steps) outcome = refl
-behind answer.Unsolvable outcome = refl
-behind answer.Undecided outcome = refl
+-- nothing is refused of what an outcome is for
+pub record IsFine (held : Option Held) (request : TeamRequest) : Type 0 where
+  pub text : Option Text
+  pub is_text : IsFirstText held request.first text
+  pub team : List Factor
+  pub is_team : IsTeam held request.texts team
+  pub accepted : IsAccepted request.work team text
 
-told_is_printed : (trace : Bool) (log : List Entry) (a : Answer) (events outcome : Text) → events ≡ (if trace then trace_text log else []) → events ++ (trace_end trace a ++ outcome) ≡ printed_text trace log a outcome
-told_is_printed true log a events outcome is = ap (λ e. e ++ ((behind_trace a ++ 10 ∷ []) ++ outcome)) is ∙ ap (λ t. trace_text log ++ t) (behind a outcome)
-told_is_printed false log a events outcome is = ap (λ e. e ++ ([] ++ outcome)) is
+outcome_fine : (held : Option Held) (request : Wanted) (report : Report) (ended : Status) (text : Text) → IsOutcome held request report ended text → IsFine held (team_request request)
+outcome_fine held (solves w) report ended text (o, is) = record {
+  text = None;
+  is_text = tt;
+  team = o.team;
+  is_team = o.is_team.is_team;
+  accepted = o.solved.within;
+}
+outcome_fine held (replays w) report ended text (o, is) = record {
+  text = Some o.schedule;
+  is_text = o.is_team.is_first;
+  team = o.team;
+  is_team = o.is_team.is_team;
+  accepted = (o.replayed.within, (reported report o.outcome, o.replayed.found));
+}
+outcome_fine held (checks w) report ended text o = record {
+  text = Some o.first;
+  is_text = o.is_team.is_first;
+  team = o.team;
+  is_team = o.is_team.is_team;
+  accepted = (o.plan, o.is_plan);
+}
+outcome_fine held (makes w) report ended text (o, is) = record {
+  text = None;
+  is_text = tt;
+  team = o.team;
+  is_team = o.is_team.is_team;
+  accepted = o.solved.within;
+}
 
-module _ (call : Call) (request : Wanted) (d : Decision) (decided : IsDecidedFor call.source.held request.schedule (agents_of request.names) (search_of request) d) (reported : Reported call.report d.solution) where
-  is_outcome : IsOutcomeFor call request (told_text d request.trace)
-  is_outcome = record {
-    schedule = decided.text;
-    is_schedule = decided.is_text;
-    team = decided.team;
-    one_each = decided.one_each;
-    checked = decided.decides.checked;
-    holds = decided.holds;
-    within = decided.decides.within;
-    outcome = d.solution.text;
-    found = reported_solution (IsFoundBy request.heuristic request.limit decided.team decided.text) call.report d.solution reported decided.decides.found;
-    printed =
-        subst (λ l. told_text d request.trace ≡ printed_text request.trace l call.report.answer d.solution.text) (sym reported.log)
-        (subst (λ a. told_text d request.trace ≡ printed_text request.trace d.solution.log a d.solution.text) (sym reported.answer)
-        (told_is_printed request.trace d.solution.log d.solution.answer d.trace d.solution.text decided.decides.trace));
-  }
+-- where there is an outcome, nothing is to be told
+none_told : NoneFirst → (call : Call) (request : Wanted) → IsFine call.source.held (team_request request) → IfSome call.source.held (Tells call request)
+none_told none call request fine =
+    weaken call.source.held (λ files. IsFine (Some files) (team_request request)) (Tells call request)
+    (λ files h s first. absurd (none files (team_request request) h.text h.team s h.is_text h.is_team h.accepted first))
+    (in_told call.source.held (λ held. IsFine held (team_request request)) fine)
 
-  answered : IsAnswerStatus request (answer_status d.solution.answer)
-  answered = by_status request call.source.held decided.text decided.team d.solution decided.is_text decided.decides.found
+solved_printed : (call : Call) (request : Wanted) (s : Status) → IsSolvedStatus s → PrintsOutcome call request → PrintsFor call request s
+solved_printed call request s (inl is) h = subst (λ x. PrintsFor call request x) (sym is) h
+solved_printed call request s (inr (inl is)) h = subst (λ x. PrintsFor call request x) (sym is) h
+solved_printed call request s (inr (inr is)) h = subst (λ x. PrintsFor call request x) (sym is) h
 
-replayable : (request : Wanted) (team : List Factor) (text : Option Text) (s : Solution) → IsFoundBy request.heuristic request.limit team text s → IsReplayable (team_request request) team text
-replayable request team None s found = tt
-replayable request team (Some text) s found = (s, found)
+printed_outcome : (call : Call) (request : Wanted) (s : Status) → IsOutcomeStatus request s → PrintsOutcome call request → PrintsFor call request s
+printed_outcome call (solves w) s is h = solved_printed call (solves w) s is h
+printed_outcome call (replays w) s (inl is) h = solved_printed call (replays w) s is h
+printed_outcome call (replays w) s (inr is) h = subst (λ x. PrintsFor call (replays w) x) (sym is) (tt, h)
+printed_outcome call (checks w) s (inl is) h = solved_printed call (checks w) s (inl is) h
+printed_outcome call (checks w) s (inr is) h = solved_printed call (checks w) s (inr (inl is)) h
+printed_outcome call (makes w) s is h = solved_printed call (makes w) s is h
 
--- where something was found, nothing is to be told
-none_told : NoneFirst → (call : Call) (request : Wanted) (d : Decision) → IsDecidedFor call.source.held request.schedule (agents_of request.names) (search_of request) d → IfSome call.source.held (Tells call request)
-none_told none call request d decided =
-    weaken call.source.held (λ files. IsDecidedFor (Some files) request.schedule (agents_of request.names) (search_of request) d) (Tells call request)
-    (λ files h s first. absurd (none files (team_request request) h.text h.team s h.is_text h.holds h.decides.within (replayable request h.team h.text d.solution h.decides.found) first))
-    (in_told call.source.held (λ held. IsDecidedFor held request.schedule (agents_of request.names) (search_of request) d) decided)
+-- no status of an outcome is that of words, of a read or of a write
+abbrev NoOutcome : Status → Type 0
+NoOutcome t = (t ≡ status.Words) ⊎ (t ≡ status.Read) ⊎ (t ≡ status.Write)
 
-printed_answer : (call : Call) (request : Wanted) (s : Status) → IsAnswerStatus request s → PrintsAnswer call request → PrintsFor call request s
-printed_answer call request s (inl is) h = subst (λ x. PrintsFor call request x) (sym is) h
-printed_answer call request s (inr (inl is)) h = subst (λ x. PrintsFor call request x) (sym is) h
-printed_answer call request s (inr (inr (inl is))) h = subst (λ x. PrintsFor call request x) (sym is) h
-printed_answer call request s (inr (inr (inr (is, replay)))) h = subst (λ x. PrintsFor call request x) (sym is) (replay, h)
+not_solved : (s : Status) → IsSolvedStatus s → NoOutcome s → ⊥
+not_solved s (inl is) (inl w) = absurd (cc)
+not_solved s (inl is) (inr (inl r)) = absurd (cc)
+not_solved s (inl is) (inr (inr w)) = absurd (cc)
+not_solved s (inr (inl is)) (inl w) = absurd (cc)
+not_solved s (inr (inl is)) (inr (inl r)) = absurd (cc)
+not_solved s (inr (inl is)) (inr (inr w)) = absurd (cc)
+not_solved s (inr (inr is)) (inl w) = absurd (cc)
+not_solved s (inr (inr is)) (inr (inl r)) = absurd (cc)
+not_solved s (inr (inr is)) (inr (inr w)) = absurd (cc)
 
--- no status of an answer is that of words, of a read or of a write
-abbrev NoAnswer : Status → Type 0
-NoAnswer t = (t ≡ status.Words) ⊎ (t ≡ status.Read) ⊎ (t ≡ status.Write)
+not_unfinished : (s : Status) → s ≡ status.Unfinished → NoOutcome s → ⊥
+not_unfinished s is (inl w) = absurd (cc)
+not_unfinished s is (inr (inl r)) = absurd (cc)
+not_unfinished s is (inr (inr w)) = absurd (cc)
 
-not_answer : (request : Wanted) (s : Status) → IsAnswerStatus request s → NoAnswer s → ⊥
-not_answer request s (inl is) (inl w) = absurd (cc)
-not_answer request s (inl is) (inr (inl r)) = absurd (cc)
-not_answer request s (inl is) (inr (inr w)) = absurd (cc)
-not_answer request s (inr (inl is)) (inl w) = absurd (cc)
-not_answer request s (inr (inl is)) (inr (inl r)) = absurd (cc)
-not_answer request s (inr (inl is)) (inr (inr w)) = absurd (cc)
-not_answer request s (inr (inr (inl is))) (inl w) = absurd (cc)
-not_answer request s (inr (inr (inl is))) (inr (inl r)) = absurd (cc)
-not_answer request s (inr (inr (inl is))) (inr (inr w)) = absurd (cc)
-not_answer request s (inr (inr (inr (is, replay)))) (inl w) = absurd (cc)
-not_answer request s (inr (inr (inr (is, replay)))) (inr (inl r)) = absurd (cc)
-not_answer request s (inr (inr (inr (is, replay)))) (inr (inr w)) = absurd (cc)
+not_outcome : (request : Wanted) (s : Status) → IsOutcomeStatus request s → NoOutcome s → ⊥
+not_outcome (solves w) s is h = not_solved s is h
+not_outcome (replays w) s (inl is) h = not_solved s is h
+not_outcome (replays w) s (inr is) h = not_unfinished s is h
+not_outcome (checks w) s (inl is) h = not_solved s (inl is) h
+not_outcome (checks w) s (inr is) h = not_solved s (inr (inl is)) h
+not_outcome (makes w) s is h = not_solved s is h
 
 -- an outcome, written whole or cut off
-module _ (none : NoneFirst) (call : Call) (request : Wanted) (d : Decision) (asks : request_of call.words ≡ Some request) (decided : IsDecidedFor call.source.held request.schedule (agents_of request.names) (search_of request) d) (reported : Reported call.report d.solution) (no_fault : call.source.now ≡ call.source.before) where
-  pub kept_outcome : Publishes call.out call.err d request.trace call.status → Keeps call
+module _ (none : NoneFirst) (call : Call) (request : Wanted) (d : Decision) (asks : request_of call.words ≡ Some request) (decided : Decides call.source.held request d) (kept : call.report ≡ report_of d) (no_fault : call.source.now ≡ call.source.before) where
+  is_outcome : IsOutcomeFor call request d.status (told d)
+  is_outcome = subst (λ report. IsOutcome call.source.held request report d.status (told d)) (sym kept) decided
+
+  answered : IsOutcomeStatus request d.status
+  answered = outcome_status call.source.held request (report_of d) d.status (told d) decided
+
+  fine : IsFine call.source.held (team_request request)
+  fine = outcome_fine call.source.held request (report_of d) d.status (told d) decided
+
+  pub kept_outcome : Writes call.out call.err d call.status → Keeps call
   kept_outcome (inl (is, whole, same, says)) =
-      let ended : IsAnswerStatus request call.status = subst (λ s. IsAnswerStatus request s) (sym is) (answered call request d decided reported) in
-      let fits : answer_status call.report.answer ≡ call.status = ap answer_status reported.answer ∙ sym is in
+      let ended : IsOutcomeStatus request call.status = subst (λ s. IsOutcomeStatus request s) (sym is) answered in
+      let outcome : IsOutcomeFor call request call.status (told d) = subst (λ s. IsOutcomeFor call request s (told d)) (sym is) is_outcome in
       record {
-        words = λ s. absurd (not_answer request call.status ended (inl s));
+        words = λ s. absurd (not_outcome request call.status ended (inl s));
         refused = λ none_asked. absurd (cc);
-        read = λ s. absurd (not_answer request call.status ended (inr (inl s)));
+        read = λ s. absurd (not_outcome request call.status ended (inr (inl s)));
         read_faults = λ risen. absurd (omega arith);
-        write = (λ s. absurd (not_answer request call.status ended (inr (inr s))), λ risen. absurd (omega arith));
-        printed = at_some (request_of call.words) request _ _ asks (printed_answer call request call.status ended (told_text d request.trace, is_outcome call request d decided reported, fits, whole));
+        write = (λ s. absurd (not_outcome request call.status ended (inr (inr s))), λ risen. absurd (omega arith));
+        printed = at_some (request_of call.words) request _ _ asks (printed_outcome call request call.status ended (told d, outcome, whole));
         line = ([], at_some (request_of call.words) request _ _ asks (inl (ended, refl)), says);
-        first = if_some (request_of call.words) request _ asks (none_told none call request d decided);
+        first = if_some (request_of call.words) request _ asks (none_told none call request fine);
       }
   kept_outcome (inr (is, begun, risen, says)) =
       record {
@@ -369,35 +396,16 @@ module _ (none : NoneFirst) (call : Call) (request : Wanted) (d : Decision) (ask
         read = λ s. absurd (cc);
         read_faults = λ faults. absurd (omega arith);
         write = (λ _. risen, λ _. is);
-        printed = at_some (request_of call.words) request _ _ asks (subst (λ s. PrintsFor call request s) (sym is) (told_text d request.trace, is_outcome call request d decided reported, begun));
+        printed = at_some (request_of call.words) request _ _ asks (subst (λ s. PrintsFor call request s) (sym is) (told d, d.status, is_outcome, begun));
         line = (write_line, at_some (request_of call.words) request _ _ asks (inr (inl (is, refl))), says);
-        first = if_some (request_of call.words) request _ asks (none_told none call request d decided);
+        first = if_some (request_of call.words) request _ asks (none_told none call request fine);
       }
 
--- a request that is put together of its parts
-module _ (request : Wanted) (schedule : Option Text) (search : Search) (agents : List Two) (by : schedule ≡ request.schedule) (is : search ≡ search_of request) (names : agents ≡ agents_of request.names) where
-  same_request : request_by schedule search agents ≡ team_request request
-  same_request = λ i. request_by (by i) (is i) (names i)
-
-  same_decision : (held : Option Held) (d : Decision) → IsDecidedFor held schedule agents search d → IsDecidedFor held request.schedule (agents_of request.names) (search_of request) d
-  same_decision held d decided =
-      subst (λ s. IsDecidedFor held request.schedule (agents_of request.names) s d) is
-      (subst (λ a. IsDecidedFor held request.schedule a search d) names
-      (subst (λ n. IsDecidedFor held n agents search d) by decided))
-
-  same_line : (call : Call) (r : Refusal) → Says call.err (line_of schedule agents r) → Says call.err (line_for request r)
-  same_line call r says =
-      subst (λ a. Says call.err (line_of request.schedule a r)) names (subst (λ n. Says call.err (line_of n agents r)) by says)
-
--- the same for what was searched for or replayed
-pub kept_decision : NoneFirst → (call : Call) (request : Wanted) (schedule : Option Text) (search : Search) (agents : List Two) (d : Decision) → request_of call.words ≡ Some request → schedule ≡ request.schedule → search ≡ search_of request → agents ≡ agents_of request.names → IsDecidedFor call.source.held schedule agents search d → Reported call.report d.solution → call.source.now ≡ call.source.before → Publishes call.out call.err d search.trace call.status → Keeps call
-kept_decision none call request schedule search agents d asks by is names decided reported no_fault publishes =
-    kept_outcome none call request d asks
-    (same_decision request schedule search agents by is names call.source.held d decided)
-    reported no_fault (subst (λ s. Publishes call.out call.err d s.trace call.status) is publishes)
-
-pub kept_cause : OneFirst → (call : Call) (request : Wanted) (schedule : Option Text) (search : Search) (agents : List Two) (r : Refusal) → request_of call.words ≡ Some request → schedule ≡ request.schedule → search ≡ search_of request → agents ≡ agents_of request.names → Rests call.source (request_by schedule search agents) r → (call.source.before < call.source.now → status_of r ≡ status.Read) → call.status ≡ status_of r → Unwritten call → Says call.err (line_of schedule agents r) → Keeps call
-kept_cause one call request schedule search agents r asks by is names rests fault ended unwritten says =
-    kept_refusal one call request r asks
-    (subst (λ q. Rests call.source q r) (same_request request schedule search agents by is names) rests)
-    fault ended unwritten (same_line request schedule search agents by is names call r says)
+-- what a call keeps that ends with what was decided
+pub kept : OneFirst → NoneFirst → (call : Call) (request : Wanted) (decided : Result Decision Refusal) (name : Option Text) (agents : List Two) → request_of call.words ≡ Some request → ((r : Refusal) → line_of name agents r ≡ line_for request r) → IfOk decided (Decides call.source.held request) → IfErr decided (Rests call.source (team_request request)) → IfOk decided (λ _. call.source.now ≡ call.source.before) → IfErr decided (λ r. call.source.before < call.source.now → status_of r ≡ status.Read) → IfOk decided (Publishes call.out call.err call.report call.status) → IfErr decided (TellsRefusal name agents call.out call.err call.before call.report call.status) → Keeps call
+kept one none call request (Ok d) name agents asks lines outcome cause no_fault fault published tells =
+    kept_outcome none call request d asks outcome published.0 no_fault published.1
+kept one none call request (Err r) name agents asks lines outcome cause no_fault fault published tells =
+    kept_refusal one call request r asks cause fault tells.is_ended
+    (record { out = tells.nothing_written; no_fault = tells.no_fault; report = tells.same_report })
+    (subst (λ line. Says call.err line) (lines r) tells.line)

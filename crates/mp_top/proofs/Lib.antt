@@ -1,14 +1,18 @@
 -- what holds of each request that is accepted
 pub mod WordLemmas
--- a team that files hold is checked
+-- a team that texts lead to is checked
 pub mod Checked
--- what was fetched of a schedule's file is what it holds
-pub mod ScheduleFile
--- the files of a request have one first refusal
+-- how many texts are made, and that none is a file that cannot be read
+pub mod Made
+-- the status of a valid plan comes exactly with its text
+pub mod Valid
+-- what was fetched of the first file is what it holds
+pub mod FirstFile
+-- the texts of a request have one first refusal
 pub mod One
 -- what a sink gained
 pub mod Said
--- from a decision on a team to what the files hold
+-- from a decision on a team to what the texts lead to
 pub mod Decided
 -- what a call keeps, by how it ends
 pub mod Kept

@@ -1,11 +1,10 @@
--- The files of a request have at most one first refusal.
-use Rattle.std.proofs.Common.{◌≡◌, ◌<◌, ◌≤◌, ◌⊎◌, inl, inr, ℕ, zero, suc, List, length, All, Option, None, Some, IsSomeAnd, Ok, refl, sym, ap, ◌∙◌, subst, arith}
+-- The texts of a request have at most one first refusal.
+use Rattle.std.proofs.Common.{◌≡◌, ◌<◌, ◌≤◌, ◌⊎◌, inl, inr, ℕ, zero, suc, List, length, All, Option, None, Some, IsSomeAnd, Result, Ok, Err, refl, sym, ap, ◌∙◌, subst, arith}
 use Rattle.std.specs.Prelude.{slice_get}
 use Rattle.std.proofs.lemmas.Option.{same_Some}
 use Rattle.mp_factor.specs.declared.factor.Factor.{Factor}
-use Rattle.mp_files.specs.Team.{HoldsTeam, Two}
-use Rattle.mp_files.proofs.One.{Laws, one_read, one_first as one_of_files, found_none as none_of_files}
-use Rattle.mp_files.proofs.Readings.{same_ok}
+use Rattle.mp_files.proofs.One.{Laws, one_read, one_made}
+use Rattle.mp_files.proofs.Readings.{as_err, ok_err, same_ok}
 use Rattle.mp_ground.specs.Grounded.{Known}
 use Rattle.mp_ground.specs.Limits.{IsRefusedBy, IsWithin, actions, facts, tries}
 use Rattle.mp_ground.specs.declared.refusal.GroundRefusal.{GroundRefusal}
@@ -19,13 +18,17 @@ use Rattle.mp_sets.specs.Numbers.{Numbers}
 use Rattle.mp_solutions.specs.Solution.{IsRefusedLine, IsReplayed}
 use Rattle.mp_solutions.specs.declared.solution.Solution.{Solution}
 use Rattle.mp_task.specs.AgentTask.{AgentTask}
-use Rattle.mp_top.specs.Asked.{TeamRequest, values_of}
-use Rattle.mp_top.specs.First.{IsFileRefused, IsFirst, IsFirstSize, IsLineRefused, IsReplayable, IsScheduleAbsent, IsScheduleLong, IsTooLarge}
-use Rattle.mp_solve.specs.Refused.{AreWithin}
-use Rattle.mp_top.specs.Schedule.{HasScheduleText, IsScheduleText, longest_schedule}
+use Rattle.mp_plans.specs.Plan.{plan_in}
+use Rattle.mp_plans.specs.declared.plan.PlanText.{PlanText}
+use Rattle.mp_top.specs.Asked.{FirstFile, TeamRequest, Texts, Work, values_of}
+use Rattle.mp_top.specs.Asked.Texts.{in_files, made}
+use Rattle.mp_top.specs.Asked.Work.{checked, replayed, searched}
+use Rattle.mp_top.specs.First.{IsAccepted, IsFileRefused, IsFirst, IsFirstAbsent, IsFirstLong, IsFirstSize, IsLineRefused, IsSizeRefused, IsTextLineRefused, IsTooLarge}
+use Rattle.mp_top.specs.FirstText.{HasFirstText, IsFirstText}
+use Rattle.mp_top.specs.Team.{IsTeam, IsTextRefused}
 use Rattle.mp_top.specs.declared.refusal.Refusal.{Refusal}
-use Rattle.mp_top.specs.declared.refusal.Refusal.TheVariants.{Files, Sizes, Schedule}
-use Rattle.mp_top.specs.declared.refusal.ScheduleRefusal.TheVariants as schedule
+use Rattle.mp_top.specs.declared.refusal.Refusal.TheVariants.{Files, First, Sizes}
+use Rattle.mp_top.specs.declared.refusal.FirstRefusal.TheVariants as first
 use Rattle.mp_top.proofs.Checked.{checked_team}
 
 -- a refusal for a size
@@ -122,34 +125,43 @@ module _ (team : List Factor) where
       let p = of_size team r h in
       breaks (known_at team p.1.place p.1.factor) r p.0 (within p.1.place p.1.factor p.1.at) p.1.refused
 
--- the files hold one team
-one_team : Laws → (files : Held) (agents : List Two) (team other : List Factor) → HoldsTeam files agents team → HoldsTeam files agents other → team ≡ other
-one_team laws files agents team other h g = same_ok team other (one_read laws files agents (Ok team) (Ok other) h g)
+-- the texts lead to one team or to one refusal
+one_team : Laws → (files : Held) (texts : Texts) (team other : List Factor) → IsTeam (Some files) texts team → IsTeam (Some files) texts other → team ≡ other
+one_team laws files (in_files names) team other h g = same_ok team other (one_read laws files names (Ok team) (Ok other) h g)
+one_team laws files (made names texts) team other h g = same_ok team other (one_made laws texts (Ok team) (Ok other) h g)
 
--- ---- the file of the schedule
+one_text_refusal : Laws → (files : Held) (texts : Texts) (r s : FilesRefusal) → IsTextRefused (Some files) texts r → IsTextRefused (Some files) texts s → r ≡ s
+one_text_refusal laws files (in_files names) r s h g = as_err (Err r) (Err s) r s (one_read laws files names (Err r) (Err s) h g) refl refl
+one_text_refusal laws files (made names texts) r s h g = as_err (Err r) (Err s) r s (one_made laws texts (Err r) (Err s) h g) refl refl
 
-one_text : (files : Held) (name t u : Option Text) → IsScheduleText (Some files) name t → IsScheduleText (Some files) name u → t ≡ u
+team_or_refusal : Laws → (files : Held) (texts : Texts) (team : List Factor) (r : FilesRefusal) → IsTeam (Some files) texts team → IsTextRefused (Some files) texts r → ⊥
+team_or_refusal laws files (in_files names) team r h g = ok_err team r (one_read laws files names (Ok team) (Err r) h g)
+team_or_refusal laws files (made names texts) team r h g = ok_err team r (one_made laws texts (Ok team) (Err r) h g)
+
+-- ---- the first file
+
+one_text : (files : Held) (file : Option FirstFile) (t u : Option Text) → IsFirstText (Some files) file t → IsFirstText (Some files) file u → t ≡ u
 one_text files None None None h g = refl
 one_text files None None (Some u) h g = absurd g
 one_text files None (Some t) u h g = absurd h
-one_text files (Some name) None u h g = absurd h
-one_text files (Some name) (Some t) None h g = absurd g
-one_text files (Some name) (Some t) (Some u) h g = sym h.0 ∙ g.0
+one_text files (Some file) None u h g = absurd h
+one_text files (Some file) (Some t) None h g = absurd g
+one_text files (Some file) (Some t) (Some u) h g = sym h.0 ∙ g.0
 
-no_text : (files : Held) (name : Text) (t : Option Text) → files name ≡ None → IsScheduleText (Some files) (Some name) t → ⊥
-no_text files name None absent h = h
-no_text files name (Some t) absent (is, short) = absurd (cc)
+no_text : (files : Held) (file : FirstFile) (t : Option Text) → files file.name ≡ None → IsFirstText (Some files) (Some file) t → ⊥
+no_text files file None absent h = h
+no_text files file (Some t) absent (is, short) = absurd (cc)
 
-long_in : (found : Option Text) (t : Text) → found ≡ Some t → length t ≤ longest_schedule → IsSomeAnd found (λ x. longest_schedule < length x) → ⊥
-long_in None t is short long = long
-long_in (Some x) t is short long =
+long_in : (most : ℕ) (found : Option Text) (t : Text) → found ≡ Some t → length t ≤ most → IsSomeAnd found (λ x. most < length x) → ⊥
+long_in most None t is short long = long
+long_in most (Some x) t is short long =
     let same : x ≡ t = same_Some x t is in
-    let more : longest_schedule < length t = subst (λ y. longest_schedule < length y) same long in
-    not_more (length t) longest_schedule short more
+    let more : most < length t = subst (λ y. most < length y) same long in
+    not_more (length t) most short more
 
-long_text : (files : Held) (name : Text) (t : Option Text) → IsSomeAnd (files name) (λ x. longest_schedule < length x) → IsScheduleText (Some files) (Some name) t → ⊥
-long_text files name None long h = h
-long_text files name (Some t) long (is, short) = long_in (files name) t is short long
+long_text : (files : Held) (file : FirstFile) (t : Option Text) → IsSomeAnd (files file.name) (λ x. file.longest < length x) → IsFirstText (Some files) (Some file) t → ⊥
+long_text files file None long h = h
+long_text files file (Some t) long (is, short) = long_in file.longest (files file.name) t is short long
 
 none_and : {A : Type 0} (o : Option A) (P : A → Type 0) → o ≡ None → IsSomeAnd o P → ⊥
 none_and None P is h = h
@@ -166,92 +178,126 @@ pub record LineLaws : Type 0 where
       → All IsChecked team
       → IsReplayed value limit team text found → IsRefusedLine value limit team text n → ⊥
 
--- the least that is known where a refusal comes behind the file of the schedule
+same_line_of : (read : Result PlanText ℕ) (m n : ℕ) → read ≡ Err m → read ≡ Err n → m ≡ n
+same_line_of (Ok plan) m n h g = absurd (cc)
+same_line_of (Err k) m n h g = cc
+
+plan_or_line : (read : Result PlanText ℕ) (plan : PlanText) (n : ℕ) → read ≡ Ok plan → read ≡ Err n → ⊥
+plan_or_line (Ok p) plan n h g = absurd (cc)
+plan_or_line (Err k) plan n h g = absurd (cc)
+
+-- a team and the text of the first file have one refusal, and none where nothing of them is refused
+one_line : LineLaws → (work : Work) (team : List Factor) (text : Text) (m n : ℕ) → All IsChecked team → IsTextLineRefused work team text m → IsTextLineRefused work team text n → m ≡ n
+one_line lines (searched s) team text m n all h g = absurd h
+one_line lines (replayed s) team text m n all h g = lines.one (values_of s.heuristic) s.limit team text m n all h.1 g.1
+one_line lines checked team text m n all h g = same_line_of (plan_in (length team) text) m n h g
+
+no_line_of : LineLaws → (work : Work) (team : List Factor) (text : Text) (n : ℕ) → All IsChecked team → IsAccepted work team (Some text) → IsTextLineRefused work team text n → ⊥
+no_line_of lines (searched s) team text n all by h = h
+no_line_of lines (replayed s) team text n all by h = lines.none (values_of s.heuristic) s.limit team text by.1.0 n all by.1.1 h.1
+no_line_of lines checked team text n all by h = plan_or_line (plan_in (length team) text) by.0 n by.1 h
+
+one_size_of : (work : Work) (team : List Factor) (r s : GroundRefusal) → IsSizeRefused work team r → IsSizeRefused work team s → r ≡ s
+one_size_of (searched s) team r q h g = one_first_size team r q h g
+one_size_of (replayed s) team r q h g = one_first_size team r q h g
+one_size_of checked team r q h g = absurd h
+
+no_size_where : (work : Work) (team : List Factor) (r : GroundRefusal) (text : Option Text) → IsAccepted work team text → IsSizeRefused work team r → ⊥
+no_size_where (searched s) team r text by h = no_size team r by h
+no_size_where (replayed s) team r text by h = no_size team r by.0 h
+no_size_where checked team r text by h = h
+
+size_or_line_of : (work : Work) (team : List Factor) (r : GroundRefusal) (text : Text) (n : ℕ) → IsSizeRefused work team r → IsTextLineRefused work team text n → ⊥
+size_or_line_of (searched s) team r text n h g = g
+size_or_line_of (replayed s) team r text n h g = no_size team r g.0 h
+size_or_line_of checked team r text n h g = h
+
+-- the least that is known where a refusal comes behind the first file
 module _ (laws : Laws) (lines : LineLaws) (files : Held) (request : TeamRequest) where
-  absent_first : IsScheduleAbsent (Some files) request → HasScheduleText (Some files) request.schedule → ⊥
-  absent_first h (t, is) = no_text files h.name t h.absent (subst (λ s. IsScheduleText (Some files) s t) h.asked is)
+  absent_first : IsFirstAbsent (Some files) request → HasFirstText (Some files) request.first → ⊥
+  absent_first h (t, is) = no_text files h.file t h.absent (subst (λ s. IsFirstText (Some files) s t) h.asked is)
 
-  long_first : IsScheduleLong (Some files) request → HasScheduleText (Some files) request.schedule → ⊥
-  long_first h (t, is) = long_text files h.name t h.long (subst (λ s. IsScheduleText (Some files) s t) h.asked is)
+  long_first : IsFirstLong (Some files) request → HasFirstText (Some files) request.first → ⊥
+  long_first h (t, is) = long_text files h.file t h.long (subst (λ s. IsFirstText (Some files) s t) h.asked is)
 
-  absent_or_long : IsScheduleAbsent (Some files) request → IsScheduleLong (Some files) request → ⊥
+  absent_or_long : IsFirstAbsent (Some files) request → IsFirstLong (Some files) request → ⊥
   absent_or_long h g =
-      let same : h.name ≡ g.name = same_Some h.name g.name (sym h.asked ∙ g.asked) in
-      none_and (files g.name) _ (subst (λ n. files n ≡ None) same h.absent) g.long
+      let same : h.file ≡ g.file = same_Some h.file g.file (sym h.asked ∙ g.asked) in
+      none_and (files g.file.name) _ (subst (λ f. files f.name ≡ None) same h.absent) g.long
 
-  line_text : (n : ℕ) → IsLineRefused (Some files) request n → HasScheduleText (Some files) request.schedule
-  line_text n h = (Some h.text, h.schedule)
+  line_text : (n : ℕ) → IsLineRefused (Some files) request n → HasFirstText (Some files) request.first
+  line_text n h = (Some h.text, h.is_text)
 
   file_or_size : (r : FilesRefusal) (s : GroundRefusal) → IsFileRefused (Some files) request r → IsTooLarge (Some files) request s → ⊥
-  file_or_size r s h g = none_of_files laws files request.agents g.team r g.holds h.first
+  file_or_size r s h g = team_or_refusal laws files request.texts g.team r g.is_team h.first
 
   file_or_line : (r : FilesRefusal) (n : ℕ) → IsFileRefused (Some files) request r → IsLineRefused (Some files) request n → ⊥
-  file_or_line r n h g = none_of_files laws files request.agents g.team r g.holds h.first
-
-  no_size_of : (team : List Factor) (r : GroundRefusal) → HoldsTeam files request.agents team → AreWithin team → IsTooLarge (Some files) request r → ⊥
-  no_size_of team r holds within h =
-      let same : team ≡ h.team = one_team laws files request.agents team h.team holds h.holds in
-      no_size team r within (subst (λ t. IsFirstSize t r) (sym same) h.first)
+  file_or_line r n h g = team_or_refusal laws files request.texts g.team r g.is_team h.first
 
   size_or_line : (r : GroundRefusal) (n : ℕ) → IsTooLarge (Some files) request r → IsLineRefused (Some files) request n → ⊥
-  size_or_line r n h g = no_size_of g.team r g.holds g.within h
+  size_or_line r n h g =
+      let same : h.team ≡ g.team = one_team laws files request.texts h.team g.team h.is_team g.is_team in
+      size_or_line_of request.work g.team r g.text n (subst (λ t. IsSizeRefused request.work t r) same h.refused) g.refused
 
   same_size : (r s : GroundRefusal) → IsTooLarge (Some files) request r → IsTooLarge (Some files) request s → r ≡ s
   same_size r s h g =
-      let same : h.team ≡ g.team = one_team laws files request.agents h.team g.team h.holds g.holds in
-      one_first_size h.team r s h.first (subst (λ t. IsFirstSize t s) (sym same) g.first)
+      let same : h.team ≡ g.team = one_team laws files request.texts h.team g.team h.is_team g.is_team in
+      one_size_of request.work g.team r s (subst (λ t. IsSizeRefused request.work t r) same h.refused) g.refused
 
   same_line : (m n : ℕ) → IsLineRefused (Some files) request m → IsLineRefused (Some files) request n → m ≡ n
   same_line m n h g =
-      let value = values_of request.heuristic in
-      let team : h.team ≡ g.team = one_team laws files request.agents h.team g.team h.holds g.holds in
+      let team : h.team ≡ g.team = one_team laws files request.texts h.team g.team h.is_team g.is_team in
       let text : h.text ≡ g.text =
-      same_Some h.text g.text (one_text files request.schedule (Some h.text) (Some g.text) h.schedule g.schedule) in
-      let also : IsRefusedLine value request.limit h.team h.text n =
-      subst (λ t. IsRefusedLine value request.limit t h.text n) (sym team)
-      (subst (λ t. IsRefusedLine value request.limit g.team t n) (sym text) g.refused) in
-      lines.one value request.limit h.team h.text m n (checked_team files request.agents h.team h.holds) h.refused also
+      same_Some h.text g.text (one_text files request.first (Some h.text) (Some g.text) h.is_text g.is_text) in
+      let also : IsTextLineRefused request.work g.team g.text m =
+      subst (λ t. IsTextLineRefused request.work g.team t m) text
+      (subst (λ t. IsTextLineRefused request.work t h.text m) team h.refused) in
+      one_line lines request.work g.team g.text m n (checked_team files request.texts g.team g.is_team) also g.refused
 
   pub one_first : (r s : Refusal) → IsFirst files request r → IsFirst files request s → r ≡ s
-  one_first (Files r) (Files s) h g = ap Files (one_of_files laws files request.agents r s h.first g.first)
+  one_first (Files r) (Files s) h g = ap Files (one_text_refusal laws files request.texts r s h.first g.first)
   one_first (Files r) (Sizes s) h g = absurd (file_or_size r s h g)
-  one_first (Files r) (Schedule schedule.Read) h g = absurd (absent_first g h.schedule)
-  one_first (Files r) (Schedule schedule.TooLarge) h g = absurd (long_first g h.schedule)
-  one_first (Files r) (Schedule (schedule.Line n)) h g = absurd (file_or_line r n h g)
+  one_first (Files r) (First first.Read) h g = absurd (absent_first g h.first_text)
+  one_first (Files r) (First first.TooLarge) h g = absurd (long_first g h.first_text)
+  one_first (Files r) (First (first.Line n)) h g = absurd (file_or_line r n h g)
   one_first (Sizes r) (Files s) h g = absurd (file_or_size s r g h)
   one_first (Sizes r) (Sizes s) h g = ap Sizes (same_size r s h g)
-  one_first (Sizes r) (Schedule schedule.Read) h g = absurd (absent_first g h.schedule)
-  one_first (Sizes r) (Schedule schedule.TooLarge) h g = absurd (long_first g h.schedule)
-  one_first (Sizes r) (Schedule (schedule.Line n)) h g = absurd (size_or_line r n h g)
-  one_first (Schedule schedule.Read) (Files s) h g = absurd (absent_first h g.schedule)
-  one_first (Schedule schedule.Read) (Sizes s) h g = absurd (absent_first h g.schedule)
-  one_first (Schedule schedule.Read) (Schedule schedule.Read) h g = refl
-  one_first (Schedule schedule.Read) (Schedule schedule.TooLarge) h g = absurd (absent_or_long h g)
-  one_first (Schedule schedule.Read) (Schedule (schedule.Line n)) h g = absurd (absent_first h (line_text n g))
-  one_first (Schedule schedule.TooLarge) (Files s) h g = absurd (long_first h g.schedule)
-  one_first (Schedule schedule.TooLarge) (Sizes s) h g = absurd (long_first h g.schedule)
-  one_first (Schedule schedule.TooLarge) (Schedule schedule.Read) h g = absurd (absent_or_long g h)
-  one_first (Schedule schedule.TooLarge) (Schedule schedule.TooLarge) h g = refl
-  one_first (Schedule schedule.TooLarge) (Schedule (schedule.Line n)) h g = absurd (long_first h (line_text n g))
-  one_first (Schedule (schedule.Line m)) (Files s) h g = absurd (file_or_line s m g h)
-  one_first (Schedule (schedule.Line m)) (Sizes s) h g = absurd (size_or_line s m g h)
-  one_first (Schedule (schedule.Line m)) (Schedule schedule.Read) h g = absurd (absent_first g (line_text m h))
-  one_first (Schedule (schedule.Line m)) (Schedule schedule.TooLarge) h g = absurd (long_first g (line_text m h))
-  one_first (Schedule (schedule.Line m)) (Schedule (schedule.Line n)) h g = ap (λ i. Schedule (schedule.Line i)) (same_line m n h g)
+  one_first (Sizes r) (First first.Read) h g = absurd (absent_first g h.first_text)
+  one_first (Sizes r) (First first.TooLarge) h g = absurd (long_first g h.first_text)
+  one_first (Sizes r) (First (first.Line n)) h g = absurd (size_or_line r n h g)
+  one_first (First first.Read) (Files s) h g = absurd (absent_first h g.first_text)
+  one_first (First first.Read) (Sizes s) h g = absurd (absent_first h g.first_text)
+  one_first (First first.Read) (First first.Read) h g = refl
+  one_first (First first.Read) (First first.TooLarge) h g = absurd (absent_or_long h g)
+  one_first (First first.Read) (First (first.Line n)) h g = absurd (absent_first h (line_text n g))
+  one_first (First first.TooLarge) (Files s) h g = absurd (long_first h g.first_text)
+  one_first (First first.TooLarge) (Sizes s) h g = absurd (long_first h g.first_text)
+  one_first (First first.TooLarge) (First first.Read) h g = absurd (absent_or_long g h)
+  one_first (First first.TooLarge) (First first.TooLarge) h g = refl
+  one_first (First first.TooLarge) (First (first.Line n)) h g = absurd (long_first h (line_text n g))
+  one_first (First (first.Line m)) (Files s) h g = absurd (file_or_line s m g h)
+  one_first (First (first.Line m)) (Sizes s) h g = absurd (size_or_line s m g h)
+  one_first (First (first.Line m)) (First first.Read) h g = absurd (absent_first g (line_text m h))
+  one_first (First (first.Line m)) (First first.TooLarge) h g = absurd (long_first g (line_text m h))
+  one_first (First (first.Line m)) (First (first.Line n)) h g = ap (λ i. First (first.Line i)) (same_line m n h g)
 
-  -- no line is refused where something was found
-  no_line : (text : Option Text) (team : List Factor) (n : ℕ) → IsScheduleText (Some files) request.schedule text → HoldsTeam files request.agents team → IsReplayable request team text → IsLineRefused (Some files) request n → ⊥
-  no_line text team n is holds by h =
-      let value = values_of request.heuristic in
-      let same_team : team ≡ h.team = one_team laws files request.agents team h.team holds h.holds in
-      let same_text : text ≡ Some h.text = one_text files request.schedule text (Some h.text) is h.schedule in
-      let replayed : IsReplayable request h.team (Some h.text) =
-      subst (λ t. IsReplayable request t (Some h.text)) same_team (subst (λ t. IsReplayable request team t) same_text by) in
-      lines.none value request.limit h.team h.text replayed.0 n (checked_team files request.agents h.team h.holds) replayed.1 h.refused
+  no_size_first : (text : Option Text) (team : List Factor) (r : GroundRefusal) → IsTeam (Some files) request.texts team → IsAccepted request.work team text → IsTooLarge (Some files) request r → ⊥
+  no_size_first text team r is_team by h =
+      let same : h.team ≡ team = one_team laws files request.texts h.team team h.is_team is_team in
+      no_size_where request.work team r text by (subst (λ t. IsSizeRefused request.work t r) same h.refused)
 
-  pub none_first : (text : Option Text) (team : List Factor) (r : Refusal) → IsScheduleText (Some files) request.schedule text → HoldsTeam files request.agents team → AreWithin team → IsReplayable request team text → IsFirst files request r → ⊥
-  none_first text team (Files r) is holds within by h = none_of_files laws files request.agents team r holds h.first
-  none_first text team (Sizes r) is holds within by h = no_size_of team r holds within h
-  none_first text team (Schedule schedule.Read) is holds within by h = absent_first h (text, is)
-  none_first text team (Schedule schedule.TooLarge) is holds within by h = long_first h (text, is)
-  none_first text team (Schedule (schedule.Line n)) is holds within by h = no_line text team n is holds by h
+  -- no line is refused where the first text is accepted
+  no_line : (text : Option Text) (team : List Factor) (n : ℕ) → IsFirstText (Some files) request.first text → IsTeam (Some files) request.texts team → IsAccepted request.work team text → IsLineRefused (Some files) request n → ⊥
+  no_line text team n is is_team by h =
+      let same_team : team ≡ h.team = one_team laws files request.texts team h.team is_team h.is_team in
+      let same_text : text ≡ Some h.text = one_text files request.first text (Some h.text) is h.is_text in
+      let accepted : IsAccepted request.work h.team (Some h.text) =
+      subst (λ t. IsAccepted request.work t (Some h.text)) same_team (subst (λ t. IsAccepted request.work team t) same_text by) in
+      no_line_of lines request.work h.team h.text n (checked_team files request.texts h.team h.is_team) accepted h.refused
+
+  pub none_first : (text : Option Text) (team : List Factor) (r : Refusal) → IsFirstText (Some files) request.first text → IsTeam (Some files) request.texts team → IsAccepted request.work team text → IsFirst files request r → ⊥
+  none_first text team (Files r) is is_team by h = team_or_refusal laws files request.texts team r is_team h.first
+  none_first text team (Sizes r) is is_team by h = no_size_first text team r is_team by h
+  none_first text team (First first.Read) is is_team by h = absent_first h (text, is)
+  none_first text team (First first.TooLarge) is is_team by h = long_first h (text, is)
+  none_first text team (First (first.Line n)) is is_team by h = no_line text team n is is_team by h

@@ -1,178 +1,85 @@
 -- What holds of all accepted words: they keep the limits of the program, and words that ask for one thread are for one thread
 -- alone.
-use Rattle.std.proofs.Common.{◌≡◌, ℕ, ◌*◌, ◌≤◌, Bool, true, false, ◌&&◌, ◌||◌, List, [], ◌∷◌, length, Option, Some, None, IfSome, MatchOption, refl, sym, ◌∙◌, subst, arith, true≢false, if◌then◌else◌}
+use Rattle.std.proofs.Common.{◌≡◌, ℕ, ◌*◌, ◌≤◌, Bool, true, false, ◌&&◌, ◌||◌, not, List, [], ◌∷◌, length, map, Option, Some, None, IfSome, MatchOption, refl, sym, ◌∙◌, subst, arith, true≢false, if◌then◌else◌}
 use Rattle.std.proofs.Math.Numerals.{one-add}
 use Rattle.std.proofs.lemmas.Bool.{and_parts, leb-true}
-use Rattle.std.specs.Prelude.{codes, nat_le, option_and_then, option_map, unwrap_or}
+use Rattle.std.proofs.lemmas.List.FromFn.{length-map-range_with_len}
+use Rattle.std.specs.List.{range_with_len}
+use Rattle.std.specs.Prelude.{codes, nat_le, option_and_then, unwrap_or}
 use Rattle.std.specs.Option.{is_none, option_map_or}
 use Rattle.std.specs.Str.{bytes_eq}
 use Rattle.std.proofs.lemmas.Slice.Eq.{bytes_eq-Decides}
 use Rattle.mp_words.specs.Asked.{Asked, nothing}
-use Rattle.mp_words.specs.Numbers.{if_between, number_between, number_from, number_of}
-use Rattle.mp_words.specs.Requests.{Wanted, has_options_of_replay, is_alone, is_team, replay_of, replay_with, search_of, stands_before_dashes, request_of as wanted_of}
-use Rattle.mp_words.specs.Words.{after_free_word, after_option, after_valued, after_word, after_words, behind, choice_of, is_name, unless_given, with_heuristic, with_limit, with_option, with_value, with_workers}
+use Rattle.mp_words.specs.Numbers.{number_between}
+use Rattle.mp_words.specs.Requests.{Wanted, check_of, check_with, command_of, has_no_search, has_no_work, is_alone, is_team, make_of, make_with, make_words, replay_of, replay_with, searching, solve_of, stands_before_dashes, request_of as wanted_of}
+use Rattle.mp_words.specs.Words.{after_free_word, after_option, after_valued, after_word, after_words, behind, is_plain, with_heuristic, with_limit, with_option, with_value, with_workers}
 use Rattle.mp_words.specs.Reads.{wanted_by}
-use Rattle.mp_words.specs.declared.asked.Choice.{Choice}
 use Rattle.mp_words.specs.declared.asked.Request.{Request}
-use Rattle.mp_top.specs.Asked.{KeepsLimits, agents_of}
-use Rattle.mp_top.specs.Words.{request_of}
-
--- ---- What holds of an option in each case of how it comes.
-
-either : {A : Type 0} (c : Bool) (x y : Option A) (P : A → Type 0) → (c ≡ true → IfSome x P) → (c ≡ false → IfSome y P) → IfSome (if c then x else y) P
-either true x y P h k = h refl
-either false x y P h k = k refl
-
-mapped_or : {A B : Type 0} (f : A → Option B) (o : Option A) (d : Option B) (P : B → Type 0) → ((x : A) → IfSome (f x) P) → IfSome d P → IfSome (option_map_or f o d) P
-mapped_or f None d P h k = k
-mapped_or f (Some x) d P h k = h x
-
-mapped : {A B : Type 0} (f : A → B) (o : Option A) (P : B → Type 0) → IfSome o (λ x. P (f x)) → IfSome (option_map f o) P
-mapped f None P h = tt
-mapped f (Some x) P h = h
-
-chained : {A B : Type 0} (f : A → Option B) (o : Option A) (P : B → Type 0) → IfSome o (λ x. IfSome (f x) P) → IfSome (option_and_then f o) P
-chained f None P h = tt
-chained f (Some x) P h = h
-
-every : {A : Type 0} (o : Option A) (P : A → Type 0) → ((x : A) → P x) → IfSome o P
-every None P h = tt
-every (Some x) P h = h x
-
-weaken : {A : Type 0} (o : Option A) (P Q : A → Type 0) → ((x : A) → P x → Q x) → IfSome o P → IfSome o Q
-weaken None P Q f h = tt
-weaken (Some x) P Q f h = f x h
-
-of_some : {A : Type 0} (o : Option A) (x : A) (P : A → Type 0) → IfSome o P → o ≡ Some x → P x
-of_some None x P h e = absurd (cc)
-of_some (Some y) x P h e = let same : y ≡ x = cc in subst P same h
-
--- ---- The limit of expansions.
-
-abbrev Within : ℕ → Type 0
-Within n = (1 ≤ n) × (n ≤ 10000000)
-
-within_here : (n : ℕ) → IfSome (if_between 1 10000000 n) Within
-within_here n =
-    either (nat_le 1 n && nat_le n 10000000) (Some n) None Within
-    (λ is. let p = and_parts (nat_le 1 n) (nat_le n 10000000) is in (leb-true 1 n p.0, leb-true n 10000000 p.1))
-    (λ is. tt)
-
-abbrev Fits : Asked → Type 0
-Fits a = IfSome a.limit Within
-
-unless : (before : Option ℕ) (o : Option Asked) (P : Asked → Type 0) → IfSome o P → IfSome (unless_given before o) P
-unless None o P h = h
-unless (Some x) o P h = tt
-
-unless_choice : (before : Option Choice) (o : Option Asked) (P : Asked → Type 0) → IfSome o P → IfSome (unless_given before o) P
-unless_choice None o P h = h
-unless_choice (Some x) o P h = tt
-
--- what a value of an option leads to: it keeps the limit, asks for no thread, and no value is awaited behind it
-abbrev Follows : Asked → Asked → Type 0
-Follows a b = Fits b × (b.one ≡ a.one) × (b.awaited ≡ None)
-
--- the laws of an option, by what a value leads to, and what `--` leads to
-pub record IsOption (a : Asked) (taken dashes : Option Asked) : Type 0 where
-  pub follows : Fits a → IfSome taken (Follows a)
-  pub refused : dashes ≡ None
-
-no_option : (before : Option ℕ) → unless_given before None ≡ None
-no_option None = refl
-no_option (Some x) = refl
-
-no_choice : (before : Option Choice) → unless_given before None ≡ None
-no_choice None = refl
-no_choice (Some x) = refl
-
-limit_option : (a : Asked) (word : List ℕ) → IsOption a (with_limit a word) (with_limit a (codes "--"))
-unfolding number_from
-limit_option a word = record {
-  follows = λ fits. unless a.limit _ (Follows a) (mapped _ (number_between 1 10000000 word) (Follows a)
-      (chained (if_between 1 10000000) (number_of word) _ (every (number_of word) _
-      (λ n. weaken (if_between 1 10000000 n) Within _ (λ m h. (h, refl, refl)) (within_here n)))));
-  refused = no_option a.limit;
-}
-
-workers_option : (a : Asked) (word : List ℕ) → IsOption a (with_workers a word) (with_workers a (codes "--"))
-unfolding number_from
-workers_option a word = record {
-  follows = λ fits. unless a.workers _ (Follows a) (mapped _ (number_between 1 16 word) (Follows a) (every (number_between 1 16 word) _ (λ n. (fits, refl, refl))));
-  refused = no_option a.workers;
-}
-
-heuristic_option : (a : Asked) (word : List ℕ) → IsOption a (with_heuristic a word) (with_heuristic a (codes "--"))
-heuristic_option a word = record {
-  follows = λ fits. unless_choice a.heuristic _ (Follows a) (mapped _ (choice_of word) (Follows a) (every (choice_of word) _ (λ n. (fits, refl, refl))));
-  refused = no_choice a.heuristic;
-}
-
--- an option whose value is awaited has the laws
-abbrev Awaits : Asked → Type 0
-Awaits a = IfSome a.awaited (λ option. (b : Asked) (word : List ℕ) → IsOption b (with_value b option word) (with_value b option (codes "--")))
+use Rattle.mp_words.proofs.OptionLemmas.{Between, Fits, Follows, IsOption, Within, between, chained, either, every, heuristic_option, limit_option, mapped, mapped_or, none_if, of_some, value_option, weaken, workers_option}
+use Rattle.mp_top.specs.Asked.{KeepsLimit, KeepsLimits, agents_of, made_name}
+use Rattle.mp_top.specs.Words.{is_on_one_thread, request_of}
 
 -- what a word leads to: it keeps this, and a word that is not `--one` asks for no thread
 pub record Goes (a : Asked) (word : List ℕ) (b : Asked) : Type 0 where
   pub fits : Fits b
-  pub awaits : Awaits b
   pub same : bytes_eq word (codes "--one") ≡ false → b.one ≡ a.one
-
-none_if : {A : Type 0} (o : Option A) (P : A → Type 0) → o ≡ None → IfSome o P
-none_if None P e = tt
-none_if (Some x) P e = absurd (cc)
 
 by_value : (a : Asked) (word : List ℕ) (taken dashes : Option Asked) → Fits a → IsOption a taken dashes → IfSome taken (Goes a word)
 by_value a word taken dashes fits h =
     weaken taken (Follows a) (Goes a word)
-    (λ b f. record { fits = f.0; awaits = none_if b.awaited _ f.2; same = λ other. f.1 })
+    (λ b f. record { fits = f.0; same = λ other. f.1 })
     (h.follows fits)
 
 -- by whether a value is awaited
-by_awaited : {A B : Type 0} (f : A → Option B) (o : Option A) (d : Option B) (K : A → Type 0) (P : B → Type 0) → IfSome o K → ((x : A) → K x → IfSome (f x) P) → (o ≡ None → IfSome d P) → IfSome (option_map_or f o d) P
-by_awaited f None d K P known h k = k refl
-by_awaited f (Some x) d K P known h k = h x known
+by_awaited : {A B : Type 0} (f : A → Option B) (o : Option A) (d : Option B) (P : B → Type 0) → ((x : A) → IfSome (f x) P) → (o ≡ None → IfSome d P) → IfSome (option_map_or f o d) P
+by_awaited f None d P h k = k refl
+by_awaited f (Some x) d P h k = h x
 
-goes_option : (a : Asked) (word : List ℕ) → Fits a → Awaits a → IfSome (with_option a word) (Goes a word)
-goes_option a word fits awaits =
+goes_option : (a : Asked) (word : List ℕ) → Fits a → IfSome (with_option a word) (Goes a word)
+goes_option a word fits =
     mapped_or (with_limit a) (behind (codes "--limit=") word) _ (Goes a word) (λ w. by_value a word _ _ fits (limit_option a w))
     (mapped_or (with_heuristic a) (behind (codes "--h=") word) _ (Goes a word) (λ w. by_value a word _ _ fits (heuristic_option a w))
     (mapped_or (with_workers a) (behind (codes "--workers=") word) None (Goes a word) (λ w. by_value a word _ _ fits (workers_option a w)) tt))
 
-goes_valued : (a : Asked) (word : List ℕ) → Fits a → Awaits a → IfSome (after_valued a word) (Goes a word)
-goes_valued a word fits awaits =
-    either (bytes_eq word (codes "--limit")) _ _ (Goes a word) (λ _. record { fits = fits; awaits = limit_option; same = λ _. refl })
-    (λ _. either (bytes_eq word (codes "--h")) _ _ (Goes a word) (λ _. record { fits = fits; awaits = heuristic_option; same = λ _. refl })
-    (λ _. either (bytes_eq word (codes "--workers")) _ _ (Goes a word) (λ _. record { fits = fits; awaits = workers_option; same = λ _. refl })
-    (λ _. goes_option a word fits awaits)))
+goes_valued : (a : Asked) (word : List ℕ) → Fits a → IfSome (after_valued a word) (Goes a word)
+goes_valued a word fits =
+    either (bytes_eq word (codes "--limit")) _ _ (Goes a word) (λ _. record { fits = fits; same = λ _. refl })
+    (λ _. either (bytes_eq word (codes "--h")) _ _ (Goes a word) (λ _. record { fits = fits; same = λ _. refl })
+    (λ _. either (bytes_eq word (codes "--workers")) _ _ (Goes a word) (λ _. record { fits = fits; same = λ _. refl })
+    (λ _. goes_option a word fits)))
 
-goes_behind_option : (a : Asked) (word : List ℕ) → Fits a → Awaits a → IfSome (after_option a word) (Goes a word)
-goes_behind_option a word fits awaits =
-    either (bytes_eq word (codes "--")) _ _ (Goes a word) (λ _. record { fits = fits; awaits = awaits; same = λ _. refl })
+goes_behind_option : (a : Asked) (word : List ℕ) → Fits a → IfSome (after_option a word) (Goes a word)
+goes_behind_option a word fits =
+    either (bytes_eq word (codes "--")) _ _ (Goes a word) (λ _. record { fits = fits; same = λ _. refl })
     (λ _. either (bytes_eq word (codes "--one")) _ _ (Goes a word)
-    (λ is. either a.one None _ (Goes a word) (λ _. tt) (λ _. record { fits = fits; awaits = awaits; same = λ other. absurd (true≢false (sym is ∙ other)) }))
+    (λ is. either a.one None _ (Goes a word) (λ _. tt) (λ _. record { fits = fits; same = λ other. absurd (true≢false (sym is ∙ other)) }))
     (λ _. either (bytes_eq word (codes "--trace")) _ _ (Goes a word)
-    (λ _. either a.trace None _ (Goes a word) (λ _. tt) (λ _. record { fits = fits; awaits = awaits; same = λ _. refl }))
-    (λ _. goes_valued a word fits awaits)))
+    (λ _. either a.trace None _ (Goes a word) (λ _. tt) (λ _. record { fits = fits; same = λ _. refl }))
+    (λ _. either (bytes_eq word (codes "--show")) _ _ (Goes a word)
+    (λ _. either a.show None _ (Goes a word) (λ _. tt) (λ _. record { fits = fits; same = λ _. refl }))
+    (λ _. goes_valued a word fits))))
 
-goes_word : (a : Asked) (word : List ℕ) → Fits a → Awaits a → IfSome (after_word a word) (Goes a word)
-goes_word a word fits awaits =
-    by_awaited (λ option. with_value a option word) a.awaited (after_free_word a word) _ (Goes a word) awaits
-    (λ option law. by_value a word _ _ fits (law a word))
-    (λ none. either (a.names_alone || is_name word) _ _ (Goes a word)
-    (λ _. record { fits = fits; awaits = awaits; same = λ _. refl })
-    (λ _. goes_behind_option a word fits awaits))
+goes_word : (a : Asked) (word : List ℕ) → Fits a → IfSome (after_word a word) (Goes a word)
+goes_word a word fits =
+    by_awaited (λ option. with_value a option word) a.awaited (after_free_word a word) (Goes a word)
+    (λ option. by_value a word _ _ fits (value_option a option word))
+    (λ none. either (a.plain_alone || is_plain word) _ _ (Goes a word)
+    (λ _. record { fits = fits; same = λ _. refl })
+    (λ _. goes_behind_option a word fits))
 
-fits_words : (words : List (List ℕ)) (a : Asked) → Fits a → Awaits a → IfSome (after_words a words) Fits
+fits_words : (words : List (List ℕ)) (a : Asked) → Fits a → IfSome (after_words a words) Fits
 unfolding after_words
-fits_words [] a fits awaits = fits
-fits_words (word ∷ words) a fits awaits =
+fits_words [] a fits = fits
+fits_words (word ∷ words) a fits =
     chained (λ next. after_words next words) (after_word a word) Fits
-    (weaken (after_word a word) (Goes a word) (λ next. IfSome (after_words next words) Fits) (λ next h. fits_words words next h.fits h.awaits) (goes_word a word fits awaits))
+    (weaken (after_word a word) (Goes a word) (λ next. IfSome (after_words next words) Fits) (λ next h. fits_words words next h.fits) (goes_word a word fits))
 
 within_or : (o : Option ℕ) → IfSome o Within → Within (unwrap_or o 200000)
 within_or None h = (omega arith, omega arith)
 within_or (Some n) h = h
+
+search_keeps : (a : Asked) → Fits a → KeepsLimit (searching a)
+search_keeps a fits = let h = within_or a.limit fits in record { from_1 = h.0; limit = h.1 }
 
 -- ---- The number of agents.
 
@@ -186,49 +93,102 @@ two_of_each [] = omega arith
 two_of_each (a ∷ []) = omega arith
 two_of_each (a ∷ b ∷ names) = let h = two_of_each names in omega (arith, h)
 
--- a request with such a limit and the files of a team
-limits : (w : Wanted) → Within w.limit → is_team w.names ≡ true → KeepsLimits w
-limits w limit is =
-    let least = and_parts (nat_le 2 (length w.names)) _ is in
-    let most = and_parts (nat_le (length w.names) 32) _ least.1 in
-    let greatest : length w.names ≤ 32 = leb-true (length w.names) 32 most.0 in
-    let each = two_of_each w.names in
-    record {
-      from_1 = limit.0;
-      limit = limit.1;
-      some = some_agents w.names (leb-true 2 (length w.names) least.0);
-      at_most = omega (arith, greatest, each);
-    }
+-- the files of a team are those of 1 to 16 agents
+abbrev AreFew : List (List ℕ) → Type 0
+AreFew names = (1 ≤ length (agents_of names)) × (length (agents_of names) ≤ 16)
 
-search_keeps : (a : Asked) → Fits a → IfSome (search_of a) KeepsLimits
-search_keeps a fits =
-    either (is_none a.awaited && is_team a.names) _ None KeepsLimits
-    (λ is. limits _ (within_or a.limit fits) (and_parts (is_none a.awaited) (is_team a.names) is).1)
+few : (names : List (List ℕ)) → is_team names ≡ true → AreFew names
+few names is =
+    let least = and_parts (nat_le 2 (length names)) _ is in
+    let most = and_parts (nat_le (length names) 32) _ least.1 in
+    let greatest : length names ≤ 32 = leb-true (length names) 32 most.0 in
+    let each = two_of_each names in
+    (some_agents names (leb-true 2 (length names) least.0), omega (arith, greatest, each))
+
+solve_keeps : (a : Asked) → Fits a → IfSome (solve_of a) KeepsLimits
+solve_keeps a fits =
+    either (is_none a.awaited && (not a.show && is_team a.plain)) _ None KeepsLimits
+    (λ is.
+    let free = and_parts (is_none a.awaited) (not a.show && is_team a.plain) is in
+    let h = few a.plain (and_parts (not a.show) (is_team a.plain) free.1).1 in
+    record { work = search_keeps a fits; made = tt; some = h.0; at_most = h.1 })
     (λ is. tt)
 
 replay_with_keeps : (a : Asked) (names : List (List ℕ)) → Fits a → IfSome (replay_with a names) KeepsLimits
 replay_with_keeps a [] fits = tt
 replay_with_keeps a (schedule ∷ names) fits =
-    either (is_none a.awaited && (has_options_of_replay a && is_team names)) _ None KeepsLimits
-    (λ is.
-    let options = and_parts (is_none a.awaited) (has_options_of_replay a && is_team names) is in
-    limits _ (within_or a.limit fits) (and_parts (has_options_of_replay a) (is_team names) options.1).1)
+    either (is_team names) _ None KeepsLimits
+    (λ is. let h = few names is in record { work = search_keeps a fits; made = tt; some = h.0; at_most = h.1 })
     (λ is. tt)
+
+replay_keeps : (a : Asked) → Fits a → IfSome (replay_of a) KeepsLimits
+replay_keeps a fits =
+    either (is_none a.awaited && (has_no_work a && not (a.trace || a.show))) _ None KeepsLimits
+    (λ is. replay_with_keeps a a.plain fits) (λ is. tt)
+
+check_with_keeps : (names : List (List ℕ)) → IfSome (check_with names) KeepsLimits
+check_with_keeps [] = tt
+check_with_keeps (plan ∷ names) =
+    either (is_team names) _ None KeepsLimits
+    (λ is. let h = few names is in record { work = tt; made = tt; some = h.0; at_most = h.1 })
+    (λ is. tt)
+
+check_keeps : (a : Asked) → Fits a → IfSome (check_of a) KeepsLimits
+check_keeps a fits =
+    either (is_none a.awaited && (has_no_search a && (has_no_work a && not (a.trace || a.show)))) _ None KeepsLimits
+    (λ is. check_with_keeps a.plain) (λ is. tt)
+
+made_size : (size : ℕ) → length (map made_name (range_with_len 1 size)) ≡ size
+made_size size = length-map-range_with_len made_name 1 size
+
+make_with_keeps : (a : Asked) (size number : List ℕ) → Fits a → IfSome (make_with a size number) KeepsLimits
+make_with_keeps a size number fits =
+    chained _ (number_between 1 8 size) KeepsLimits
+    (weaken (number_between 1 8 size) (Between 1 8) _
+    (λ s h. mapped _ (number_between 0 999999 number) KeepsLimits
+    (weaken (number_between 0 999999 number) (Between 0 999999) _
+    (λ n k.
+    let same = made_size s in
+    let least = h.0 in
+    let most = h.1 in
+    record {
+      work = search_keeps a fits;
+      made = record { from_1 = h.0; size = h.1; number = k.1 };
+      some = omega (arith, same, least);
+      at_most = omega (arith, same, most);
+    })
+    (between 0 999999 number)))
+    (between 1 8 size))
+
+make_words_keeps : (a : Asked) (words : List (List ℕ)) → Fits a → IfSome (make_words a words) KeepsLimits
+make_words_keeps a [] fits = tt
+make_words_keeps a (family ∷ []) fits = tt
+make_words_keeps a (family ∷ size ∷ []) fits = tt
+make_words_keeps a (family ∷ size ∷ number ∷ []) fits =
+    either (bytes_eq family (codes "delivery")) _ None KeepsLimits (λ is. make_with_keeps a size number fits) (λ is. tt)
+make_words_keeps a (family ∷ size ∷ number ∷ more ∷ words) fits = tt
+
+make_keeps : (a : Asked) → Fits a → IfSome (make_of a) KeepsLimits
+make_keeps a fits =
+    either (is_none a.awaited && not a.trace) _ None KeepsLimits (λ is. make_words_keeps a a.plain fits) (λ is. tt)
 
 -- what is read behind a command keeps the limits
 behind_keeps : (read : Asked → Option Wanted) → ((a : Asked) → Fits a → IfSome (read a) KeepsLimits) → (words : List (List ℕ)) → IfSome (option_and_then read (after_words nothing words)) KeepsLimits
 behind_keeps read kept words =
     chained read (after_words nothing words) KeepsLimits
-    (weaken (after_words nothing words) Fits (λ a. IfSome (read a) KeepsLimits) kept (fits_words words nothing tt tt))
+    (weaken (after_words nothing words) Fits (λ a. IfSome (read a) KeepsLimits) kept (fits_words words nothing tt))
+
+-- what a command asks for
+by_command : (command : List ℕ) (a : Asked) → Fits a → IfSome (command_of command a) KeepsLimits
+by_command command a fits =
+    either (bytes_eq command (codes "solve")) _ _ KeepsLimits (λ is. solve_keeps a fits)
+    (λ _. either (bytes_eq command (codes "replay")) _ _ KeepsLimits (λ is. replay_keeps a fits)
+    (λ _. either (bytes_eq command (codes "check")) _ _ KeepsLimits (λ is. check_keeps a fits)
+    (λ _. either (bytes_eq command (codes "make")) _ None KeepsLimits (λ is. make_keeps a fits) (λ is. tt))))
 
 wanted_keeps : (words : List (List ℕ)) → IfSome (wanted_of words) KeepsLimits
 wanted_keeps [] = tt
-wanted_keeps (command ∷ words) =
-    either (bytes_eq command (codes "solve")) _ _ KeepsLimits
-    (λ is. behind_keeps search_of search_keeps words)
-    (λ _. either (bytes_eq command (codes "replay")) _ None KeepsLimits
-    (λ is. behind_keeps replay_of (λ a fits. replay_with_keeps a a.names fits) words)
-    (λ is. tt))
+wanted_keeps (command ∷ words) = behind_keeps (command_of command) (by_command command) words
 
 -- what accepted words ask for keeps the limits
 pub asked_keeps : (words : List (List ℕ)) (o : Option Request) (r : Request) → MatchOption o (wanted_of words ≡ None) (λ x. wanted_of words ≡ Some (wanted_by x)) → o ≡ Some r → KeepsLimits (wanted_by r)
@@ -250,37 +210,37 @@ found_first word words dashes one = simp (dashes, one-add) (rw one refl)
 abbrev SameOne : Asked → Asked → Type 0
 SameOne a b = b.one ≡ a.one
 
--- all words that come are names of files
-abbrev NamesAlone : Asked → Type 0
-NamesAlone a = (a.awaited ≡ None) × (a.names_alone ≡ true)
+-- all words that come are plain
+abbrev PlainAlone : Asked → Type 0
+PlainAlone a = (a.awaited ≡ None) × (a.plain_alone ≡ true)
 
-name_word : (a : Asked) (word : List ℕ) → NamesAlone a → IfSome (after_word a word) (λ b. SameOne a b × NamesAlone b)
-name_word a word (free, alone) = rw (free, alone) (refl, (refl, refl))
+plain_word : (a : Asked) (word : List ℕ) → PlainAlone a → IfSome (after_word a word) (λ b. SameOne a b × PlainAlone b)
+plain_word a word (free, alone) = rw (free, alone) (refl, (refl, refl))
 
-name_words : (words : List (List ℕ)) (a : Asked) → NamesAlone a → IfSome (after_words a words) (SameOne a)
+plain_words : (words : List (List ℕ)) (a : Asked) → PlainAlone a → IfSome (after_words a words) (SameOne a)
 unfolding after_words
-name_words [] a h = refl
-name_words (word ∷ words) a h =
+plain_words [] a h = refl
+plain_words (word ∷ words) a h =
     chained (λ next. after_words next words) (after_word a word) (SameOne a)
-    (weaken (after_word a word) (λ b. SameOne a b × NamesAlone b) (λ next. IfSome (after_words next words) (SameOne a))
-    (λ next p. weaken (after_words next words) (SameOne next) (SameOne a) (λ b e. e ∙ p.0) (name_words words next p.1)) (name_word a word h))
+    (weaken (after_word a word) (λ b. SameOne a b × PlainAlone b) (λ next. IfSome (after_words next words) (SameOne a))
+    (λ next p. weaken (after_words next words) (SameOne next) (SameOne a) (λ b e. e ∙ p.0) (plain_words words next p.1)) (plain_word a word h))
 
-dashes_free : (a : Asked) → a.awaited ≡ None → IfSome (after_free_word a (codes "--")) (λ b. SameOne a b × NamesAlone b)
+dashes_free : (a : Asked) → a.awaited ≡ None → IfSome (after_free_word a (codes "--")) (λ b. SameOne a b × PlainAlone b)
 dashes_free a free =
-    either (a.names_alone || is_name (codes "--")) _ _ (λ b. SameOne a b × NamesAlone b)
-    (λ is. (refl, (free, by_names a.names_alone is))) (λ _. (refl, (free, refl)))
+    either (a.plain_alone || is_plain (codes "--")) _ _ (λ b. SameOne a b × PlainAlone b)
+    (λ is. (refl, (free, by_plain a.plain_alone is))) (λ _. (refl, (free, refl)))
   where
-    by_names : (alone : Bool) → (alone || false) ≡ true → alone ≡ true
-    by_names true is = refl
-    by_names false is = is
+    by_plain : (alone : Bool) → (alone || false) ≡ true → alone ≡ true
+    by_plain true is = refl
+    by_plain false is = is
 
--- behind `--` all words are names of files
-dashes_word : (a : Asked) (word : List ℕ) → Awaits a → bytes_eq word (codes "--") ≡ true → IfSome (after_word a word) (λ b. SameOne a b × NamesAlone b)
-dashes_word a word awaits is =
+-- behind `--` all words are plain
+dashes_word : (a : Asked) (word : List ℕ) → bytes_eq word (codes "--") ≡ true → IfSome (after_word a word) (λ b. SameOne a b × PlainAlone b)
+dashes_word a word is =
     let e : word ≡ codes "--" = (bytes_eq-Decides word (codes "--")).0 is in
-    subst (λ w. IfSome (after_word a w) (λ b. SameOne a b × NamesAlone b)) (sym e)
-    (by_awaited (λ option. with_value a option (codes "--")) a.awaited (after_free_word a (codes "--")) _ (λ b. SameOne a b × NamesAlone b) awaits
-    (λ option law. none_if (with_value a option (codes "--")) _ (law a word).refused) (dashes_free a))
+    subst (λ w. IfSome (after_word a w) (λ b. SameOne a b × PlainAlone b)) (sym e)
+    (by_awaited (λ option. with_value a option (codes "--")) a.awaited (after_free_word a (codes "--")) (λ b. SameOne a b × PlainAlone b)
+    (λ option. none_if (with_value a option (codes "--")) _ (value_option a option word).refused) (dashes_free a))
 
 abbrev Stands : List (List ℕ) → Asked → Type 0
 Stands words b = b.one ≡ true → stands_before_dashes words ≡ true
@@ -289,69 +249,110 @@ not_both : {A : Type 0} (b : Bool) → b ≡ true → b ≡ false → A
 not_both b t f = absurd (true≢false (sym t ∙ f))
 
 -- by whether the first word is `--`, and whether it is `--one`
-by_word : (d o : Bool) (word : List ℕ) (words : List (List ℕ)) (a : Asked) → Fits a → Awaits a → a.one ≡ false → ((next : Asked) → Fits next → Awaits next → next.one ≡ false → IfSome (after_words next words) (Stands words)) → bytes_eq word (codes "--") ≡ d → bytes_eq word (codes "--one") ≡ o → IfSome (after_word a word) (λ next. IfSome (after_words next words) (Stands (word ∷ words)))
-by_word true o word words a fits awaits not_yet later d one =
-    weaken (after_word a word) (λ b. SameOne a b × NamesAlone b) _
-    (λ next p. weaken (after_words next words) (SameOne next) (Stands (word ∷ words)) (λ b e given. not_both b.one given (e ∙ (p.0 ∙ not_yet))) (name_words words next p.1))
-    (dashes_word a word awaits d)
-by_word false true word words a fits awaits not_yet later d one =
+by_word : (d o : Bool) (word : List ℕ) (words : List (List ℕ)) (a : Asked) → Fits a → a.one ≡ false → ((next : Asked) → Fits next → next.one ≡ false → IfSome (after_words next words) (Stands words)) → bytes_eq word (codes "--") ≡ d → bytes_eq word (codes "--one") ≡ o → IfSome (after_word a word) (λ next. IfSome (after_words next words) (Stands (word ∷ words)))
+by_word true o word words a fits not_yet later d one =
+    weaken (after_word a word) (λ b. SameOne a b × PlainAlone b) _
+    (λ next p. weaken (after_words next words) (SameOne next) (Stands (word ∷ words)) (λ b e given. not_both b.one given (e ∙ (p.0 ∙ not_yet))) (plain_words words next p.1))
+    (dashes_word a word d)
+by_word false true word words a fits not_yet later d one =
     every (after_word a word) _ (λ next. every (after_words next words) (Stands (word ∷ words)) (λ b given. found_first word words d one))
-by_word false false word words a fits awaits not_yet later d one =
+by_word false false word words a fits not_yet later d one =
     weaken (after_word a word) (Goes a word) _
-    (λ next h. weaken (after_words next words) (Stands words) (Stands (word ∷ words)) (λ b k given. passes_by word words d one ∙ k given) (later next h.fits h.awaits (h.same one ∙ not_yet)))
-    (goes_word a word fits awaits)
+    (λ next h. weaken (after_words next words) (Stands words) (Stands (word ∷ words)) (λ b k given. passes_by word words d one ∙ k given) (later next h.fits (h.same one ∙ not_yet)))
+    (goes_word a word fits)
 
 -- where one thread is asked for, `--one` stands among the words before the first `--`
-stands : (words : List (List ℕ)) (a : Asked) → Fits a → Awaits a → a.one ≡ false → IfSome (after_words a words) (Stands words)
+stands : (words : List (List ℕ)) (a : Asked) → Fits a → a.one ≡ false → IfSome (after_words a words) (Stands words)
 unfolding after_words
-stands [] a fits awaits not_yet = λ given. not_both a.one given not_yet
-stands (word ∷ words) a fits awaits not_yet =
+stands [] a fits not_yet = λ given. not_both a.one given not_yet
+stands (word ∷ words) a fits not_yet =
     chained (λ next. after_words next words) (after_word a word) (Stands (word ∷ words))
-    (by_word (bytes_eq word (codes "--")) (bytes_eq word (codes "--one")) word words a fits awaits not_yet (λ next. stands words next) refl refl)
+    (by_word (bytes_eq word (codes "--")) (bytes_eq word (codes "--one")) word words a fits not_yet (λ next. stands words next) refl refl)
 
-asked_one : (a : Asked) → IfSome (search_of a) (λ w. w.one ≡ a.one)
-asked_one a = either (is_none a.awaited && is_team a.names) _ None (λ w. w.one ≡ a.one) (λ _. refl) (λ _. tt)
+-- a request that asks for one thread was read with `--one`
+abbrev AsksOne : Asked → Wanted → Type 0
+AsksOne a w = is_on_one_thread w ≡ a.one
 
-wanted_stands : (words : List (List ℕ)) → IfSome (option_and_then search_of (after_words nothing words)) (λ w. w.one ≡ true → stands_before_dashes words ≡ true)
-wanted_stands words =
-    chained search_of (after_words nothing words) _
-    (weaken (after_words nothing words) (Stands words) (λ a. IfSome (search_of a) (λ w. w.one ≡ true → stands_before_dashes words ≡ true))
-    (λ a h. weaken (search_of a) (λ w. w.one ≡ a.one) (λ w. w.one ≡ true → stands_before_dashes words ≡ true) (λ w e given. h (sym e ∙ given)) (asked_one a))
-    (stands words nothing tt tt refl))
+solve_asks : (a : Asked) → IfSome (solve_of a) (AsksOne a)
+solve_asks a = either (is_none a.awaited && (not a.show && is_team a.plain)) _ None (AsksOne a) (λ _. refl) (λ _. tt)
 
--- the word `solve` is neither `--` nor `--one`
-solve_stands : (command : List ℕ) (words : List (List ℕ)) → bytes_eq command (codes "solve") ≡ true → stands_before_dashes (command ∷ words) ≡ stands_before_dashes words
-solve_stands command words is =
-    let c : command ≡ codes "solve" = (bytes_eq-Decides command (codes "solve")).0 is in
-    passes_by command words (rw c refl) (rw c refl)
+make_with_asks : (a : Asked) (size number : List ℕ) → IfSome (make_with a size number) (AsksOne a)
+make_with_asks a size number =
+    chained _ (number_between 1 8 size) (AsksOne a)
+    (every (number_between 1 8 size) _
+    (λ s. mapped _ (number_between 0 999999 number) (AsksOne a) (every (number_between 0 999999 number) _ (λ n. refl))))
 
-alone_of : (command : List ℕ) (words : List (List ℕ)) → bytes_eq command (codes "solve") ≡ true → stands_before_dashes words ≡ true → is_alone (command ∷ words) ≡ true
-alone_of command words is found =
-    let all : stands_before_dashes (command ∷ words) ≡ true = solve_stands command words is ∙ found in
-    rw (is, all) refl
+make_words_asks : (a : Asked) (words : List (List ℕ)) → IfSome (make_words a words) (AsksOne a)
+make_words_asks a [] = tt
+make_words_asks a (family ∷ []) = tt
+make_words_asks a (family ∷ size ∷ []) = tt
+make_words_asks a (family ∷ size ∷ number ∷ []) =
+    either (bytes_eq family (codes "delivery")) _ None (AsksOne a) (λ is. make_with_asks a size number) (λ is. tt)
+make_words_asks a (family ∷ size ∷ number ∷ more ∷ words) = tt
 
--- the command of a replay starts no threads
+make_asks : (a : Asked) → IfSome (make_of a) (AsksOne a)
+make_asks a = either (is_none a.awaited && not a.trace) _ None (AsksOne a) (λ is. make_words_asks a a.plain) (λ is. tt)
+
+-- words that ask for one thread are for one thread alone
+abbrev Alone : List (List ℕ) → Wanted → Type 0
+Alone words w = is_on_one_thread w ≡ true → is_alone words ≡ true
+
+-- the words `solve` and `make` are neither `--` nor `--one`
+stands_behind : (command word : List ℕ) (words : List (List ℕ)) → bytes_eq command word ≡ true → bytes_eq word (codes "--") ≡ false → bytes_eq word (codes "--one") ≡ false → stands_before_dashes words ≡ true → stands_before_dashes (command ∷ words) ≡ true
+stands_behind command word words is dashes one found =
+    let c : command ≡ word = (bytes_eq-Decides command word).0 is in
+    passes_by command words (rw c dashes) (rw c one) ∙ found
+
+or_true : (b c : Bool) → c ≡ true → (b || c) ≡ true
+or_true true c is = refl
+or_true false c is = is
+
+alone_by_one : (command : List ℕ) (words : List (List ℕ)) → stands_before_dashes (command ∷ words) ≡ true → is_alone (command ∷ words) ≡ true
+alone_by_one command words found =
+    or_true (not (bytes_eq command (codes "solve") || bytes_eq command (codes "make"))) (stands_before_dashes (command ∷ words)) found
+
+solve_alone : (command : List ℕ) (words : List (List ℕ)) (a : Asked) → bytes_eq command (codes "solve") ≡ true → Stands words a → IfSome (solve_of a) (Alone (command ∷ words))
+solve_alone command words a is h =
+    weaken (solve_of a) (AsksOne a) (Alone (command ∷ words))
+    (λ w e given. alone_by_one command words (stands_behind command (codes "solve") words is refl refl (h (sym e ∙ given)))) (solve_asks a)
+
+make_alone : (command : List ℕ) (words : List (List ℕ)) (a : Asked) → bytes_eq command (codes "make") ≡ true → Stands words a → IfSome (make_of a) (Alone (command ∷ words))
+make_alone command words a is h =
+    weaken (make_of a) (AsksOne a) (Alone (command ∷ words))
+    (λ w e given. alone_by_one command words (stands_behind command (codes "make") words is refl refl (h (sym e ∙ given)))) (make_asks a)
+
+-- the command of a replay or a check starts no threads
 replay_alone : (command : List ℕ) (words : List (List ℕ)) → bytes_eq command (codes "replay") ≡ true → is_alone (command ∷ words) ≡ true
 replay_alone command words is =
     let c : command ≡ codes "replay" = (bytes_eq-Decides command (codes "replay")).0 is in
     rw c refl
 
--- words that ask for one thread are for one thread alone
-one_is_alone : (words : List (List ℕ)) → IfSome (wanted_of words) (λ w. w.one ≡ true → is_alone words ≡ true)
+check_alone : (command : List ℕ) (words : List (List ℕ)) → bytes_eq command (codes "check") ≡ true → is_alone (command ∷ words) ≡ true
+check_alone command words is =
+    let c : command ≡ codes "check" = (bytes_eq-Decides command (codes "check")).0 is in
+    rw c refl
+
+command_alone : (command : List ℕ) (words : List (List ℕ)) (a : Asked) → Stands words a → IfSome (command_of command a) (Alone (command ∷ words))
+command_alone command words a h =
+    either (bytes_eq command (codes "solve")) _ _ (Alone (command ∷ words)) (λ is. solve_alone command words a is h)
+    (λ _. either (bytes_eq command (codes "replay")) _ _ (Alone (command ∷ words))
+    (λ is. every (replay_of a) (Alone (command ∷ words)) (λ w given. replay_alone command words is))
+    (λ _. either (bytes_eq command (codes "check")) _ _ (Alone (command ∷ words))
+    (λ is. every (check_of a) (Alone (command ∷ words)) (λ w given. check_alone command words is))
+    (λ _. either (bytes_eq command (codes "make")) _ None (Alone (command ∷ words)) (λ is. make_alone command words a is h) (λ _. tt))))
+
+one_is_alone : (words : List (List ℕ)) → IfSome (wanted_of words) (Alone words)
 one_is_alone [] = tt
 one_is_alone (command ∷ words) =
-    either (bytes_eq command (codes "solve")) _ _ (λ w. w.one ≡ true → is_alone (command ∷ words) ≡ true)
-    (λ is. weaken _ (λ w. w.one ≡ true → stands_before_dashes words ≡ true) (λ w. w.one ≡ true → is_alone (command ∷ words) ≡ true)
-    (λ w h given. alone_of command words is (h given)) (wanted_stands words))
-    (λ _. either (bytes_eq command (codes "replay")) _ None (λ w. w.one ≡ true → is_alone (command ∷ words) ≡ true)
-    (λ is. every (option_and_then replay_of (after_words nothing words)) (λ w. w.one ≡ true → is_alone (command ∷ words) ≡ true) (λ w given. replay_alone command words is))
-    (λ _. tt))
+    chained (command_of command) (after_words nothing words) (Alone (command ∷ words))
+    (weaken (after_words nothing words) (Stands words) (λ a. IfSome (command_of command a) (Alone (command ∷ words)))
+    (command_alone command words) (stands words nothing tt refl))
 
 request_alone : (words : List (List ℕ)) → IfSome (request_of words) (λ w. is_alone words ≡ true)
 request_alone words =
-    chained (λ w. if w.one then Some w else None) (wanted_of words) (λ w. is_alone words ≡ true)
-    (weaken (wanted_of words) (λ w. w.one ≡ true → is_alone words ≡ true) (λ w. IfSome (if w.one then Some w else None) (λ w. is_alone words ≡ true))
-    (λ w h. either w.one (Some w) None (λ w. is_alone words ≡ true) h (λ _. tt)) (one_is_alone words))
+    chained (λ w. if is_on_one_thread w then Some w else None) (wanted_of words) (λ w. is_alone words ≡ true)
+    (weaken (wanted_of words) (Alone words) (λ w. IfSome (if is_on_one_thread w then Some w else None) (λ w. is_alone words ≡ true))
+    (λ w h. either (is_on_one_thread w) (Some w) None (λ w. is_alone words ≡ true) h (λ _. tt)) (one_is_alone words))
 
 none_of : (words : List (List ℕ)) (o : Option Wanted) → is_alone words ≡ false → IfSome o (λ w. is_alone words ≡ true) → o ≡ None
 none_of words None other h = refl

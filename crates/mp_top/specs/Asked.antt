@@ -1,44 +1,116 @@
--- What a request asks of a team: the names of its files, the heuristic and the limit; and that it keeps the limits.
-use Rattle.std.specs.Prelude.{ℕ, ◌≤◌, List, [], ◌∷◌, length, Option}
+-- What a request asks of a team: where its texts are, and what is done with it; and that it keeps the limits.
+use Rattle.std.specs.Prelude.{ℕ, ◌≤◌, List, [], ◌∷◌, ◌++◌, length, map, codes, decimal, Option, Some, None}
+use Rattle.std.specs.List.{range_with_len}
 use Rattle.mp_sets.specs.Numbers.{Numbers}
 use Rattle.mp_task.specs.AgentTask.{AgentTask}
 use Rattle.mp_hmax.specs.Hmax.{hmax}
+use Rattle.mp_lmcut.specs.Cut.{lmcut}
+use Rattle.mp_pdb.specs.Pattern.{pattern_value}
+use Rattle.mp_joint.specs.Fact.{Text}
+use Rattle.mp_maker.specs.Delivery.{delivery}
 use Rattle.mp_team_explored.specs.Expansions.{nothing_known}
 use Rattle.mp_files.specs.Team.{Two}
 use Rattle.mp_words.specs.declared.asked.Choice.{Choice}
-use Rattle.mp_words.specs.declared.asked.Choice.TheVariants.{Blind, Max}
-use Rattle.mp_words.specs.Requests.{Wanted}
+use Rattle.mp_words.specs.declared.asked.Choice.TheVariants.{Blind, Max, Cut, Pdb}
+use Rattle.mp_words.specs.Requests.{Searching, ToMake, Wanted}
+use Rattle.mp_words.specs.Requests.Wanted.{checks, makes, replays, solves}
 
--- an agent's domain and then its problem, one agent after another
-abbrev pub agents_of : List (List ℕ) → List Two
+-- two of each: an agent's domain and then its problem, one agent after another
+abbrev pub agents_of : List Text → List Two
 agents_of [] = []
 agents_of (domain ∷ []) = []
-agents_of (domain ∷ problem ∷ names) = record { domain = domain; problem = problem } ∷ agents_of names
+agents_of (domain ∷ problem ∷ others) = record { domain = domain; problem = problem } ∷ agents_of others
 
 -- the values of a heuristic: for each task, and for each set of public and of private facts
 abbrev pub values_of : Choice → AgentTask → Numbers → Numbers → Option ℕ
 values_of Blind = nothing_known
 values_of Max = hmax
+values_of Cut = lmcut
+values_of Pdb = pattern_value
 
--- what is asked of a team: the file of the schedule that is replayed, none where the agents search; the heuristic; how many
--- entries an agent may expand; and for each agent the names of its files
+-- a file that stands before those of the agents: its name, and the greatest number of bytes that it may have
+pub record FirstFile : Type 0 where
+  pub name : Text
+  pub longest : ℕ
+
+-- the greatest number of bytes of a file with a schedule, and of one with a plan
+abbrev pub longest_schedule : ℕ
+longest_schedule = 67108864
+
+abbrev pub longest_plan : ℕ
+longest_plan = 4194304
+
+-- where the domains and problems of a team are: in files of these names, or made, and told by these names
+pub data Texts : Type 0 where
+  in_files : List Two → Texts
+  made : List Two → List Two → Texts
+
+abbrev pub names_of_texts : Texts → List Two
+names_of_texts (in_files names) = names
+names_of_texts (made names texts) = names
+
+-- what is done with a team: a plan is searched for; the schedule of the first file is replayed; or the plan of the first
+-- file is checked
+pub data Work : Type 0 where
+  searched : Searching → Work
+  replayed : Searching → Work
+  checked : Work
+
 pub record TeamRequest : Type 0 where
-  pub schedule : Option (List ℕ)
-  pub heuristic : Choice
-  pub limit : ℕ
-  pub agents : List Two
+  pub first : Option FirstFile
+  pub texts : Texts
+  pub work : Work
 
-abbrev pub team_request : Wanted → TeamRequest
-team_request w = record {
-  schedule = w.schedule;
-  heuristic = w.heuristic;
-  limit = w.limit;
-  agents = agents_of w.names;
+-- the names of what is made for an agent
+abbrev pub made_name : ℕ → Two
+made_name agent = record {
+  domain = codes "domain " ++ decimal agent;
+  problem = codes "problem " ++ decimal agent;
 }
 
--- A request keeps the limits of the program: an agent may expand 1 to 10,000,000 entries, and there are 1 to 16 agents.
+-- the team of this size and number of the delivery family
+abbrev pub made_texts : ℕ → ℕ → Texts
+made_texts size number = made (map made_name (range_with_len 1 size)) (agents_of (delivery size number))
+
+abbrev pub team_request : Wanted → TeamRequest
+team_request (solves w) = record { first = None; texts = in_files (agents_of w.names); work = searched w.search }
+team_request (replays w) = record {
+  first = Some (record { name = w.schedule; longest = longest_schedule });
+  texts = in_files (agents_of w.names);
+  work = replayed w.search;
+}
+team_request (checks w) = record {
+  first = Some (record { name = w.plan; longest = longest_plan });
+  texts = in_files (agents_of w.names);
+  work = checked;
+}
+team_request (makes w) = record { first = None; texts = made_texts w.size w.number; work = searched w.search }
+
+-- an agent may expand 1 to 10,000,000 entries
+pub record KeepsLimit (s : Searching) : Type 0 where
+  pub from_1 : 1 ≤ s.limit
+  pub limit : s.limit ≤ 10000000
+
+abbrev pub WorkKeepsLimits : Work → Type 0
+WorkKeepsLimits (searched s) = KeepsLimit s
+WorkKeepsLimits (replayed s) = KeepsLimit s
+WorkKeepsLimits checked = Unit {0}
+
+-- a team that is made has 1 to 8 agents, and a number up to 999,999
+pub record KeepsSize (w : ToMake) : Type 0 where
+  pub from_1 : 1 ≤ w.size
+  pub size : w.size ≤ 8
+  pub number : w.number ≤ 999999
+
+abbrev pub MadeKeepsLimits : Wanted → Type 0
+MadeKeepsLimits (solves w) = Unit {0}
+MadeKeepsLimits (replays w) = Unit {0}
+MadeKeepsLimits (checks w) = Unit {0}
+MadeKeepsLimits (makes w) = KeepsSize w
+
+-- A request keeps the limits of the program: those of a search and of a team that is made, and there are 1 to 16 agents.
 pub record KeepsLimits (w : Wanted) : Type 0 where
-  pub from_1 : 1 ≤ w.limit
-  pub limit : w.limit ≤ 10000000
-  pub some : 1 ≤ length (agents_of w.names)
-  pub at_most : length (agents_of w.names) ≤ 16
+  pub work : WorkKeepsLimits (team_request w).work
+  pub made : MadeKeepsLimits w
+  pub some : 1 ≤ length (names_of_texts (team_request w).texts)
+  pub at_most : length (names_of_texts (team_request w).texts) ≤ 16

@@ -1,6 +1,5 @@
 -- What a refusal rests on.
 use Rattle.std.specs.Prelude.{◌≡◌, ◌<◌, ◌⊎◌, Some, None, IsSomeAnd}
-use Rattle.mp_joint.specs.Fact.{Text}
 use Rattle.mp_outside.specs.Source.{FaultAt}
 use Rattle.mp_files.specs.Cause.{CannotRead, SeenSource}
 use Rattle.mp_files.specs.declared.refusal.FileOf.{FileOf}
@@ -8,26 +7,32 @@ use Rattle.mp_files.specs.declared.refusal.Refusal.{Refusal as FilesRefusal}
 use Rattle.mp_files.specs.declared.refusal.Refusal.TheVariants as files
 use Rattle.mp_ground.specs.declared.refusal.GroundRefusal.{GroundRefusal}
 use Rattle.mp_ground.specs.declared.refusal.GroundRefusal.TheVariants as sizes
-use Rattle.mp_top.specs.Asked.{TeamRequest}
+use Rattle.mp_top.specs.Asked.{FirstFile, TeamRequest, Texts}
+use Rattle.mp_top.specs.Asked.Texts.{in_files, made}
 use Rattle.mp_top.specs.First.{ComesFirst}
-use Rattle.mp_top.specs.Schedule.{HasScheduleText}
+use Rattle.mp_top.specs.FirstText.{HasFirstText}
+use Rattle.mp_top.specs.declared.refusal.FirstRefusal.{FirstRefusal}
+use Rattle.mp_top.specs.declared.refusal.FirstRefusal.TheVariants as first
 use Rattle.mp_top.specs.declared.refusal.Refusal.{Refusal}
-use Rattle.mp_top.specs.declared.refusal.Refusal.TheVariants.{Files, Sizes, Schedule}
-use Rattle.mp_top.specs.declared.refusal.ScheduleRefusal.{ScheduleRefusal}
-use Rattle.mp_top.specs.declared.refusal.ScheduleRefusal.TheVariants as schedule
+use Rattle.mp_top.specs.declared.refusal.Refusal.TheVariants.{Files, First, Sizes}
 
--- the file of the schedule cannot be read: the source tells that it is not there, or a read of it had a fault
-pub record CannotReadSchedule (source : SeenSource) (request : TeamRequest) : Type 0 where
-  pub name : Text
-  pub asked : request.schedule ≡ Some name
+-- the first file cannot be read: the source tells that it is not there, or a read of it had a fault
+pub record CannotReadFirst (source : SeenSource) (request : TeamRequest) : Type 0 where
+  pub file : FirstFile
+  pub asked : request.first ≡ Some file
   pub because :
-      IsSomeAnd source.held (λ files. files name ≡ None)
-      ⊎ ((source.before < source.now) × FaultAt source.held source.fault_at (Some name))
+      IsSomeAnd source.held (λ files. files file.name ≡ None)
+      ⊎ ((source.before < source.now) × FaultAt source.held source.fault_at (Some file.name))
 
--- a file of an agent cannot be read, and the file of the schedule, where one is asked for, fits
+-- a file of an agent cannot be read; what is made is never read
+abbrev pub CannotReadTexts : SeenSource → Texts → FileOf → Type 0
+CannotReadTexts source (in_files names) at = CannotRead source names at
+CannotReadTexts source (made names texts) at = ⊥
+
+-- and the first file, where one is asked for, fits
 pub record CannotReadFactor (source : SeenSource) (request : TeamRequest) (at : FileOf) : Type 0 where
-  pub schedule : HasScheduleText source.held request.schedule
-  pub cannot : CannotRead source request.agents at
+  pub first_text : HasFirstText source.held request.first
+  pub cannot : CannotReadTexts source request.texts at
 
 module _ (source : SeenSource) (request : TeamRequest) where
   abbrev pub RestsOnFiles : FilesRefusal → Type 0
@@ -44,14 +49,14 @@ module _ (source : SeenSource) (request : TeamRequest) where
       ComesFirst source.held request (Sizes (sizes.TooManyFacts agent number))
   RestsOnSizes sizes.OutOfMemory = Unit {0}
 
-  abbrev pub RestsOnSchedule : ScheduleRefusal → Type 0
-  RestsOnSchedule schedule.Read = CannotReadSchedule source request
-  RestsOnSchedule schedule.TooLarge = ComesFirst source.held request (Schedule schedule.TooLarge)
-  RestsOnSchedule (schedule.Line number) = ComesFirst source.held request (Schedule (schedule.Line number))
+  abbrev pub RestsOnFirst : FirstRefusal → Type 0
+  RestsOnFirst first.Read = CannotReadFirst source request
+  RestsOnFirst first.TooLarge = ComesFirst source.held request (First first.TooLarge)
+  RestsOnFirst (first.Line number) = ComesFirst source.held request (First (first.Line number))
 
   -- What a refusal of a request rests on: on being the first one, where the source tells, but for faults of reading and
   -- want of memory.
   abbrev pub Rests : Refusal → Type 0
   Rests (Files r) = RestsOnFiles r
   Rests (Sizes r) = RestsOnSizes r
-  Rests (Schedule r) = RestsOnSchedule r
+  Rests (First r) = RestsOnFirst r

@@ -1,77 +1,112 @@
--- The outcome of a team, before it is printed.
-use Rattle.std.specs.Prelude.{◌≡◌, List, [], length, Option, Some, IfSome, All, if◌then◌else◌}
+-- The outcome of a request, before it is printed.
+use Rattle.std.specs.Prelude.{◌≡◌, ◌++◌, ℕ, Bool, true, List, length, Ok, Option}
 use Rattle.mp_factor.specs.declared.factor.Factor.{Factor}
 use Rattle.mp_joint.specs.Fact.{Text}
+use Rattle.mp_ground.specs.declared.refusal.GroundRefusal.{GroundRefusal}
 use Rattle.mp_outside.specs.Source.{Files as Held}
-use Rattle.mp_files.specs.Team.{HoldsTeam, Two}
-use Rattle.mp_files.specs.declared.refusal.Refusal.TheVariants as files
-use Rattle.mp_grounder.specs.Checked.{IsChecked}
-use Rattle.mp_solutions.specs.Solution.{IsRefusedLine}
+use Rattle.mp_plan_verdict.specs.Verdict.{verdict}
+use Rattle.mp_plan_verdict.specs.declared.verdict.CheckVerdict.{CheckVerdict}
+use Rattle.mp_plans.specs.Plan.{plan_in}
+use Rattle.mp_plans.specs.Verdict.{verdict_text}
+use Rattle.mp_plans.specs.declared.plan.PlanText.{PlanText}
+use Rattle.mp_solutions.specs.declared.solution.Solution.{Solution}
 use Rattle.mp_solve.specs.declared.refusal.ReplayRefusal.{ReplayRefusal}
 use Rattle.mp_solve.specs.declared.refusal.ReplayRefusal.TheVariants as replay
 use Rattle.mp_split.specs.Team.{IsFirstRefusal}
-use Rattle.mp_text.specs.Trace.{trace_text}
-use Rattle.mp_top.specs.Asked.{TeamRequest, values_of}
-use Rattle.mp_solve.specs.Refused.{AreWithin}
-use Rattle.mp_top.specs.Outcome.{IsFoundBy}
-use Rattle.mp_top.specs.Schedule.{IsScheduleText}
+use Rattle.mp_top.specs.Asked.{Work}
+use Rattle.mp_top.specs.Asked.Work.{checked, replayed, searched}
+use Rattle.mp_top.specs.First.{IsTextLineRefused}
+use Rattle.mp_top.specs.Outcome.{IsOutcome, IsReplayedBy, IsSolved, answer_status, plan_status, printed_text, told_made}
+use Rattle.mp_top.specs.Report.{IsEmptyReport}
 use Rattle.mp_top.specs.declared.decision.Decision.{Decision}
 use Rattle.mp_top.specs.declared.decision.Search.{Search}
+use Rattle.mp_top.specs.declared.report.Report.{Report}
+use Rattle.mp_words.specs.Requests.{Searching, Wanted}
 use Rattle.mp_top.specs.declared.refusal.Refusal.{Refusal}
-use Rattle.mp_top.specs.declared.refusal.Refusal.TheVariants.{Files, Sizes, Schedule}
-use Rattle.mp_top.specs.declared.refusal.ScheduleRefusal.{ScheduleRefusal}
-use Rattle.mp_top.specs.declared.refusal.ScheduleRefusal.TheVariants as schedule
-use Rattle.mp_words.specs.Requests.{Wanted}
+use Rattle.mp_top.specs.declared.refusal.Refusal.TheVariants.{Files, First, Sizes}
+use Rattle.mp_top.specs.declared.refusal.FirstRefusal.TheVariants as first
+use Rattle.mp_files.specs.declared.refusal.Refusal.TheVariants as files
 
--- how a plan is searched for or a schedule replayed
-abbrev pub search_of : Wanted → Search
-search_of w = record { heuristic = w.heuristic; limit = w.limit; trace = w.trace }
+-- how agents search
+abbrev pub searching_by : Search → Searching
+searching_by s = record { heuristic = s.heuristic; limit = s.limit }
 
--- the request for this, with these names of files
-abbrev pub request_by : Option Text → Search → List Two → TeamRequest
-request_by schedule search agents = record {
-  schedule = schedule;
-  heuristic = search.heuristic;
-  limit = search.limit;
-  agents = agents;
-}
+-- its text
+abbrev pub told : Decision → Text
+told d = d.before ++ d.text
 
--- a line of the text of a schedule is refused, for a team whose sizes keep the limits
-abbrev pub IsRefusedText : Search → List Factor → Option Text → ScheduleRefusal → Type 0
-IsRefusedText search team (Some text) (schedule.Line number) =
-    AreWithin team × IsRefusedLine (values_of search.heuristic) search.limit team text number
-IsRefusedText search team text r = ⊥
+-- the report of it
+abbrev pub report_of : Decision → Report
+report_of d = record { views = d.views; log = d.log; answer = d.answer }
 
--- a refusal behind the reading of the files: of the first agent whose factor is not grounded, of a line of the schedule, or
--- for want of memory
-abbrev pub IsRefusedTeam : Search → List Factor → Option Text → Refusal → Type 0
-IsRefusedTeam search team text (Files r) = r ≡ files.OutOfMemory
-IsRefusedTeam search team text (Sizes r) = IsFirstRefusal team r
-IsRefusedTeam search team text (Schedule r) = IsRefusedText search team text r
+-- this is decided about a request
+abbrev pub Decides : Option Held → Wanted → Decision → Type 0
+Decides held request d = IsOutcome held request (report_of d) d.status (told d)
+
+-- a solution is told with this text
+pub record IsTold (s : Solution) (text : Text) (d : Decision) : Type 0 where
+  pub views : d.views ≡ s.views
+  pub log : d.log ≡ s.log
+  pub answer : d.answer ≡ s.answer
+  pub printed : told d ≡ text
+  pub ended : d.status ≡ answer_status s.answer
+
+-- a team solves for a plan, and is told with the trace where that is asked for
+pub record SolvesFor (s : Searching) (trace : Bool) (team : List Factor) (d : Decision) : Type 0 where
+  pub outcome : Text
+  pub solved : IsSolved s team (report_of d) outcome
+  pub printed : told d ≡ printed_text trace d.log d.answer outcome
+  pub ended : d.status ≡ answer_status d.answer
+
+-- a team replays the schedule of a text
+pub record ReplaysBy (s : Searching) (text : Text) (team : List Factor) (d : Decision) : Type 0 where
+  pub outcome : Text
+  pub replayed : IsReplayedBy s team text (report_of d) outcome
+  pub printed : told d ≡ printed_text true d.log d.answer outcome
+  pub ended : d.status ≡ answer_status d.answer
+
+-- a made team of this size, with these files, solves for a plan, and is told in summary
+pub record MakesFor
+    (s : Searching)
+    (show : Bool)
+    (texts : List Text)
+    (size : ℕ)
+    (team : List Factor)
+    (d : Decision)
+    : Type 0 where
+  pub outcome : Text
+  pub solved : IsSolved s team (report_of d) outcome
+  pub printed : told d ≡ told_made show texts size d.answer
+  pub ended : d.status ≡ answer_status d.answer
+
+-- what is found of a plan is told, with an empty report
+pub record IsToldOfPlan (found : CheckVerdict) (stated : ℕ) (d : Decision) : Type 0 where
+  pub empty : IsEmptyReport (report_of d)
+  pub printed : told d ≡ verdict_text found stated
+  pub ended : d.status ≡ plan_status found stated
+
+-- what is found of the plan of a text
+pub record ChecksFor (text : Text) (team : List Factor) (d : Decision) : Type 0 where
+  pub plan : PlanText
+  pub is_plan : plan_in (length team) text ≡ Ok plan
+  pub is_told : IsToldOfPlan (verdict team plan.plan) plan.cost d
 
 -- what is said of a schedule that is not replayed
 abbrev pub refusal_of : ReplayRefusal → Refusal
 refusal_of (replay.Sizes r) = Sizes r
-refusal_of (replay.Line number) = Schedule (schedule.Line number)
+refusal_of (replay.Line number) = First (first.Line number)
 
--- it was found for this team, by the schedule of this text where there is one, and it has the trace where that is asked for
-pub record Decides (team : List Factor) (text : Option Text) (search : Search) (d : Decision) : Type 0 where
-  pub checked : All IsChecked team
-  pub within : AreWithin team
-  pub found : IsFoundBy search.heuristic search.limit team text d.solution
-  pub trace : d.trace ≡ (if search.trace then trace_text d.solution.log else [])
+-- an agent whose factor is not grounded; a plan is checked without
+abbrev pub IsGroundRefused : Work → List Factor → GroundRefusal → Type 0
+IsGroundRefused (searched s) team r = IsFirstRefusal team r
+IsGroundRefused (replayed s) team r = IsFirstRefusal team r
+IsGroundRefused checked team r = ⊥
 
--- it was found for the schedule and the team that the files of these names hold, where the source tells
-pub record IsDecidedFor
-    (held : Option Held)
-    (schedule : Option Text)
-    (agents : List Two)
-    (search : Search)
-    (d : Decision)
-    : Type 0 where
-  pub text : Option Text
-  pub is_text : IsScheduleText held schedule text
-  pub team : List Factor
-  pub one_each : length team ≡ length agents
-  pub holds : IfSome held (λ files. HoldsTeam files agents team)
-  pub decides : Decides team text search d
+-- a refusal behind the reading of the texts: of the first agent whose factor is not grounded, of a line of the first text,
+-- or for want of memory
+abbrev pub IsRefusedTeam : Work → List Factor → Text → Refusal → Type 0
+IsRefusedTeam work team text (Files r) = r ≡ files.OutOfMemory
+IsRefusedTeam work team text (Sizes r) = IsGroundRefused work team r
+IsRefusedTeam work team text (First first.Read) = ⊥
+IsRefusedTeam work team text (First first.TooLarge) = ⊥
+IsRefusedTeam work team text (First (first.Line number)) = IsTextLineRefused work team text number

@@ -1,16 +1,15 @@
 -- What each call of the program keeps.
-use Rattle.std.specs.Prelude.{◌≡◌, ◌<◌, ◌↔◌, ◌⊎◌, List, [], Some, None, MatchOption, IfSome}
+use Rattle.std.specs.Prelude.{◌≡◌, ◌<◌, ◌↔◌, ◌⊎◌, List, [], Some, None, MatchOption, IfSome, option_map}
 use Rattle.std.specs.Io.KnownBytes.{Appends}
 use Rattle.mp_joint.specs.Fact.{Text}
 use Rattle.mp_outside.specs.Sink.{AppendsBeginning}
-use Rattle.mp_world.specs.declared.answer.Answer.{Answer}
-use Rattle.mp_world.specs.declared.answer.Answer.TheVariants as answer
 use Rattle.mp_files.specs.Cause.{SeenSource}
 use Rattle.mp_files.specs.declared.refusal.FileOf.{FileOf}
 use Rattle.mp_words.specs.Requests.{Wanted}
-use Rattle.mp_top.specs.Asked.{agents_of, team_request}
+use Rattle.mp_words.specs.Requests.Wanted.{checks, makes, replays, solves}
+use Rattle.mp_top.specs.Asked.{FirstFile, TeamRequest, names_of_texts, team_request}
 use Rattle.mp_top.specs.Call.{Call, SeenSink, Says}
-use Rattle.mp_top.specs.Cause.{CannotReadFactor, CannotReadSchedule, Rests}
+use Rattle.mp_top.specs.Cause.{CannotReadFactor, CannotReadFirst, Rests}
 use Rattle.mp_top.specs.First.{IsFirst}
 use Rattle.mp_top.specs.Outcome.{IsOutcome}
 use Rattle.mp_top.specs.Refusal.{status_of, line_of, memory_line, words_line, write_line}
@@ -21,28 +20,20 @@ use Rattle.mp_top.specs.declared.report.Report.{Report}
 use Rattle.mp_top.specs.declared.status.Status.{Status}
 use Rattle.mp_top.specs.declared.status.Status.TheVariants as status
 
--- the status of a call that printed an answer
-abbrev pub answer_status : Answer → Status
-answer_status answer.Nothing = status.Unfinished
-answer_status (answer.Solved cost length) = status.Solved
-answer_status answer.Unsolvable = status.No
-answer_status answer.Undecided = status.Undecided
+-- this is printed for the request with this status, and the report is that of its outcome
+abbrev pub IsOutcomeFor : Call → Wanted → Status → Text → Type 0
+IsOutcomeFor call request ended text = IsOutcome call.source.held request call.report ended text
 
--- this is printed for the request, and the report is that of its outcome
-abbrev pub IsOutcomeFor : Call → Wanted → Text → Type 0
-IsOutcomeFor call request text = IsOutcome call.source.held request call.report text
-
--- `out` gained the whole text of the outcome, whose answer the status tells
-abbrev pub PrintsAnswer : Call → Wanted → Type 0
-PrintsAnswer call request =
-    (text : Text) × IsOutcomeFor call request text
-    × (answer_status call.report.answer ≡ call.status)
-    × Appends call.out.old call.out.new text
+-- `out` gained the whole text of the outcome
+abbrev pub PrintsOutcome : Call → Wanted → Type 0
+PrintsOutcome call request =
+    (text : Text) × IsOutcomeFor call request call.status text × Appends call.out.old call.out.new text
 
 -- `out` gained a beginning of it
 abbrev pub PrintsBeginning : Call → Wanted → Type 0
 PrintsBeginning call request =
-    (text : Text) × IsOutcomeFor call request text × AppendsBeginning call.out.old call.out.new text
+    (text : Text) × (ended : Status) × IsOutcomeFor call request ended text
+    × AppendsBeginning call.out.old call.out.new text
 
 -- `out` gained nothing, and the report stays as it was
 abbrev pub PrintsNothing : Call → Type 0
@@ -50,14 +41,17 @@ PrintsNothing call = (call.out.new ≡ call.out.old) × (call.report ≡ call.be
 
 -- a schedule is replayed
 abbrev pub IsReplay : Wanted → Type 0
-IsReplay request = (name : Text) × (request.schedule ≡ Some name)
+IsReplay (solves w) = ⊥
+IsReplay (replays w) = Unit {0}
+IsReplay (checks w) = ⊥
+IsReplay (makes w) = ⊥
 
 -- what is printed about a request, by the status
 abbrev pub PrintsFor : Call → Wanted → Status → Type 0
-PrintsFor call request status.Solved = PrintsAnswer call request
-PrintsFor call request status.No = PrintsAnswer call request
-PrintsFor call request status.Undecided = PrintsAnswer call request
-PrintsFor call request status.Unfinished = IsReplay request × PrintsAnswer call request
+PrintsFor call request status.Solved = PrintsOutcome call request
+PrintsFor call request status.No = PrintsOutcome call request
+PrintsFor call request status.Undecided = PrintsOutcome call request
+PrintsFor call request status.Unfinished = IsReplay request × PrintsOutcome call request
 PrintsFor call request status.Write = PrintsBeginning call request
 PrintsFor call request status.Words = PrintsNothing call
 PrintsFor call request status.Read = PrintsNothing call
@@ -72,21 +66,31 @@ Prints call =
     MatchOption (request_of call.words) (PrintsNothing call)
     (λ request. PrintsFor call request call.status)
 
--- a status of an answer, or that of a schedule that ended before there was one
-abbrev pub IsAnswerStatus : Wanted → Status → Type 0
-IsAnswerStatus request ended =
-    (ended ≡ status.Solved) ⊎ (ended ≡ status.No) ⊎ (ended ≡ status.Undecided)
-    ⊎ ((ended ≡ status.Unfinished) × IsReplay request)
+-- the statuses of answers
+abbrev pub IsSolved : Status → Type 0
+IsSolved ended = (ended ≡ status.Solved) ⊎ (ended ≡ status.No) ⊎ (ended ≡ status.Undecided)
+
+-- a status of an outcome: of an answer, or that of a schedule that ended before there was one, or of what is found of a
+-- plan
+abbrev pub IsOutcomeStatus : Wanted → Status → Type 0
+IsOutcomeStatus (solves w) ended = IsSolved ended
+IsOutcomeStatus (replays w) ended = IsSolved ended ⊎ (ended ≡ status.Unfinished)
+IsOutcomeStatus (checks w) ended = (ended ≡ status.Solved) ⊎ (ended ≡ status.No)
+IsOutcomeStatus (makes w) ended = IsSolved ended
 
 -- the line of a refusal, with the names that a request has
-abbrev pub line_for : Wanted → Refusal → Text
-line_for request r = line_of request.schedule (agents_of request.names) r
+abbrev pub line_in : TeamRequest → Refusal → Text
+line_in request r =
+    line_of (option_map (λ (file : FirstFile). file.name) request.first) (names_of_texts request.texts) r
 
--- The line that `err` is told about a request: nothing with an answer or where a schedule ended before there was one, the
--- line of a failed write, or the line of a refusal that has its cause, with its status.
+abbrev pub line_for : Wanted → Refusal → Text
+line_for request r = line_in (team_request request) r
+
+-- The line that `err` is told about a request: nothing with an outcome, the line of a failed write, or the line of a refusal
+-- that has its cause, with its status.
 abbrev pub IsLineFor : Call → Wanted → Text → Type 0
 IsLineFor call request line =
-    (IsAnswerStatus request call.status × (line ≡ []))
+    (IsOutcomeStatus request call.status × (line ≡ []))
     ⊎ ((call.status ≡ status.Write) × (line ≡ write_line))
     ⊎ ((r : Refusal) × (call.status ≡ status_of r) × (line ≡ line_for request r)
     × Rests call.source (team_request request) r)
@@ -100,11 +104,11 @@ IsLineForWords call line =
 abbrev pub IsLine : Call → Text → Type 0
 IsLine call line = MatchOption (request_of call.words) (IsLineForWords call line) (λ request. IsLineFor call request line)
 
--- a file word of accepted words cannot be read: that of the schedule, or one of an agent
+-- a file word of accepted words cannot be read: that of the first file, or one of an agent
 abbrev pub CannotReadFile : Call → Type 0
 CannotReadFile call =
     (request : Wanted) × (request_of call.words ≡ Some request)
-    × (CannotReadSchedule call.source (team_request request)
+    × (CannotReadFirst call.source (team_request request)
     ⊎ ((at : FileOf) × CannotReadFactor call.source (team_request request) at))
 
 -- The first refusal comes, but for faults of reading and want of memory: where what the files hold has one, the status

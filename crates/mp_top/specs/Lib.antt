@@ -1,14 +1,16 @@
 -- which words are accepted
 pub mod Words
--- what is asked of a team: the names of files, the heuristic and the limit
+-- what is asked of a team: where its texts are, and what is done with it
 pub mod Asked
--- the file of the schedule
-pub mod Schedule
+-- the text of the file that stands before those of the agents
+pub mod FirstText
+-- what the texts of a team lead to
+pub mod Team
 -- statuses as numbers
 pub mod Status
 -- why a call ends without an outcome, and the line that says so
 pub mod Refusal
--- the first refusal by what files hold
+-- the first refusal by what the texts are
 pub mod First
 -- what a call leaves to its caller
 pub mod Report
@@ -16,10 +18,10 @@ pub mod Report
 pub mod Call
 -- what a refusal rests on
 pub mod Cause
--- the outcome of a team, before it is printed
-pub mod Decided
--- what is printed for a team, and the report
+-- what is printed for a request, and the report
 pub mod Outcome
+-- the outcome of a request, before it is printed
+pub mod Decided
 -- what each call keeps
 pub mod Keeps
 -- what telling a decision comes to

@@ -1,22 +1,33 @@
--- What is printed for a team, and the report.
-use Rattle.std.specs.Prelude.{◌≡◌, ℕ, List, ◌∷◌, ◌++◌, length, codes, Bool, Option, Some, None, IfSome, All, if◌then◌else◌}
+-- What is printed for a request, and the report.
+use Rattle.std.specs.Prelude.{◌≡◌, ◌↔◌, decimal, ℕ, ◌==◌, List, [], ◌∷◌, ◌++◌, length, codes, Bool, true, false, Option, Some, None, Ok, All, if◌then◌else◌}
 use Rattle.mp_factor.specs.declared.factor.Factor.{Factor}
 use Rattle.mp_joint.specs.Fact.{Text}
 use Rattle.mp_outside.specs.Source.{Files}
 use Rattle.mp_messages.specs.declared.history.Entry.{Entry}
-use Rattle.mp_files.specs.Team.{HoldsTeam}
 use Rattle.mp_grounder.specs.Checked.{IsChecked}
+use Rattle.mp_plan_verdict.specs.Verdict.{verdict}
+use Rattle.mp_plan_verdict.specs.declared.verdict.CheckVerdict.{CheckVerdict}
+use Rattle.mp_plan_verdict.specs.declared.verdict.CheckVerdict.TheVariants.{Valid}
+use Rattle.mp_plans.specs.Made.{made_text, shown_text}
+use Rattle.mp_plans.specs.Plan.{plan_in}
+use Rattle.mp_plans.specs.Verdict.{verdict_text}
+use Rattle.mp_plans.specs.declared.plan.PlanText.{PlanText}
 use Rattle.mp_text.specs.Trace.{trace_text}
-use Rattle.mp_words.specs.Requests.{Wanted}
-use Rattle.mp_words.specs.declared.asked.Choice.{Choice}
+use Rattle.mp_words.specs.Requests.{Searching, Wanted}
+use Rattle.mp_words.specs.Requests.Wanted.{checks, makes, replays, solves}
+use Rattle.mp_maker.specs.Delivery.{delivery}
 use Rattle.mp_world.specs.declared.answer.Answer.{Answer}
 use Rattle.mp_world.specs.declared.answer.Answer.TheVariants.{Nothing, Solved, Unsolvable, Undecided}
 use Rattle.mp_solutions.specs.Solution.{IsReplayed, IsSolution}
 use Rattle.mp_solutions.specs.declared.solution.Solution.{Solution}
-use Rattle.mp_top.specs.Asked.{agents_of, values_of}
 use Rattle.mp_solve.specs.Refused.{AreWithin}
-use Rattle.mp_top.specs.Schedule.{IsScheduleText}
+use Rattle.mp_top.specs.Asked.{TeamRequest, team_request, values_of, names_of_texts}
+use Rattle.mp_top.specs.FirstText.{IsFirstText}
+use Rattle.mp_top.specs.Report.{IsEmptyReport}
+use Rattle.mp_top.specs.Team.{IsTeam}
 use Rattle.mp_top.specs.declared.report.Report.{Report}
+use Rattle.mp_top.specs.declared.status.Status.{Status}
+use Rattle.mp_top.specs.declared.status.Status.TheVariants as status
 
 -- the line behind a trace: an answer follows, or the events ended before there was one
 abbrev pub behind_trace : Answer → Text
@@ -30,24 +41,160 @@ abbrev pub printed_text : Bool → List Entry → Answer → Text → Text
 printed_text trace log answer outcome =
     if trace then trace_text log ++ (behind_trace answer ++ 10 ∷ outcome) else outcome
 
--- it was found by round robin, or by the schedule that this text has
-abbrev pub IsFoundBy : Choice → ℕ → List Factor → Option Text → Solution → Type 0
-IsFoundBy heuristic limit team None found = IsSolution (values_of heuristic) limit team found
-IsFoundBy heuristic limit team (Some text) found = IsReplayed (values_of heuristic) limit team text found
-
--- This was printed for a request, and the report is that of the outcome: the text of the schedule, where one is asked for,
--- and the factors of the team are those of its files, where the source tells; nothing is wrong with the factors, and their
--- ground sizes keep the limits; and what was found is right for them.
-pub record IsOutcome (held : Option Files) (request : Wanted) (report : Report) (text : Text) : Type 0 where
-  pub schedule : Option Text
-  pub is_schedule : IsScheduleText held request.schedule schedule
-  pub team : List Factor
-  pub one_each : length team ≡ length (agents_of request.names)
+-- The texts of a request lead to this team, with nothing wrong in its factors, and this is the text of the first file,
+-- where there is one.
+pub record IsTeamOf (held : Option Files) (request : TeamRequest) (first : Option Text) (team : List Factor) : Type 0 where
+  pub is_first : IsFirstText held request.first first
+  pub is_team : IsTeam held request.texts team
+  pub one_each : length team ≡ length (names_of_texts request.texts)
   pub checked : All IsChecked team
-  pub holds : IfSome held (λ files. HoldsTeam files (agents_of request.names) team)
+
+-- a report with the text of the outcome
+abbrev pub reported : Report → Text → Solution
+reported report outcome =
+    record { views = report.views; log = report.log; answer = report.answer; text = outcome }
+
+-- it was found by round robin for a team whose sizes keep the limits, and has this text
+pub record IsSolved (s : Searching) (team : List Factor) (report : Report) (outcome : Text) : Type 0 where
   pub within : AreWithin team
+  pub found : IsSolution (values_of s.heuristic) s.limit team (reported report outcome)
+
+-- it was found by the schedule that this text has
+pub record IsReplayedBy
+    (s : Searching)
+    (team : List Factor)
+    (schedule : Text)
+    (report : Report)
+    (outcome : Text)
+    : Type 0 where
+  pub within : AreWithin team
+  pub found : IsReplayed (values_of s.heuristic) s.limit team schedule (reported report outcome)
+
+-- a plan that is solved for: the report is that of its outcome, whose text is printed, after the trace where that is
+-- asked for
+pub record IsOutcomeOfSolve
+    (held : Option Files)
+    (request : TeamRequest)
+    (s : Searching)
+    (trace : Bool)
+    (report : Report)
+    (text : Text)
+    : Type 0 where
+  pub team : List Factor
+  pub is_team : IsTeamOf held request None team
   pub outcome : Text
-  pub found :
-      IsFoundBy request.heuristic request.limit team schedule
-      (record { views = report.views; log = report.log; answer = report.answer; text = outcome })
-  pub printed : text ≡ printed_text request.trace report.log report.answer outcome
+  pub solved : IsSolved s team report outcome
+  pub printed : text ≡ printed_text trace report.log report.answer outcome
+
+-- the same for a schedule that is replayed, with the trace
+pub record IsOutcomeOfReplay
+    (held : Option Files)
+    (request : TeamRequest)
+    (s : Searching)
+    (report : Report)
+    (text : Text)
+    : Type 0 where
+  pub schedule : Text
+  pub team : List Factor
+  pub is_team : IsTeamOf held request (Some schedule) team
+  pub outcome : Text
+  pub replayed : IsReplayedBy s team schedule report outcome
+  pub printed : text ≡ printed_text true report.log report.answer outcome
+
+-- the text of a made team: a summary, behind the files of the team where they are asked for
+abbrev pub told_made : Bool → List Text → ℕ → Answer → Text
+told_made show texts size answer = (if show then shown_text texts else []) ++ made_text size answer
+
+-- the same for a team that is made, whose text is a summary
+pub record IsOutcomeOfMake
+    (held : Option Files)
+    (request : TeamRequest)
+    (s : Searching)
+    (show : Bool)
+    (size number : ℕ)
+    (report : Report)
+    (text : Text)
+    : Type 0 where
+  pub team : List Factor
+  pub is_team : IsTeamOf held request None team
+  pub outcome : Text
+  pub solved : IsSolved s team report outcome
+  pub printed : text ≡ told_made show (delivery size number) size report.answer
+
+-- the status of a call that printed an answer
+abbrev pub answer_status : Answer → Status
+answer_status Nothing = status.Unfinished
+answer_status (Solved cost length) = status.Solved
+answer_status Unsolvable = status.No
+answer_status Undecided = status.Undecided
+
+-- a plan solves, at the cost that its text states
+abbrev pub is_valid : CheckVerdict → ℕ → Bool
+is_valid (Valid cost) stated = cost == stated
+is_valid _ stated = false
+
+-- the status of a call that printed what is found of a plan
+abbrev pub plan_status : CheckVerdict → ℕ → Status
+plan_status found stated = if is_valid found stated then status.Solved else status.No
+
+-- the text of a valid plan
+abbrev pub valid_text : ℕ → Text
+valid_text cost = (codes "valid cost " ++ decimal cost) ++ 10 ∷ []
+
+-- A plan that is checked: what is found of it is printed, the status is that of a valid plan exactly where the text is, and
+-- the report is empty.
+pub record IsOutcomeOfCheck
+    (held : Option Files)
+    (request : TeamRequest)
+    (report : Report)
+    (ended : Status)
+    (text : Text)
+    : Type 0 where
+  pub first : Text
+  pub team : List Factor
+  pub is_team : IsTeamOf held request (Some first) team
+  pub plan : PlanText
+  pub is_plan : plan_in (length team) first ≡ Ok plan
+  pub empty : IsEmptyReport report
+  pub printed : text ≡ verdict_text (verdict team plan.plan) plan.cost
+  pub is_ended : ended ≡ plan_status (verdict team plan.plan) plan.cost
+  pub is_valid_text : (ended ≡ status.Solved) ↔ ((cost : ℕ) × (text ≡ valid_text cost))
+
+-- what is printed for a request, with the report and the status of its outcome
+abbrev pub IsOutcome : Option Files → Wanted → Report → Status → Text → Type 0
+IsOutcome held (solves w) report ended text =
+    IsOutcomeOfSolve held (team_request (solves w)) w.search w.trace report text
+    × (ended ≡ answer_status report.answer)
+IsOutcome held (replays w) report ended text =
+    IsOutcomeOfReplay held (team_request (replays w)) w.search report text
+    × (ended ≡ answer_status report.answer)
+IsOutcome held (checks w) report ended text =
+    IsOutcomeOfCheck held (team_request (checks w)) report ended text
+IsOutcome held (makes w) report ended text =
+    IsOutcomeOfMake held (team_request (makes w)) w.search w.show w.size w.number report text
+    × (ended ≡ answer_status report.answer)
+
+-- ---- For what is said of two outcomes.
+
+-- the team of an outcome
+abbrev pub team_in
+    : (held : Option Files) (request : Wanted) (report : Report) (ended : Status) (text : Text)
+    → IsOutcome held request report ended text → List Factor
+team_in held (solves w) report ended text outcome = outcome.0.team
+team_in held (replays w) report ended text outcome = outcome.0.team
+team_in held (checks w) report ended text outcome = outcome.team
+team_in held (makes w) report ended text outcome = outcome.0.team
+
+-- the agents of a request search so
+abbrev pub Searches : Wanted → Searching → Type 0
+Searches (solves w) s = w.search ≡ s
+Searches (replays w) s = w.search ≡ s
+Searches (checks w) s = ⊥
+Searches (makes w) s = w.search ≡ s
+
+-- each event is printed
+abbrev pub HasTrace : Wanted → Type 0
+HasTrace (solves w) = w.trace ≡ true
+HasTrace (replays w) = Unit {0}
+HasTrace (checks w) = ⊥
+HasTrace (makes w) = ⊥

@@ -13,9 +13,9 @@ use Rattle.mp_files.specs.declared.refusal.Refusal.TheVariants as files
 use Rattle.mp_ground.specs.declared.refusal.GroundRefusal.{GroundRefusal}
 use Rattle.mp_ground.specs.declared.refusal.GroundRefusal.TheVariants as sizes
 use Rattle.mp_top.specs.declared.refusal.Refusal.{Refusal}
-use Rattle.mp_top.specs.declared.refusal.Refusal.TheVariants.{Files, Sizes, Schedule}
-use Rattle.mp_top.specs.declared.refusal.ScheduleRefusal.{ScheduleRefusal}
-use Rattle.mp_top.specs.declared.refusal.ScheduleRefusal.TheVariants as schedule
+use Rattle.mp_top.specs.declared.refusal.FirstRefusal.{FirstRefusal}
+use Rattle.mp_top.specs.declared.refusal.FirstRefusal.TheVariants as first
+use Rattle.mp_top.specs.declared.refusal.Refusal.TheVariants.{Files, First, Sizes}
 use Rattle.mp_top.specs.declared.status.Status.{Status}
 use Rattle.mp_top.specs.declared.status.Status.TheVariants as status
 
@@ -31,15 +31,15 @@ status_of_sizes (sizes.TooManyActions agent number) = status.TooLarge
 status_of_sizes (sizes.TooManyFacts agent number) = status.TooLarge
 status_of_sizes sizes.OutOfMemory = status.Memory
 
-abbrev pub status_of_schedule : ScheduleRefusal → Status
-status_of_schedule schedule.Read = status.Read
-status_of_schedule schedule.TooLarge = status.TooLarge
-status_of_schedule (schedule.Line number) = status.Line
+abbrev pub status_of_first : FirstRefusal → Status
+status_of_first first.Read = status.Read
+status_of_first first.TooLarge = status.TooLarge
+status_of_first (first.Line number) = status.Line
 
 abbrev pub status_of : Refusal → Status
 status_of (Files r) = status_of_files r
 status_of (Sizes r) = status_of_sizes r
-status_of (Schedule r) = status_of_schedule r
+status_of (First r) = status_of_first r
 
 -- the word of the command line that names a file
 abbrev pub name_of : List Two → FileOf → Text
@@ -113,14 +113,14 @@ line_of_sizes (sizes.TooManyActions agent number) = sizes_line agent (codes "G2 
 line_of_sizes (sizes.TooManyFacts agent number) = sizes_line agent (codes "G1 facts")
 line_of_sizes sizes.OutOfMemory = memory_line
 
--- a refusal of the schedule in the file of this name
-abbrev pub line_of_schedule : Text → ScheduleRefusal → Text
-line_of_schedule name schedule.Read = read_line name
-line_of_schedule name schedule.TooLarge = too_large_line name
-line_of_schedule name (schedule.Line number) = refused_line name number
+-- a refusal of the first file, which has this name
+abbrev pub line_of_first : Text → FirstRefusal → Text
+line_of_first name first.Read = read_line name
+line_of_first name first.TooLarge = too_large_line name
+line_of_first name (first.Line number) = refused_line name number
 
--- a refusal, by the names of the files of the schedule and of the agents
+-- a refusal, by the names of the first file and of the files of the agents
 abbrev pub line_of : Option Text → List Two → Refusal → Text
 line_of name agents (Files r) = line_of_files agents r
 line_of name agents (Sizes r) = line_of_sizes r
-line_of name agents (Schedule r) = line_of_schedule (unwrap_or name []) r
+line_of name agents (First r) = line_of_first (unwrap_or name []) r

@@ -1,17 +1,21 @@
-//! The top call: words in, files read, a team's plan searched, a text printed.
+//! The top call: words in, files read, a team's plan searched or checked, a text printed.
 #![tactic(auto)]
 
 mod asked;
+mod checking;
 mod command;
+mod deciding;
 mod decision;
 mod first;
+mod first_file;
 mod laws;
+mod making;
 mod on_files;
 mod on_one_thread;
 mod on_threads;
 mod refusal;
 mod report;
-mod schedule_file;
+mod searching;
 mod status;
 
 pub use command::run_command;
@@ -21,7 +25,7 @@ pub use mp_words::alone;
 pub use on_files::run_on_files;
 pub use on_one_thread::run_alone;
 pub use on_threads::run;
-pub use refusal::{Refusal, ScheduleRefusal};
+pub use refusal::{FirstRefusal, Refusal};
 pub use report::Report;
 pub use status::Status;
 

@@ -1,134 +1,216 @@
 //! The whole of the program on one thread.
 
-ghost use Rattle.std.specs.Prelude.{◌≡◌, ◌≤◌, ℕ, List, Some, true, length, map, option_map, string_bytes};
+ghost use Rattle.std.specs.Prelude.{◌≡◌, ℕ, List, Some, true, map, option_map, string_bytes, IfOk, IfErr};
 ghost use Rattle.mp_files.specs.Cause.{seen_source};
 ghost use Rattle.mp_files.specs.Fetched.{names_of};
-ghost use Rattle.mp_top.specs.Asked.{KeepsLimits, agents_of};
+ghost use Rattle.mp_top.specs.Asked.{KeepsLimits};
 ghost use Rattle.mp_top.specs.Call.{Call, seen_sink};
-ghost use Rattle.mp_top.specs.Decided.{search_of};
-ghost use Rattle.mp_top.specs.Keeps.{Keeps, answer_status};
-ghost use Rattle.mp_top.specs.Printed.{Publishes, trace_end};
+ghost use Rattle.mp_top.specs.Keeps.{Keeps};
+ghost use Rattle.mp_top.specs.Printed.{Publishes, TellsRefusal};
 ghost use Rattle.mp_top.specs.Report.{IsEmptyReport};
 ghost use Rattle.mp_top.specs.Words.{request_of};
-ghost use Rattle.mp_words.specs.Reads.{wanted_by};
-ghost use Rattle.mp_words.specs.Requests.{Wanted, is_alone};
+ghost use Rattle.mp_words.specs.Reads.{check_by, make_by, replay_by, solve_by, wanted_by};
+ghost use Rattle.mp_words.specs.Requests.{is_alone};
+ghost use Rattle.mp_words.specs.Requests.Wanted.{checks, makes, replays, solves};
 
 use crate::asked::{asked, files_of};
-use crate::decision::{Decision, Search, decide};
+use crate::deciding::{decide_check, decide_make, decide_replay, decide_solve, size_of};
+use crate::decision::Decision;
 use crate::first::one_first;
+use crate::making::made_files;
 use crate::refusal::{Refusal, tell_memory, tell_words, tell_write};
 use crate::report::Report;
 use crate::status::Status;
 use mp_files::AgentFiles;
 use mp_outside::{Sink, Source, put_all};
-use mp_solve::Solution;
-use mp_words::Request;
-use mp_world::Answer;
+use mp_words::{Check, Make, Replay, Request, Solve};
 use std::alloc::Global;
 
-/// The status of a call that printed this answer.
-fn status_of_answer(answer: Answer) -> Status
-    ensures { result ≡ answer_status answer }
-{
-    match answer {
-        Answer::Nothing => Status::Unfinished,
-        Answer::Solved { .. } => Status::Solved,
-        Answer::Unsolvable => Status::No,
-        Answer::Undecided => Status::Undecided,
-    }
-}
-
-/// The line behind a trace, where there is a trace.
-fn line_behind(trace: bool, answer: Answer) -> &'static [u8]
-    ensures { result.now ≡ trace_end trace answer }
-{
-    if !trace {
-        return b"";
-    }
-    match answer {
-        Answer::Nothing => b"unfinished\n",
-        Answer::Solved { .. } => b"answer\n",
-        Answer::Unsolvable => b"answer\n",
-        Answer::Undecided => b"answer\n",
-    }
-}
-
-/// Keeps the decision in the report and writes its text, after that of the trace where this is asked for.
+/// Keeps the decision in the report and writes its text.
 fn publish<K: Sink, E: Sink>(
     decision: Decision,
-    trace: bool,
     out: &mut K,
     err: &mut E,
     report: &mut Report,
 ) -> Status
-    ensures report { (report.new.answer ≡ decision.solution.answer) × (report.new.log ≡ decision.solution.log)
-        × (report.new.views ≡ decision.solution.views) }
-    ensures told { Publishes (seen_sink K.written K.faults out.old out.new) (seen_sink E.written E.faults err.old err.new) decision trace result }
+    ensures { Publishes (seen_sink K.written K.faults out.old out.new) (seen_sink E.written E.faults err.old err.new)
+        report.new result decision }
 {
     let Decision {
-        solution,
-        trace: events,
-    } = decision;
-    let Solution {
         views,
         log,
         answer,
+        before,
         text,
-    } = solution;
+        status,
+    } = decision;
     report.views = views;
     report.log = log;
     report.answer = answer;
-    let texts = [
-        events.as_slice(),
-        line_behind(trace, answer),
-        text.as_slice(),
-    ];
-    if put_all(out, &texts).is_err() {
+    if put_all(out, &[before.as_slice(), text.as_slice()]).is_err() {
         tell_write(err);
         return Status::Write;
     }
-    status_of_answer(answer)
+    status
 }
 
-/// Answers a request for the agents with these files, and with the schedule in the file of this name where there is one: the outcome on `out` and in the report, or the line of a refusal on
-/// `err`.
-fn answer_files<S: Source, K: Sink, E: Sink>(
-    alloc: Global,
-    search: Search,
-    schedule: Option<&str>,
+/// Ends a call with what was decided: a decision is kept and written, a refusal told on `err`, with the names of the first
+/// file, where there is one, and of the files of the agents.
+fn end<K: Sink, E: Sink>(
+    decided: Result<Decision, Refusal>,
+    first: Option<&str>,
     files: &[AgentFiles<'_>],
-    source: &mut S,
     out: &mut K,
     err: &mut E,
     report: &mut Report,
 ) -> Status
-    requires from_1 { 1 ≤ search.limit }
-    requires limit { search.limit ≤ 10000000 }
-    requires some { 1 ≤ length files.now }
-    requires at_most { length files.now ≤ 16 }
-    ensures { (ws : List (List ℕ)) (w : Wanted) → request_of ws ≡ Some w → search ≡ search_of w
-        → option_map (λ name. name.now) schedule.entry ≡ w.schedule
-        → map names_of files.now ≡ agents_of w.names → Keeps (record {
-          words = ws;
-          source = seen_source S.held S.faults S.fault_at source.old source.new;
-          out = seen_sink K.written K.faults out.old out.new;
-          err = seen_sink E.written E.faults err.old err.new;
-          before = report.old;
-          report = report.new;
-          status = result;
-        }) }
+    ensures outcome { IfOk decided (Publishes (seen_sink K.written K.faults out.old out.new)
+        (seen_sink E.written E.faults err.old err.new) report.new result) }
+    ensures refusal { IfErr decided (TellsRefusal (option_map (λ name. name.now) first.entry) (map names_of files.now)
+        (seen_sink K.written K.faults out.old out.new) (seen_sink E.written E.faults err.old err.new)
+        report.old report.new result) }
 {
-    one_first();
-    match decide(alloc, source, schedule, files, search) {
-        Ok(decision) => publish(decision, search.trace, out, err, report),
+    match decided {
+        Ok(decision) => publish(decision, out, err, report),
         Err(refusal) => {
-            refusal.tell(schedule, files, err);
+            refusal.tell(first, files, err);
             refusal.status()
         }
     }
 }
 
-/// Answers words that ask for this: the outcome on `out` and in the report, or the line of a refusal on `err`.
+/// Answers a request for a cheapest plan of a team.
+fn answer_solve<S: Source, K: Sink, E: Sink>(
+    alloc: Global,
+    request: &Solve<'_>,
+    source: &mut S,
+    out: &mut K,
+    err: &mut E,
+    report: &mut Report,
+) -> Status
+    requires { KeepsLimits (solves (solve_by request.now)) }
+    ensures { (ws : List (List ℕ)) → request_of ws ≡ Some (solves (solve_by request.now)) → Keeps (record {
+      words = ws;
+      source = seen_source S.held S.faults S.fault_at source.old source.new;
+      out = seen_sink K.written K.faults out.old out.new;
+      err = seen_sink E.written E.faults err.old err.new;
+      before = report.old;
+      report = report.new;
+      status = result;
+    }) }
+{
+    one_first();
+    let Ok(files) = files_of(alloc, request.names.as_slice()) else {
+        tell_memory(err);
+        return Status::Memory;
+    };
+    let decided = decide_solve(alloc, source, request, files.as_slice());
+    end(decided, None, files.as_slice(), out, err, report)
+}
+
+/// Answers a request for what a team does by a schedule.
+fn answer_replay<S: Source, K: Sink, E: Sink>(
+    alloc: Global,
+    request: &Replay<'_>,
+    source: &mut S,
+    out: &mut K,
+    err: &mut E,
+    report: &mut Report,
+) -> Status
+    requires { KeepsLimits (replays (replay_by request.now)) }
+    ensures { (ws : List (List ℕ)) → request_of ws ≡ Some (replays (replay_by request.now)) → Keeps (record {
+      words = ws;
+      source = seen_source S.held S.faults S.fault_at source.old source.new;
+      out = seen_sink K.written K.faults out.old out.new;
+      err = seen_sink E.written E.faults err.old err.new;
+      before = report.old;
+      report = report.new;
+      status = result;
+    }) }
+{
+    one_first();
+    let Ok(files) = files_of(alloc, request.names.as_slice()) else {
+        tell_memory(err);
+        return Status::Memory;
+    };
+    let decided = decide_replay(alloc, source, request, files.as_slice());
+    end(
+        decided,
+        Some(request.schedule),
+        files.as_slice(),
+        out,
+        err,
+        report,
+    )
+}
+
+/// Answers a request for what is found of a plan.
+fn answer_check<S: Source, K: Sink, E: Sink>(
+    alloc: Global,
+    request: &Check<'_>,
+    source: &mut S,
+    out: &mut K,
+    err: &mut E,
+    report: &mut Report,
+) -> Status
+    requires { KeepsLimits (checks (check_by request.now)) }
+    ensures { (ws : List (List ℕ)) → request_of ws ≡ Some (checks (check_by request.now)) → Keeps (record {
+      words = ws;
+      source = seen_source S.held S.faults S.fault_at source.old source.new;
+      out = seen_sink K.written K.faults out.old out.new;
+      err = seen_sink E.written E.faults err.old err.new;
+      before = report.old;
+      report = report.new;
+      status = result;
+    }) }
+{
+    one_first();
+    let Ok(files) = files_of(alloc, request.names.as_slice()) else {
+        tell_memory(err);
+        return Status::Memory;
+    };
+    let decided = decide_check(alloc, source, request, files.as_slice());
+    end(
+        decided,
+        Some(request.plan),
+        files.as_slice(),
+        out,
+        err,
+        report,
+    )
+}
+
+/// Answers a request for a team that is made. Nothing is read.
+fn answer_make<S: Source, K: Sink, E: Sink>(
+    alloc: Global,
+    request: Make,
+    source: &mut S,
+    out: &mut K,
+    err: &mut E,
+    report: &mut Report,
+) -> Status
+    requires { KeepsLimits (makes (make_by request)) }
+    ensures { (ws : List (List ℕ)) → request_of ws ≡ Some (makes (make_by request)) → Keeps (record {
+      words = ws;
+      source = seen_source S.held S.faults S.fault_at source.old source.new;
+      out = seen_sink K.written K.faults out.old out.new;
+      err = seen_sink E.written E.faults err.old err.new;
+      before = report.old;
+      report = report.new;
+      status = result;
+    }) }
+{
+    one_first();
+    let _ = &source;
+    let Ok(files) = made_files(alloc, size_of(request)) else {
+        tell_memory(err);
+        return Status::Memory;
+    };
+    let decided = decide_make(alloc, request);
+    end(decided, None, files.as_slice(), out, err, report)
+}
+
+/// Answers a request: the outcome on `out` and in the report, or the line of a refusal on `err`.
 fn answer_request<S: Source, K: Sink, E: Sink>(
     alloc: Global,
     request: &Request<'_>,
@@ -148,32 +230,17 @@ fn answer_request<S: Source, K: Sink, E: Sink>(
       status = result;
     }) }
 {
-    let search = Search {
-        heuristic: request.heuristic,
-        limit: request.limit,
-        trace: request.trace,
-    };
-    match files_of(alloc, request.names.as_slice()) {
-        Ok(files) => answer_files(
-            alloc,
-            search,
-            request.schedule,
-            files.as_slice(),
-            source,
-            out,
-            err,
-            report,
-        ),
-        Err(_) => {
-            tell_memory(err);
-            Status::Memory
-        }
+    match request {
+        Request::Solve(solve) => answer_solve(alloc, solve, source, out, err, report),
+        Request::Replay(replay) => answer_replay(alloc, replay, source, out, err, report),
+        Request::Check(check) => answer_check(alloc, check, source, out, err, report),
+        Request::Make(make) => answer_make(alloc, *make, source, out, err, report),
     }
 }
 
-/// Does all that the program does for words that need no second thread: reads the files of a team, lets its agents
-/// search or do the events of a schedule, keeps what they found in the report and prints it, or tells `err` in one line
-/// why not. It always returns.
+/// Does all that the program does for words that need no second thread: reads the files of a team or makes it, lets
+/// its agents search or do the events of a schedule, or checks a plan, keeps what was found in the report and prints it, or
+/// tells `err` in one line why not. It always returns.
 ///
 /// The text is made as a whole before the first write, and the writing takes no memory.
 pub fn run_alone<S: Source, K: Sink, E: Sink>(

@@ -4,8 +4,8 @@ ghost use Rattle.std.specs.Prelude.{◌≡◌, ◌++◌, ◌∷◌, [], codes, d
 ghost use Rattle.std.specs.List.{flat_map};
 ghost use Rattle.mp_files.specs.Fetched.{names_of};
 ghost use Rattle.mp_top.specs.Call.{seen_sink, Says};
-ghost use Rattle.mp_top.specs.Refusal.{status_of, status_of_files, status_of_schedule, status_of_sizes};
-ghost use Rattle.mp_top.specs.Refusal.{line_of, line_of_files, line_of_schedule, line_of_sizes};
+ghost use Rattle.mp_top.specs.Refusal.{status_of, status_of_files, status_of_first, status_of_sizes};
+ghost use Rattle.mp_top.specs.Refusal.{line_of, line_of_files, line_of_first, line_of_sizes};
 ghost use Rattle.mp_top.specs.Refusal.{name_of as name_of_file, text_of_fault, word_of_fault};
 ghost use Rattle.mp_top.specs.Refusal.{words_line, memory_line, write_line, fault_line, refused_line, sizes_line};
 
@@ -20,16 +20,17 @@ use mp_sets::Agent;
 use mp_sexp::Place;
 use thiserror::Error;
 
-/// Why the file of a schedule is refused.
+/// Why the file with a schedule or a plan, which stands before those of the agents, is refused.
 #[derive(Clone, Copy, Debug, PartialEq, Eq, Error)]
-pub enum ScheduleRefusal {
+pub enum FirstRefusal {
     /// The file is not held, or reading it failed.
     #[error("read")]
     Read,
-    /// The file has more than 67,108,864 bytes.
+    /// The file has more bytes than it may have: 67,108,864 for a schedule, 4,194,304 for a plan.
     #[error("too large")]
     TooLarge,
-    /// The line of this number, from 1, is neither of an event nor of a message, or its event may not happen.
+    /// The line of this number, from 1: of a schedule, it is neither of an event nor of a message, or its event may not
+    /// happen; of a plan, it is not of its form, or the line after the last one is missing.
     #[error("line {0}")]
     Line(u64),
 }
@@ -43,9 +44,9 @@ pub enum Refusal {
     /// The factor of an agent is not grounded, since it is too large.
     #[error("sizes")]
     Sizes(GroundRefusal),
-    /// The file of the schedule is refused.
-    #[error("schedule")]
-    Schedule(ScheduleRefusal),
+    /// The file of the schedule or plan is refused.
+    #[error("first file")]
+    First(FirstRefusal),
 }
 
 impl From<OutOfMemory> for Refusal {
@@ -131,14 +132,14 @@ fn status_of_sizes_refused(refusal: &GroundRefusal) -> Status
     }
 }
 
-/// The status of a call whose schedule is refused.
-fn status_of_schedule_refused(refusal: ScheduleRefusal) -> Status
-    ensures { result ≡ status_of_schedule refusal }
+/// The status of a call whose schedule or plan is refused.
+fn status_of_first_refused(refusal: FirstRefusal) -> Status
+    ensures { result ≡ status_of_first refusal }
 {
     match refusal {
-        ScheduleRefusal::Read => Status::Read,
-        ScheduleRefusal::TooLarge => Status::TooLarge,
-        ScheduleRefusal::Line(_) => Status::Line,
+        FirstRefusal::Read => Status::Read,
+        FirstRefusal::TooLarge => Status::TooLarge,
+        FirstRefusal::Line(_) => Status::Line,
     }
 }
 
@@ -195,7 +196,7 @@ fn tell_sizes<E: Sink>(refusal: &GroundRefusal, err: &mut E)
     }
 }
 
-/// Writes the line for a line of the schedule that is refused.
+/// Writes the line for a line of the schedule or plan that is refused.
 fn tell_line<E: Sink>(err: &mut E, name: &[u8], number: u64)
     ensures { Says (seen_sink E.written E.faults err.old err.new) (refused_line name.now number) }
 {
@@ -204,22 +205,22 @@ fn tell_line<E: Sink>(err: &mut E, name: &[u8], number: u64)
     say(err, &[b"maplan: ", name, b": line ", digits, b" refused\n"])
 }
 
-/// Writes the line for the schedule of this name that is refused.
-fn tell_schedule<E: Sink>(name: &[u8], refusal: ScheduleRefusal, err: &mut E)
-    ensures { Says (seen_sink E.written E.faults err.old err.new) (line_of_schedule name.now refusal) }
+/// Writes the line for the schedule or plan of this name that is refused.
+fn tell_first<E: Sink>(name: &[u8], refusal: FirstRefusal, err: &mut E)
+    ensures { Says (seen_sink E.written E.faults err.old err.new) (line_of_first name.now refusal) }
 {
     match refusal {
-        ScheduleRefusal::Read => say(err, &[b"maplan: cannot read ", name, b"\n"]),
-        ScheduleRefusal::TooLarge => say(err, &[b"maplan: ", name, b": too large\n"]),
-        ScheduleRefusal::Line(number) => tell_line(err, name, number),
+        FirstRefusal::Read => say(err, &[b"maplan: cannot read ", name, b"\n"]),
+        FirstRefusal::TooLarge => say(err, &[b"maplan: ", name, b": too large\n"]),
+        FirstRefusal::Line(number) => tell_line(err, name, number),
     }
 }
 
-/// The word of the command line that names the schedule; nothing where there is none.
-fn schedule_name(schedule: Option<&str>) -> &[u8]
-    ensures { result.now ≡ unwrap_or (option_map (λ name. name.now) schedule.entry) [] }
+/// The word of the command line that names the schedule or plan; nothing where there is none.
+fn first_name(first: Option<&str>) -> &[u8]
+    ensures { result.now ≡ unwrap_or (option_map (λ name. name.now) first.entry) [] }
 {
-    match schedule {
+    match first {
         Some(name) => name.as_bytes(),
         None => b"",
     }
@@ -233,24 +234,19 @@ impl Refusal {
         match self {
             Refusal::Files(refusal) => status_of_files_refused(refusal),
             Refusal::Sizes(refusal) => status_of_sizes_refused(refusal),
-            Refusal::Schedule(refusal) => status_of_schedule_refused(*refusal),
+            Refusal::First(refusal) => status_of_first_refused(*refusal),
         }
     }
 
     /// Writes the line that says so, without taking memory. A fault of the sink changes nothing else.
-    pub(crate) fn tell<E: Sink>(
-        &self,
-        schedule: Option<&str>,
-        files: &[AgentFiles<'_>],
-        err: &mut E,
-    )
+    pub(crate) fn tell<E: Sink>(&self, first: Option<&str>, files: &[AgentFiles<'_>], err: &mut E)
         ensures { Says (seen_sink E.written E.faults err.old err.new)
-            (line_of (option_map (λ name. name.now) schedule.entry) (map names_of files.now) self.now) }
+            (line_of (option_map (λ name. name.now) first.entry) (map names_of files.now) self.now) }
     {
         match self {
             Refusal::Files(refusal) => tell_files(files, refusal, err),
             Refusal::Sizes(refusal) => tell_sizes(refusal, err),
-            Refusal::Schedule(refusal) => tell_schedule(schedule_name(schedule), *refusal, err),
+            Refusal::First(refusal) => tell_first(first_name(first), *refusal, err),
         }
     }
 }

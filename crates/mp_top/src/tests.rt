@@ -62,6 +62,10 @@ const TWICE: [&str; 6] = ["replay", "--h", "blind", "twice-s", "lamp-d", "lamp-p
 
 const NO_SCHEDULE: [&str; 4] = ["replay", "gone", "or-d", "none"];
 
+const NO_PLAN: [&str; 4] = ["check", "whole-s", "lamp-d", "lamp-p"];
+
+const ABSENT_PLAN: [&str; 4] = ["check", "gone", "or-d", "none"];
+
 /// The outcome of the lamp.
 const PRESSED: &[u8] = b"cost 1\nlength 1\nagent 1\n1: (press)\nevents 2 messages 0 bytes 0\n";
 
@@ -94,7 +98,7 @@ type Trial = (
     &'static [u8],
 );
 
-const TRIALS: [Trial; 18] = [
+const TRIALS: [Trial; 20] = [
     (&[], [0, 0, 0], 3, 0, b"", NO_WORDS),
     (&NO_LIMIT, [0, 0, 0], 3, 0, b"", NO_WORDS),
     (&LAMP, [0, 0, 0], 0, 2, PRESSED, b""),
@@ -127,6 +131,22 @@ const TRIALS: [Trial; 18] = [
     ),
     (
         &NO_SCHEDULE,
+        [0, 0, 0],
+        4,
+        0,
+        b"",
+        b"maplan: cannot read gone\n",
+    ),
+    (
+        &NO_PLAN,
+        [0, 0, 0],
+        9,
+        0,
+        b"",
+        b"maplan: whole-s: line 1 refused\n",
+    ),
+    (
+        &ABSENT_PLAN,
         [0, 0, 0],
         4,
         0,

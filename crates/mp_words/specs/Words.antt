@@ -4,25 +4,27 @@ use Rattle.std.specs.List.{starts_with}
 use Rattle.std.specs.Option.{option_map_or, is_none}
 use Rattle.std.specs.Str.{bytes_eq}
 use Rattle.mp_words.specs.declared.asked.Choice.{Choice}
-use Rattle.mp_words.specs.declared.asked.Choice.TheVariants.{Blind, Max}
+use Rattle.mp_words.specs.declared.asked.Choice.TheVariants.{Blind, Max, Cut, Pdb}
 use Rattle.mp_words.specs.declared.asked.Valued.{Valued}
 use Rattle.mp_words.specs.declared.asked.Valued.TheVariants.{Limit, Heuristic, Workers}
 use Rattle.mp_words.specs.Asked.{Asked}
 use Rattle.mp_words.specs.Numbers.{number_between}
 
--- the name of a file: `-` alone, or a word that does not begin with `-`
-abbrev pub is_name : List ℕ → Bool
-is_name [] = true
-is_name (byte ∷ bytes) = not (byte == 45) || bytes_eq bytes []
+-- a plain word, as the name of a file: `-` alone, or a word that does not begin with `-`
+abbrev pub is_plain : List ℕ → Bool
+is_plain [] = true
+is_plain (byte ∷ bytes) = not (byte == 45) || bytes_eq bytes []
 
-abbrev pub with_name : Asked → List ℕ → Asked
-with_name a word = record a { names = a.names ++ word ∷ [] }
+abbrev pub with_plain : Asked → List ℕ → Asked
+with_plain a word = record a { plain = a.plain ++ word ∷ [] }
 
 -- the heuristics
 abbrev pub choice_of : List ℕ → Option Choice
 choice_of word =
     if bytes_eq word (codes "blind") then Some Blind
-    else if bytes_eq word (codes "max") then Some Max else None
+    else if bytes_eq word (codes "max") then Some Max
+    else if bytes_eq word (codes "cut") then Some Cut
+    else if bytes_eq word (codes "pdb") then Some Pdb else None
 
 -- ---- Options. None comes where an option is given twice or has no such value.
 
@@ -57,6 +59,9 @@ with_one a = if a.one then None else Some (record a { one = true })
 abbrev pub with_trace : Asked → Option Asked
 with_trace a = if a.trace then None else Some (record a { trace = true })
 
+abbrev pub with_show : Asked → Option Asked
+with_show a = if a.show then None else Some (record a { show = true })
+
 -- what stands behind a beginning of a word; none where the word begins otherwise
 abbrev pub behind : List ℕ → List ℕ → Option (List ℕ)
 behind first word =
@@ -73,9 +78,9 @@ with_option a word =
 abbrev pub awaiting : Asked → Valued → Asked
 awaiting a option = record a { awaited = Some option }
 
--- all words that come are names of files
-abbrev pub with_names_alone : Asked → Asked
-with_names_alone a = record a { names_alone = true }
+-- all words that come are plain
+abbrev pub with_plain_alone : Asked → Asked
+with_plain_alone a = record a { plain_alone = true }
 
 -- an option that has a value, in the next word or behind `=`
 abbrev pub after_valued : Asked → List ℕ → Option Asked
@@ -85,18 +90,19 @@ after_valued a word =
     else if bytes_eq word (codes "--workers") then Some (awaiting a Workers)
     else with_option a word
 
--- a word that begins with `-` and is no name
+-- a word that begins with `-` and is not plain
 abbrev pub after_option : Asked → List ℕ → Option Asked
 after_option a word =
-    if bytes_eq word (codes "--") then Some (with_names_alone a)
+    if bytes_eq word (codes "--") then Some (with_plain_alone a)
     else if bytes_eq word (codes "--one") then with_one a
     else if bytes_eq word (codes "--trace") then with_trace a
+    else if bytes_eq word (codes "--show") then with_show a
     else after_valued a word
 
 -- a word that is no value
 abbrev pub after_free_word : Asked → List ℕ → Option Asked
 after_free_word a word =
-    if a.names_alone || is_name word then Some (with_name a word) else after_option a word
+    if a.plain_alone || is_plain word then Some (with_plain a word) else after_option a word
 
 -- What is asked for with one word more: none where the words are not accepted.
 abbrev pub after_word : Asked → List ℕ → Option Asked

@@ -3,14 +3,14 @@
 ghost use Rattle.std.specs.Prelude.{◌≡◌, IfOk, OnOk, MatchOption, None, Some, option_map};
 ghost use Rattle.mp_words.specs.Asked.{nothing};
 ghost use Rattle.mp_words.specs.Reads.{asked_by, where_accepted};
-ghost use Rattle.mp_words.specs.Words.{after_free_word, after_option, after_valued, after_word, awaiting, is_name as is_name_word, with_heuristic, with_limit, with_names_alone, with_one, with_option, with_trace, with_value, with_workers, behind as behind_in, choice_of as choice_of_word};
+ghost use Rattle.mp_words.specs.Words.{after_free_word, after_option, after_valued, after_word, awaiting, is_plain as is_plain_word, with_heuristic, with_limit, with_plain_alone, with_one, with_option, with_show, with_trace, with_value, with_workers, behind as behind_in, choice_of as choice_of_word};
 
 use crate::asked::{Choice, Valued};
 use crate::numbers::number_between;
 use std::alloc::{AllocError, Global};
 
-/// The options that were given, the option whose value comes next, whether all words that come are names of files, and
-/// the names so far.
+/// The options that were given, the option whose value comes next, whether all words that come are plain, and the
+/// plain words so far.
 #[derive(Drop)]
 pub(crate) struct Read<'a> {
     pub(crate) limit: Option<u64>,
@@ -18,14 +18,15 @@ pub(crate) struct Read<'a> {
     pub(crate) workers: Option<u64>,
     pub(crate) one: bool,
     pub(crate) trace: bool,
+    pub(crate) show: bool,
     pub(crate) awaited: Option<Valued>,
-    pub(crate) names_alone: bool,
-    pub(crate) names: Vec<&'a str>,
+    pub(crate) plain_alone: bool,
+    pub(crate) plain: Vec<&'a str>,
 }
 
-/// Whether a word is the name of a file: `-`, or one that does not begin with `-`.
-fn is_name(word: &[u8]) -> bool
-    ensures { result ≡ is_name_word word.now }
+/// Whether a word is plain, as the name of a file: `-`, or one that does not begin with `-`.
+fn is_plain(word: &[u8]) -> bool
+    ensures { result ≡ is_plain_word word.now }
 {
     match word {
         [] => true,
@@ -53,6 +54,12 @@ fn choice_of(word: &[u8]) -> Option<Choice>
     if word == b"max".as_slice() {
         return Some(Choice::Max);
     }
+    if word == b"cut".as_slice() {
+        return Some(Choice::Cut);
+    }
+    if word == b"pdb".as_slice() {
+        return Some(Choice::Pdb);
+    }
     None
 }
 
@@ -67,9 +74,10 @@ impl<'a> Read<'a> {
             workers: None,
             one: false,
             trace: false,
+            show: false,
             awaited: None,
-            names_alone: false,
-            names: Vec::new(alloc),
+            plain_alone: false,
+            plain: Vec::new(alloc),
         }
     }
 
@@ -151,6 +159,17 @@ impl<'a> Read<'a> {
         true
     }
 
+    /// Gives `--show`, and says whether it may be given.
+    fn give_show(&mut self) -> bool
+        ensures { where_accepted result self.new ≡ with_show (asked_by self.old) }
+    {
+        if self.show {
+            return false;
+        }
+        self.show = true;
+        true
+    }
+
     /// Reads an option with its value behind `=`, and says whether it is one.
     fn read_valued(&mut self, word: &[u8]) -> bool
         ensures { where_accepted result self.new ≡ with_option (asked_by self.old) word.now }
@@ -191,15 +210,15 @@ impl<'a> Read<'a> {
         self.read_valued(word.as_bytes())
     }
 
-    /// All words that come are names of files.
+    /// All words that come are plain.
     fn end_options(&mut self) -> bool
-        ensures { where_accepted result self.new ≡ Some (with_names_alone (asked_by self.old)) }
+        ensures { where_accepted result self.new ≡ Some (with_plain_alone (asked_by self.old)) }
     {
-        self.names_alone = true;
+        self.plain_alone = true;
         true
     }
 
-    /// Reads a word that begins with `-` and is no name, and says whether it is accepted.
+    /// Reads a word that begins with `-` and is not plain, and says whether it is accepted.
     fn read_option(&mut self, word: &str) -> bool
         ensures { where_accepted result self.new ≡ after_option (asked_by self.old) word.now }
     {
@@ -212,6 +231,9 @@ impl<'a> Read<'a> {
         if word == "--trace" {
             return self.give_trace();
         }
+        if word == "--show" {
+            return self.give_show();
+        }
         self.read_with_value(word)
     }
 
@@ -219,8 +241,8 @@ impl<'a> Read<'a> {
     fn read_free(&mut self, word: &'a str) -> Result<bool, AllocError>
         ensures { IfOk result (λ accepted. where_accepted accepted self.new ≡ after_free_word (asked_by self.old) word.now) }
     {
-        if self.names_alone || is_name(word.as_bytes()) {
-            self.names.push(word)?;
+        if self.plain_alone || is_plain(word.as_bytes()) {
+            self.plain.push(word)?;
             return Ok(true);
         }
         Ok(self.read_option(word))

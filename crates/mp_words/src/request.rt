@@ -1,12 +1,13 @@
 //! The words of the command line, read from the left.
 
-ghost use Rattle.std.specs.Prelude.{◌≡◌, IfOk, MatchOption, map, not, option_and_then, string_bytes, Some, None};
+ghost use Rattle.std.specs.Prelude.{◌≡◌, IfOk, MatchOption, map, string_bytes, Some, None};
 ghost use Rattle.mp_words.specs.Asked.{nothing};
-ghost use Rattle.mp_words.specs.Reads.{asked_by, wanted_by};
-ghost use Rattle.mp_words.specs.Requests.{has_options_of_replay, is_team_size, replay_of, request_of, search_of};
+ghost use Rattle.mp_words.specs.Reads.{asked_by, check_by, make_by, replay_by, solve_by, wanted_by};
+ghost use Rattle.mp_words.specs.Requests.{check_of, command_of, has_no_search, has_no_work, is_team_size, make_of, replay_of, request_of, searching, solve_of, working};
 ghost use Rattle.mp_words.specs.Words.{after_words};
 
-use crate::asked::{Choice, Request};
+use crate::asked::{Check, Choice, Make, Replay, Request, Solve};
+use crate::numbers::number_between;
 use crate::read::Read;
 use std::alloc::{AllocError, Global};
 
@@ -20,54 +21,121 @@ fn is_team(count: usize) -> bool
     count >= 2 && count <= 32 && count % 2 == 0
 }
 
-/// A search that is asked for, unless a value is still awaited or the files are none of a team.
-fn search_in(read: Read<'_>) -> Option<Request<'_>>
-    ensures { MatchOption result (search_of (asked_by read.entry) ≡ None)
-        (λ r. search_of (asked_by read.entry) ≡ Some (wanted_by r)) }
+/// Whether no option was given that says who searches.
+fn has_no_workers(read: &Read<'_>) -> bool
+    ensures { result ≡ has_no_work (asked_by read.now) }
 {
-    if read.awaited.is_some() || !is_team(read.names.len()) {
+    !(read.one || read.workers.is_some())
+}
+
+/// Whether no option was given that says how agents search.
+fn has_no_options(read: &Read<'_>) -> bool
+    ensures { result ≡ has_no_search (asked_by read.now) }
+{
+    !(read.limit.is_some() || read.heuristic.is_some())
+}
+
+/// What `solve` asks for with this.
+fn solve_in(read: Read<'_>) -> Option<Request<'_>>
+    ensures { MatchOption result (solve_of (asked_by read.entry) ≡ None)
+        (λ r. solve_of (asked_by read.entry) ≡ Some (wanted_by r)) }
+{
+    if read.awaited.is_some() || read.show || !is_team(read.plain.len()) {
         return None;
     }
-    Some(Request {
-        schedule: None,
-        limit: read.limit.unwrap_or(LIMIT),
+    Some(Request::Solve(Solve {
         heuristic: read.heuristic.unwrap_or(Choice::Max),
+        limit: read.limit.unwrap_or(LIMIT),
         workers: read.workers,
         one: read.one,
         trace: read.trace,
-        names: read.names,
-    })
+        names: read.plain,
+    }))
 }
 
-/// Whether an option was given that a replay has not.
-fn has_more_options(read: &Read<'_>) -> bool
-    ensures { result ≡ not (has_options_of_replay (asked_by read.now)) }
-{
-    read.one || read.trace || read.workers.is_some()
-}
-
-/// A replay that is asked for, unless a value is still awaited, an option was given that a replay has not, or what follows
-/// the schedule are not the files of a team.
+/// What `replay` asks for with this.
 fn replay_in(mut read: Read<'_>) -> Option<Request<'_>>
     ensures { MatchOption result (replay_of (asked_by read.entry) ≡ None)
         (λ r. replay_of (asked_by read.entry) ≡ Some (wanted_by r)) }
 {
-    if read.awaited.is_some() || has_more_options(&read) || read.names.is_empty() {
+    if read.awaited.is_some() || !has_no_workers(&read) || read.trace || read.show {
         return None;
     }
-    if !is_team(read.names.len() - 1) {
+    if read.plain.is_empty() || !is_team(read.plain.len() - 1) {
         return None;
     }
-    let schedule = read.names.remove(0);
-    Some(Request {
-        schedule: Some(schedule),
-        limit: read.limit.unwrap_or(LIMIT),
+    let schedule = read.plain.remove(0);
+    Some(Request::Replay(Replay {
         heuristic: read.heuristic.unwrap_or(Choice::Max),
-        workers: None,
-        one: true,
-        trace: true,
-        names: read.names,
-    })
+        limit: read.limit.unwrap_or(LIMIT),
+        schedule,
+        names: read.plain,
+    }))
+}
+
+/// What `check` asks for with this.
+fn check_in(mut read: Read<'_>) -> Option<Request<'_>>
+    ensures { MatchOption result (check_of (asked_by read.entry) ≡ None)
+        (λ r. check_of (asked_by read.entry) ≡ Some (wanted_by r)) }
+{
+    if read.awaited.is_some() || !has_no_options(&read) || !has_no_workers(&read) {
+        return None;
+    }
+    if read.trace || read.show || read.plain.is_empty() || !is_team(read.plain.len() - 1) {
+        return None;
+    }
+    let plan = read.plain.remove(0);
+    Some(Request::Check(Check {
+        plan,
+        names: read.plain,
+    }))
+}
+
+/// What `make` asks for with this.
+fn make_in(read: Read<'_>) -> Option<Request<'_>>
+    ensures { MatchOption result (make_of (asked_by read.entry) ≡ None)
+        (λ r. make_of (asked_by read.entry) ≡ Some (wanted_by r)) }
+{
+    if read.awaited.is_some() || read.trace {
+        return None;
+    }
+    let [family, size, number] = read.plain.as_slice() else {
+        return None;
+    };
+    if *family != "delivery" {
+        return None;
+    }
+    let size = number_between(1, 8, size.as_bytes())?;
+    let number = number_between(0, 999_999, number.as_bytes())?;
+    Some(Request::Make(Make {
+        heuristic: read.heuristic.unwrap_or(Choice::Max),
+        limit: read.limit.unwrap_or(LIMIT),
+        workers: read.workers,
+        one: read.one,
+        show: read.show,
+        size,
+        number,
+    }))
+}
+
+/// What a command asks for with this.
+fn command_in<'a>(command: &str, read: Read<'a>) -> Option<Request<'a>>
+    ensures { MatchOption result (command_of command.now (asked_by read.entry) ≡ None)
+        (λ r. command_of command.now (asked_by read.entry) ≡ Some (wanted_by r)) }
+{
+    if command == "solve" {
+        return solve_in(read);
+    }
+    if command == "replay" {
+        return replay_in(read);
+    }
+    if command == "check" {
+        return check_in(read);
+    }
+    if command == "make" {
+        return make_in(read);
+    }
+    None
 }
 
 /// Reads the words behind the command.
@@ -85,30 +153,6 @@ fn read_words(alloc: Global, words: &[String]) -> Result<Option<Read<'_>>, Alloc
     Ok(Some(read))
 }
 
-/// What the words behind `solve` ask for.
-fn read_search(alloc: Global, words: &[String]) -> Result<Option<Request<'_>>, AllocError>
-    ensures { IfOk result (λ r. MatchOption r
-        (option_and_then search_of (after_words nothing (map string_bytes words.now)) ≡ None)
-        (λ r. option_and_then search_of (after_words nothing (map string_bytes words.now)) ≡ Some (wanted_by r))) }
-{
-    match read_words(alloc, words)? {
-        Some(read) => Ok(search_in(read)),
-        None => Ok(None),
-    }
-}
-
-/// What the words behind `replay` ask for.
-fn read_replay(alloc: Global, words: &[String]) -> Result<Option<Request<'_>>, AllocError>
-    ensures { IfOk result (λ r. MatchOption r
-        (option_and_then replay_of (after_words nothing (map string_bytes words.now)) ≡ None)
-        (λ r. option_and_then replay_of (after_words nothing (map string_bytes words.now)) ≡ Some (wanted_by r))) }
-{
-    match read_words(alloc, words)? {
-        Some(read) => Ok(replay_in(read)),
-        None => Ok(None),
-    }
-}
-
 /// What the words ask for: none exactly where they are not accepted. Refuses only for want of memory.
 pub fn read_request(alloc: Global, words: &[String]) -> Result<Option<Request<'_>>, AllocError>
     ensures { IfOk result (λ r. MatchOption r
@@ -118,11 +162,8 @@ pub fn read_request(alloc: Global, words: &[String]) -> Result<Option<Request<'_
     let Some(command) = words.first() else {
         return Ok(None);
     };
-    if command.as_str() == "solve" {
-        return read_search(alloc, &words[1..]);
+    match read_words(alloc, &words[1..])? {
+        Some(read) => Ok(command_in(command.as_str(), read)),
+        None => Ok(None),
     }
-    if command.as_str() == "replay" {
-        return read_replay(alloc, &words[1..]);
-    }
-    Ok(None)
 }

@@ -1,0 +1,47 @@
+use Rattle.std.proofs.Common.{All, IfSome, Some, length, map, refl, subst}
+use Rattle.mp_files.specs.Cause.{Rests as FilesRest, seen_source}
+use Rattle.mp_files.specs.Fetched.{names_of}
+use Rattle.mp_files.specs.Team.{HoldsTeam}
+use Rattle.mp_files.proofs.Each.{handed_on}
+use Rattle.mp_grounder.specs.Checked.{IsChecked}
+use Rattle.mp_top.specs.Asked.{longest_plan, agents_of, team_request}
+use Rattle.mp_top.specs.Asked.Work.{checked}
+use Rattle.mp_top.specs.Cause.{Rests}
+use Rattle.mp_top.specs.Decided.{ChecksFor, Decides}
+use Rattle.mp_top.proofs.Decided.{as_many, decided_check, files_rest, seen_later, weaker}
+use Rattle.mp_words.specs.Reads.{check_by}
+use Rattle.mp_words.specs.Requests.Wanted.{checks}
+use Rattle.mp_top.proofs.deciding.decide_check.Goals as goal
+
+pub returns-in_err-text-clause-cause : goal.returns-in_err-text-clause-cause
+returns-in_err-text-clause-cause g c =
+    let source = seen_source g.S.Source.held g.S.Source.faults g.S.Source.fault_at c.args.source.now c.first_text.new.source in
+    let request = team_request (checks (check_by c.args.request.now)) in
+    handed_on c.from_residual.result c.in_err-text.field-0.0 (Rests source request) c.from_residual.ensures.1
+    (c.in_err-text.ensures.cause request refl)
+
+pub returns-in-Err-clause-cause : goal.returns-in-Err-clause-cause
+returns-in-Err-clause-cause g c =
+    let w = check_by c.args.request.now in
+    let seen = seen_later g.S.Source.held g.S.Source.faults g.S.Source.fault_at c.args.source.now c.first_text.new.source c.read_team.new.source
+    c.in_ok-text.ensures.held c.in_ok-text.ensures.no_fault in
+    let source = seen_source g.S.Source.held g.S.Source.faults g.S.Source.fault_at c.args.source.now c.read_team.new.source in
+    files_rest source (Some (record { name = w.plan; longest = longest_plan })) (agents_of w.names) checked
+    (Some c.in_ok-text.text.items) c.in-Err.refusal c.in_ok-text.ensures.text
+    (subst (λ s. FilesRest s (agents_of w.names) c.in-Err.refusal) seen
+    (subst (λ ns. FilesRest (seen_source g.S.Source.held g.S.Source.faults g.S.Source.fault_at c.first_text.new.source c.read_team.new.source) ns c.in-Err.refusal)
+    c.requires.names c.in-Err.ensures.cause))
+
+pub returns-clause-outcome : goal.returns-clause-outcome
+returns-clause-outcome g c =
+    let w = check_by c.args.request.now in
+    let held = g.S.Source.held c.args.source.now in
+    let holds : IfSome held (λ files. HoldsTeam files (map names_of c.args.files.now) c.in-Ok.team) =
+    subst (λ o. IfSome o (λ files. HoldsTeam files (map names_of c.args.files.now) c.in-Ok.team)) c.in_ok-text.ensures.held c.in-Ok.ensures.team in
+    let all : All IsChecked c.in-Ok.team = subst (All IsChecked) c.as_slice.ensures c.checked_factors_are_checked.ensures in
+    weaker c.check_for.result (ChecksFor c.as_slice-3.result.now c.as_slice-2.result.now) (Decides held (checks w))
+    (λ d h. decided_check held w (map names_of c.args.files.now) c.in_ok-text.text.items c.in-Ok.team d c.requires.names c.in_ok-text.ensures.text
+    holds (as_many names_of c.args.files.now (map names_of c.args.files.now) (length c.in-Ok.team) refl c.in-Ok.ensures.number) all
+    (subst (λ t. ChecksFor t c.in-Ok.team d) c.as_slice-3.ensures.value
+    (subst (λ t. ChecksFor c.as_slice-3.result.now t d) c.as_slice-2.ensures h)))
+    c.check_for.ensures.outcome

@@ -1,0 +1,47 @@
+use Rattle.std.proofs.Common.{IfSome, Some, map, refl, subst}
+use Rattle.mp_files.specs.Cause.{Rests as FilesRest, seen_source}
+use Rattle.mp_files.specs.Fetched.{names_of}
+use Rattle.mp_files.specs.Team.{HoldsTeam}
+use Rattle.mp_files.proofs.Each.{handed_on}
+use Rattle.mp_top.specs.Asked.{longest_schedule, agents_of, team_request}
+use Rattle.mp_top.specs.Asked.Work.{replayed}
+use Rattle.mp_top.specs.Cause.{Rests}
+use Rattle.mp_top.specs.Decided.{IsRefusedTeam}
+use Rattle.mp_top.proofs.Decided.{files_rest, seen_later, team_rests, weaker_err}
+use Rattle.mp_words.specs.Reads.{replay_by}
+use Rattle.mp_words.specs.Requests.Wanted.{replays}
+use Rattle.mp_top.proofs.deciding.decide_replay.Goals as goal
+
+pub returns-in_err-text-clause-cause : goal.returns-in_err-text-clause-cause
+returns-in_err-text-clause-cause g c =
+    let source = seen_source g.S.Source.held g.S.Source.faults g.S.Source.fault_at c.args.source.now c.first_text.new.source in
+    let request = team_request (replays (replay_by c.args.request.now)) in
+    handed_on c.from_residual.result c.in_err-text.field-0.0 (Rests source request) c.from_residual.ensures.1
+    (c.in_err-text.ensures.cause request refl)
+
+pub returns-in-Err-clause-cause : goal.returns-in-Err-clause-cause
+returns-in-Err-clause-cause g c =
+    let w = replay_by c.args.request.now in
+    let seen = seen_later g.S.Source.held g.S.Source.faults g.S.Source.fault_at c.args.source.now c.first_text.new.source c.read_team.new.source
+    c.in_ok-text.ensures.held c.in_ok-text.ensures.no_fault in
+    let source = seen_source g.S.Source.held g.S.Source.faults g.S.Source.fault_at c.args.source.now c.read_team.new.source in
+    files_rest source (Some (record { name = w.schedule; longest = longest_schedule })) (agents_of w.names) (replayed w.search)
+    (Some c.in_ok-text.text.items) c.in-Err.refusal c.in_ok-text.ensures.text
+    (subst (λ s. FilesRest s (agents_of w.names) c.in-Err.refusal) seen
+    (subst (λ ns. FilesRest (seen_source g.S.Source.held g.S.Source.faults g.S.Source.fault_at c.first_text.new.source c.read_team.new.source) ns c.in-Err.refusal)
+    c.requires.names c.in-Err.ensures.cause))
+
+pub returns-clause-cause : goal.returns-clause-cause
+returns-clause-cause g c =
+    let w = replay_by c.args.request.now in
+    let request = team_request (replays w) in
+    let source = seen_source g.S.Source.held g.S.Source.faults g.S.Source.fault_at c.args.source.now c.read_team.new.source in
+    let held = g.S.Source.held c.args.source.now in
+    let holds : IfSome held (λ files. HoldsTeam files (map names_of c.args.files.now) c.in-Ok.team) =
+    subst (λ o. IfSome o (λ files. HoldsTeam files (map names_of c.args.files.now) c.in-Ok.team)) c.in_ok-text.ensures.held c.in-Ok.ensures.team in
+    weaker_err c.replay_by.result (IsRefusedTeam (replayed w.search) c.as_slice-2.result.now c.as_slice-3.result.now) (Rests source request)
+    (λ r h. team_rests source request c.in_ok-text.text.items c.in-Ok.team r c.in_ok-text.ensures.text
+    (subst (λ ns. IfSome held (λ files. HoldsTeam files ns c.in-Ok.team)) c.requires.names holds)
+    (subst (λ t. IsRefusedTeam (replayed w.search) c.in-Ok.team t r) c.as_slice-3.ensures.value
+    (subst (λ t. IsRefusedTeam (replayed w.search) t c.as_slice-3.result.now r) c.as_slice-2.ensures h)))
+    c.replay_by.ensures.refused

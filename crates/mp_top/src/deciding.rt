@@ -1,0 +1,154 @@
+//! What is decided about each request.
+
+ghost use Rattle.std.specs.Prelude.{◌≡◌, ◌<◌, ◌≤◌, map, Option, IfOk, IfErr};
+ghost use Rattle.mp_files.specs.Cause.{SeenSource, seen_source};
+ghost use Rattle.mp_files.specs.Fetched.{names_of};
+ghost use Rattle.mp_outside.specs.Source.{Files as Held};
+ghost use Rattle.mp_top.specs.Asked.{KeepsLimits, agents_of, team_request};
+ghost use Rattle.mp_top.specs.Cause.{Rests};
+ghost use Rattle.mp_top.specs.Decided.{Decides};
+ghost use Rattle.mp_top.specs.Refusal.{status_of};
+ghost use Rattle.mp_words.specs.Reads.{check_by, make_by, replay_by as replay_asked, solve_by};
+ghost use Rattle.mp_words.specs.Requests.Wanted.{checks, makes, replays, solves};
+
+use crate::checking::check_for;
+use crate::decision::{Decision, Search};
+use crate::first_file::{LONGEST_PLAN, LONGEST_SCHEDULE, first_text};
+use crate::making::{made_team, make_for};
+use crate::refusal::Refusal;
+use crate::searching::{replay_by, solve_for};
+use crate::status::Status;
+use mp_files::{AgentFiles, read_team};
+use mp_grounder::laws::checked_factors_are_checked;
+use mp_maker::delivery;
+use mp_outside::Source;
+use mp_words::{Check, Make, Replay, Solve};
+use std::alloc::Global;
+
+/// A cheapest plan for the agents with these files.
+pub(crate) fn decide_solve<S: Source>(
+    alloc: Global,
+    source: &mut S,
+    request: &Solve<'_>,
+    files: &[AgentFiles<'_>],
+) -> Result<Decision, Refusal>
+    requires keeps { KeepsLimits (solves (solve_by request.now)) }
+    requires names { map names_of files.now ≡ agents_of (solve_by request.now).names }
+    ensures outcome { IfOk result (Decides (S.held source.old) (solves (solve_by request.now))) }
+    ensures cause { IfErr result (Rests (seen_source S.held S.faults S.fault_at source.old source.new)
+        (team_request (solves (solve_by request.now)))) }
+    ensures no_fault { IfOk result (λ _. S.faults source.new ≡ S.faults source.old) }
+    ensures fault { IfErr result (λ r. S.faults source.old < S.faults source.new → status_of r ≡ Status.Read) }
+{
+    let team = match read_team(alloc, source, files) {
+        Ok(team) => team,
+        Err(refusal) => return Err(Refusal::Files(refusal)),
+    };
+    let search = Search {
+        heuristic: request.heuristic,
+        limit: request.limit,
+    };
+    checked_factors_are_checked(team.as_slice());
+    match solve_for(alloc, team.as_slice(), search, request.trace) {
+        Ok(decision) => Ok(decision),
+        Err(refusal) => Err(Refusal::Sizes(refusal)),
+    }
+}
+
+/// What the agents with these files do by a schedule, whose file is fetched first.
+pub(crate) fn decide_replay<S: Source>(
+    alloc: Global,
+    source: &mut S,
+    request: &Replay<'_>,
+    files: &[AgentFiles<'_>],
+) -> Result<Decision, Refusal>
+    requires keeps { KeepsLimits (replays (replay_asked request.now)) }
+    requires names { map names_of files.now ≡ agents_of (replay_asked request.now).names }
+    ensures outcome { IfOk result (Decides (S.held source.old) (replays (replay_asked request.now))) }
+    ensures cause { IfErr result (Rests (seen_source S.held S.faults S.fault_at source.old source.new)
+        (team_request (replays (replay_asked request.now)))) }
+    ensures no_fault { IfOk result (λ _. S.faults source.new ≡ S.faults source.old) }
+    ensures fault { IfErr result (λ r. S.faults source.old < S.faults source.new → status_of r ≡ Status.Read) }
+{
+    let text = first_text(alloc, source, request.schedule, LONGEST_SCHEDULE)?;
+    let team = match read_team(alloc, source, files) {
+        Ok(team) => team,
+        Err(refusal) => return Err(Refusal::Files(refusal)),
+    };
+    let search = Search {
+        heuristic: request.heuristic,
+        limit: request.limit,
+    };
+    checked_factors_are_checked(team.as_slice());
+    replay_by(alloc, team.as_slice(), search, text.as_slice())
+}
+
+/// What is found of a plan, whose file is fetched first, for the agents with these files.
+pub(crate) fn decide_check<S: Source>(
+    alloc: Global,
+    source: &mut S,
+    request: &Check<'_>,
+    files: &[AgentFiles<'_>],
+) -> Result<Decision, Refusal>
+    requires keeps { KeepsLimits (checks (check_by request.now)) }
+    requires names { map names_of files.now ≡ agents_of (check_by request.now).names }
+    ensures outcome { IfOk result (Decides (S.held source.old) (checks (check_by request.now))) }
+    ensures cause { IfErr result (Rests (seen_source S.held S.faults S.fault_at source.old source.new)
+        (team_request (checks (check_by request.now)))) }
+    ensures no_fault { IfOk result (λ _. S.faults source.new ≡ S.faults source.old) }
+    ensures fault { IfErr result (λ r. S.faults source.old < S.faults source.new → status_of r ≡ Status.Read) }
+{
+    let text = first_text(alloc, source, request.plan, LONGEST_PLAN)?;
+    let team = match read_team(alloc, source, files) {
+        Ok(team) => team,
+        Err(refusal) => return Err(Refusal::Files(refusal)),
+    };
+    checked_factors_are_checked(team.as_slice());
+    check_for(alloc, team.as_slice(), text.as_slice())
+}
+
+/// The size of a team that is made.
+pub(crate) fn size_of(request: Make) -> u16
+    requires { request.size ≤ 8 }
+    ensures { result ≡ request.size }
+{
+    request.size as u16
+}
+
+/// The number of a team that is made.
+fn number_of(request: Make) -> u32
+    requires { request.number ≤ 999999 }
+    ensures { result ≡ request.number }
+{
+    request.number as u32
+}
+
+/// A summary of a cheapest plan for a team that is made.
+pub(crate) fn decide_make(alloc: Global, request: Make) -> Result<Decision, Refusal>
+    requires keeps { KeepsLimits (makes (make_by request)) }
+    ensures outcome { (held : Option Held) → IfOk result (Decides held (makes (make_by request))) }
+    ensures cause { (source : SeenSource) → IfErr result (Rests source (team_request (makes (make_by request)))) }
+{
+    let size = size_of(request);
+    let texts = delivery(alloc, size, number_of(request))?;
+    let team = match made_team(alloc, texts.as_slice()) {
+        Ok(team) => team,
+        Err(refusal) => return Err(Refusal::Files(refusal)),
+    };
+    let search = Search {
+        heuristic: request.heuristic,
+        limit: request.limit,
+    };
+    checked_factors_are_checked(team.as_slice());
+    match make_for(
+        alloc,
+        team.as_slice(),
+        search,
+        request.show,
+        texts.as_slice(),
+        size,
+    ) {
+        Ok(decision) => Ok(decision),
+        Err(refusal) => Err(Refusal::Sizes(refusal)),
+    }
+}
