@@ -5,7 +5,7 @@ ghost use Rattle.mp_atoms.specs.Bound.{binding};
 ghost use Rattle.mp_atoms.specs.Flat.{bindings_from, start_at, EndsRise};
 
 use crate::bound::BoundAction;
-use mp_list::OutOfMemory;
+use mp_list::{OutOfMemory, does_not_fit, to_u32};
 use std::alloc::Global;
 use std::marker::Model;
 
@@ -59,15 +59,11 @@ impl ActionBindingList {
             ≡ self.old ++ record { action = action; objects = objects.now; cost = cost } ∷ []) }
         ensures err { OnErr result (self.new ≡ self.old) }
     {
-        let Ok(action) = u32::try_from(action) else {
-            return Err(OutOfMemory);
-        };
+        let action = to_u32(action)?;
         let Some(end) = self.objects.len().checked_add(objects.len()) else {
-            return Err(OutOfMemory);
+            return Err(does_not_fit());
         };
-        let Ok(end) = u32::try_from(end) else {
-            return Err(OutOfMemory);
-        };
+        let end = to_u32(end)?;
         self.heads.reserve(1)?;
         self.objects.extend_from_slice(objects)?;
         self.heads.push(Head { action, end, cost }).unwrap();

@@ -7,20 +7,10 @@ ghost use Rattle.mp_checker.specs.Private.{private_in};
 use crate::numbered::{NumberedAtom, NumberedLiteral, ObjectNumber, TermNumber};
 use crate::privates::PrivateNames;
 use mp_factor::{Atom, AtomList, Literal, LiteralList, Term, TermList, TypedList};
-use mp_list::{List, OutOfMemory};
+use mp_list::{List, OutOfMemory, to_u32};
 use mp_names::NameTable;
 use mp_sexp::Name;
 use std::alloc::Global;
-
-/// A number of 32 bits. More names than these are taken for want of memory.
-pub fn short(number: usize) -> Result<u32, OutOfMemory>
-    ensures { IfOk result (λ short. short ≡ number) }
-{
-    match u32::try_from(number) {
-        Ok(short) => Ok(short),
-        Err(_) => Err(OutOfMemory),
-    }
-}
 
 /// An object in numbers.
 pub fn object_number(
@@ -31,7 +21,7 @@ pub fn object_number(
     ensures { IfOk result (λ made. made ≡ object_of names.now (private_in privates.now) name.now) }
 {
     Ok(ObjectNumber {
-        number: short(names.number(name))?,
+        number: to_u32(names.number(name))?,
         private: privates.objects.contains(name),
     })
 }
@@ -57,7 +47,7 @@ fn term_number(
 {
     match term {
         Term::Variable(word) => match parameter(params, &word.name) {
-            Some(place) => Ok(TermNumber::Parameter(short(place)?)),
+            Some(place) => Ok(TermNumber::Parameter(to_u32(place)?)),
             None => Ok(TermNumber::Object(object_number(names, privates, &word.name)?)),
         },
         Term::Object(word) => Ok(TermNumber::Object(object_number(names, privates, &word.name)?)),
@@ -92,7 +82,7 @@ pub fn numbered_atom(
     ensures { IfOk result (λ made. made ≡ atom_of names.now (private_in privates.now) params.now atom.now) }
 {
     Ok(NumberedAtom {
-        symbol: short(names.number(&atom.word.name))?,
+        symbol: to_u32(names.number(&atom.word.name))?,
         private: privates.predicates.contains(&atom.word.name),
         terms: term_numbers(alloc, names, privates, params, &atom.terms)?,
     })

@@ -10,7 +10,7 @@ use crate::fact::FactNumbers;
 use crate::key::FactKey;
 use crate::numbered::{Amount, ObjectNumber};
 use indexmap::IndexMap;
-use mp_list::OutOfMemory;
+use mp_list::{OutOfMemory, does_not_fit};
 
 /// The value of a function at objects: none where there is none.
 fn value(values: &IndexMap<FactNumbers, u64>, symbol: u32, objects: &[u32]) -> Option<u64>
@@ -61,7 +61,7 @@ pub fn cost_at(
             return Ok(None);
         };
         let Some(more) = sum.checked_add(cost) else {
-            return Err(OutOfMemory);
+            return Err(does_not_fit());
         };
         sum = more;
     }

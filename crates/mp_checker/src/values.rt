@@ -6,12 +6,11 @@ ghost use Rattle.mp_factor.specs.declared.init_values.Value.{Value as FunctionVa
 ghost use Rattle.mp_names.specs.Numbers.{number_in};
 ghost use Rattle.mp_checker.specs.Costs.{HasValues, numbers_of_value};
 
-use crate::atoms::short;
 use crate::fact::FactNumbers;
 use crate::words::name_in;
 use indexmap::IndexMap;
 use mp_factor::{TermList, Value, ValueList};
-use mp_list::{List, OutOfMemory};
+use mp_list::{List, OutOfMemory, to_u32};
 use mp_names::NameTable;
 use std::alloc::Global;
 
@@ -25,7 +24,7 @@ fn numbers_of_terms(
 {
     let mut numbers = List::with_capacity(alloc, terms.len())?;
     for term in terms.as_slice() {
-        numbers.push(short(names.number(name_in(term)))?)?;
+        numbers.push(to_u32(names.number(name_in(term)))?)?;
     }
     Ok(numbers)
 }
@@ -40,7 +39,7 @@ fn function_of(
 {
     Ok(FactNumbers {
         owner: None,
-        symbol: short(names.number(&value.of.word.name))?,
+        symbol: to_u32(names.number(&value.of.word.name))?,
         objects: numbers_of_terms(alloc, names, &value.of.terms)?,
     })
 }

@@ -6,7 +6,7 @@ ghost use Rattle.mp_instances.specs.Costs.{amount_at as amount_of, cost_at as co
 use crate::values::FunctionValues;
 use mp_atoms::add_objects;
 use mp_lifted::Amount;
-use mp_list::OutOfMemory;
+use mp_list::{OutOfMemory, does_not_fit};
 use std::alloc::Global;
 
 /// What an amount is with these objects: none where a value is missing.
@@ -45,7 +45,7 @@ pub fn cost_at(
             return Ok(None);
         };
         let Some(more) = sum.checked_add(cost) else {
-            return Err(OutOfMemory);
+            return Err(does_not_fit());
         };
         sum = more;
     }

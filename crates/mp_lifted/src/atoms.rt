@@ -10,20 +10,10 @@ ghost use Rattle.mp_lifted.specs.Factors.{ground_with as ground_of};
 use crate::lifted::{Amount, GroundAtom, LiftedAtom, LiftedTerm};
 use crate::vocabulary::Vocabulary;
 use mp_factor::{Atom, Increase, Literal, Term, TermList, Typed, TypedList};
-use mp_list::{List, OutOfMemory};
+use mp_list::{List, OutOfMemory, to_u32};
 use mp_names::NameTable;
 use mp_sexp::Name;
 use std::alloc::Global;
-
-/// A number of 32 bits. More of one kind than these are taken for want of memory.
-pub fn short(number: usize) -> Result<u32, OutOfMemory>
-    ensures { IfOk result (λ short. short ≡ number) }
-{
-    match u32::try_from(number) {
-        Ok(short) => Ok(short),
-        Err(_) => Err(OutOfMemory),
-    }
-}
 
 /// The place of the first parameter with a name.
 fn first_parameter(params: &[Typed], name: &Name) -> Option<usize>
@@ -54,10 +44,10 @@ fn lifted_term(
     ensures { IfOk result (λ made. made ≡ term_of vocabulary.now params.now term.now) }
 {
     match term {
-        Term::Variable(word) => Ok(LiftedTerm::Parameter(short(parameter(params, &word.name))?)),
+        Term::Variable(word) => Ok(LiftedTerm::Parameter(to_u32(parameter(params, &word.name))?)),
         Term::Object(word) => {
             let number = vocabulary.objects.number(&word.name);
-            Ok(LiftedTerm::Object(short(number)?))
+            Ok(LiftedTerm::Object(to_u32(number)?))
         }
     }
 }
@@ -89,7 +79,7 @@ pub fn lifted_with(
     ensures { IfOk result (λ made. made ≡ atom_of names.now vocabulary.now params.now atom.now) }
 {
     Ok(LiftedAtom {
-        symbol: short(names.number(&atom.word.name))?,
+        symbol: to_u32(names.number(&atom.word.name))?,
         terms: lifted_terms(alloc, vocabulary, params, &atom.terms)?,
     })
 }
@@ -155,10 +145,10 @@ pub fn ground_with(
 {
     let mut args = List::with_capacity(alloc, atom.terms.len())?;
     for term in atom.terms.as_slice() {
-        args.push(short(vocabulary.objects.number(name_in(term)))?)?;
+        args.push(to_u32(vocabulary.objects.number(name_in(term)))?)?;
     }
     Ok(GroundAtom {
-        symbol: short(names.number(&atom.word.name))?,
+        symbol: to_u32(names.number(&atom.word.name))?,
         args,
     })
 }

@@ -6,9 +6,8 @@ ghost use Rattle.mp_typing.specs.Names.{names_of as names_in};
 ghost use Rattle.mp_typing.specs.ObjectList.{object_list};
 ghost use Rattle.mp_lifted.specs.Lifting.{members_of as numbers_of};
 
-use crate::atoms::short;
 use mp_factor::{Typed, TypedList, WordList};
-use mp_list::{Copied, List, OutOfMemory};
+use mp_list::{Copied, List, OutOfMemory, to_u32};
 use mp_typing::{CheckedFactor, ObjectList, TypeList};
 use std::alloc::Global;
 
@@ -29,7 +28,7 @@ fn short_numbers(alloc: Global, numbers: &ObjectList) -> Result<List<u32>, OutOf
 {
     let mut made = List::with_capacity(alloc, numbers.len())?;
     for number in numbers.as_slice() {
-        made.push(short(*number as usize)?)?;
+        made.push(to_u32(*number as usize)?)?;
     }
     Ok(made)
 }

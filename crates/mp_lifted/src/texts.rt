@@ -6,11 +6,10 @@ ghost use Rattle.mp_joint.specs.Fact.{is_listed};
 ghost use Rattle.mp_names.specs.Numbers.{number_in};
 ghost use Rattle.mp_lifted.specs.Factors.{between_brackets as between, has_brackets, can_be_named, named_atom as atom_named, known_atom, known_atoms as atoms_known};
 
-use crate::atoms::short;
 use crate::lifted::GroundAtom;
 use crate::view::FactTexts;
 use crate::vocabulary::Vocabulary;
-use mp_list::{List, OutOfMemory};
+use mp_list::{List, OutOfMemory, to_u32};
 use mp_names::NameTable;
 use std::alloc::Global;
 
@@ -85,7 +84,7 @@ fn numbers_of(
         let Some(number) = table.find(word) else {
             return Ok(None);
         };
-        numbers.push(short(number)?)?;
+        numbers.push(to_u32(number)?)?;
     }
     Ok(Some(numbers))
 }
@@ -104,7 +103,7 @@ fn atom_with(
     let Some(symbol) = vocabulary.predicates.find(predicate) else {
         return Ok(None);
     };
-    let symbol = short(symbol)?;
+    let symbol = to_u32(symbol)?;
     match numbers_of(alloc, &vocabulary.objects, objects)? {
         Some(args) => Ok(Some(GroundAtom { symbol, args })),
         None => Ok(None),

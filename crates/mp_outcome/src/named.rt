@@ -8,7 +8,7 @@ ghost use Rattle.mp_trail.specs.declared.steps.Timed.{Timed as TimedOf};
 use mp_atoms::ActionBindingList;
 use mp_ground::step_name;
 use mp_joint::Names;
-use mp_list::{List, OutOfMemory};
+use mp_list::{List, OutOfMemory, to_u32};
 use mp_sets::Agent;
 use mp_trail::{Share, Timed};
 use mp_typing::CheckedFactor;
@@ -52,9 +52,7 @@ impl Named {
         let Some(step) = steps.get(timed.action as usize) else {
             return Ok(());
         };
-        let Ok(action) = u32::try_from(self.names.len()) else {
-            return Err(OutOfMemory);
-        };
+        let action = to_u32(self.names.len())?;
         self.names.push(step_name(alloc, factor, me, step)?)?;
         self.share.push(Timed {
             time: timed.time,

@@ -9,4 +9,4 @@ returns-in_default c =
 pub returns-in-Some-2 : goal.returns-in-Some-2
 returns-in-Some-2 c =
     found_atom c.args.vocabulary.now c.args.predicate.now (map (λ w. w.now) c.args.objects.now) _ _ _ _ _ c.find.ensures c.in-Some.is
-    c.in_ok-symbol.ensures c.in_ok-args.ensures c.in-Some-2.is
+    c.in_ok-symbol.ensures.ok c.in_ok-args.ensures c.in-Some-2.is

@@ -10,5 +10,5 @@ returns-in_default c =
 pub loop-word-preserved : goal.loop-word-preserved
 loop-word-preserved c =
     numbers_found c.args.table.now c.loop-word.numbers c.push.new.self c.args.words.now c.loop-word.word-index _ _ _ _ c.loop-word-test.true c.find.ensures c.in-Some.is
-    c.in_ok-short.ensures c.in_ok-push.ensures.ok
+    c.in_ok-to_u32.ensures.ok c.in_ok-push.ensures.ok
     ∙ c.loop-word.invariant

@@ -14,9 +14,9 @@ returns-in_default c =
 
 pub returns : goal.returns
 returns c =
-    let number : c.in-Ok.action ≡ length c.args.self.now.names = search rules in
+    let number : c.in_ok-action.action ≡ length c.args.self.now.names = search rules in
     λ share known. when_added c.push-2.result _ share c.args.timed
-    (record { time = c.args.timed.time; action = c.in-Ok.action }) c.in_ok-step_name.field-0
+    (record { time = c.args.timed.time; action = c.in_ok-action.action }) c.in_ok-step_name.field-0
     c.args.self.now.names c.push.new.self c.args.self.now.share c.push-2.new.self
     (slice_get-map (step_of c.args.me c.args.factor.now) c.args.steps.now c.args.timed.action
     ∙ ap (option_map (step_of c.args.me c.args.factor.now)) (sym c.in-Some.ensures)
