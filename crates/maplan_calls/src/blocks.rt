@@ -13,6 +13,7 @@ use crate::searches::run_search;
 use crate::sets::answer_sets;
 use crate::snapshots::run_snapshot;
 use crate::stores::run_store;
+use crate::tasks::{FACTS, WIDE};
 use crate::texts::answer_texts;
 use crate::tokens::run_tokens;
 use crate::trails::run_trail;
@@ -56,7 +57,8 @@ fn run_calls(
         "trail" => run_trail(alloc, lines, out),
         "tokens" => run_tokens(alloc, passed, lines, out),
         "snapshot" => run_snapshot(alloc, passed, lines, out),
-        "task" => run_task(alloc, passed, lines, out),
+        "task" => run_task(alloc, FACTS, passed, lines, out),
+        "wide" => run_task(alloc, WIDE, passed, lines, out),
         "blind" => run_search::<Blind>(alloc, passed, lines, out),
         "hmax" => run_search::<Hmax>(alloc, passed, lines, out),
         _ => run_lines(alloc, &mut Plain { about }, lines, out),

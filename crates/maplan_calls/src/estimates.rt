@@ -1,12 +1,14 @@
 //! Tasks, and the values of their starts.
 
-ghost use Rattle.std.specs.Prelude.{◌≡◌};
+ghost use Rattle.std.specs.Prelude.{◌≡◌, ◌≤◌};
 ghost use Rattle.mp_task.specs.Heuristic.{SizesFit};
 
 use crate::calls::{Answers, Call, Out, run_lines};
 use crate::tasks::task;
 use mp_hmax::Hmax;
 use mp_list::{Copied, OutOfMemory};
+use mp_lmcut::Cut;
+use mp_pdb::Pdb;
 use mp_sets::Bits;
 use mp_task::{Blind, Heuristic, Task};
 use std::alloc::Global;
@@ -46,19 +48,24 @@ impl Answers for Task {
             "public" => first_public(self, out),
             "blind" => start::<Blind>(alloc, self, out),
             "hmax" => start::<Hmax>(alloc, self, out),
+            "cut" => start::<Cut>(alloc, self, out),
+            "pdb" => start::<Pdb>(alloc, self, out),
             _ => Ok(()),
         }
     }
 }
 
-/// Runs the calls of a task.
+/// Runs the calls of a task with so many facts of each kind.
 pub(crate) fn run_task(
     alloc: Global,
+    facts: u32,
     head: &str,
     lines: &str,
     out: &mut Out,
-) -> Result<(), OutOfMemory> {
-    if let Some(task) = task(alloc, head, lines)? {
+) -> Result<(), OutOfMemory>
+    requires { facts ≤ 8 }
+{
+    if let Some(task) = task(alloc, facts, head, lines)? {
         let mut task = task;
         return run_lines(alloc, &mut task, lines, out);
     }

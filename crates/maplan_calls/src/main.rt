@@ -46,7 +46,7 @@
 //! - `snapshot ME AGENTS` (`snapshots.rt`): `start / FINDINGS`, `marker FROM NUMBER / FINDINGS`, `seen FROM F`, `report FROM / FINDINGS`,
 //!   `shown`. Findings are `NUMBER / LEAST / UNDER WAY / GOAL / SPENT`.
 //! - `task ME / FLAGS` (`estimates.rt`) with the lines of a task (`tasks.rt`): `public`, whether the first action of a copy is, and
-//!   `blind` and `hmax`, each the value of the start, twice.
+//!   `blind`, `hmax`, `cut` and `pdb`, each the value of the start, twice. `wide` is the same with eight facts of each kind.
 //! - `blind ME / FLAGS / LIMIT` and `hmax ME / FLAGS / LIMIT` (`searches.rt`), the search of an agent with that heuristic, with the lines of
 //!   a task: `expand`, `take FROM HEX`, the state of a message, `entry NUMBER`, `least`, `counts` (how many entries there are and were
 //!   expanded, whether those are all that may be, and whether one may be), `token NUMBER`.

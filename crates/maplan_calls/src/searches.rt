@@ -7,7 +7,7 @@ ghost use Rattle.mp_messages.specs.Spelling.{Fits};
 use crate::calls::{Answers, Call, Out, run_lines};
 use crate::lines::{long, part, split_word};
 use crate::states::agent_at;
-use crate::tasks::task;
+use crate::tasks::{FACTS, task};
 use mp_list::OutOfMemory;
 use mp_messages::{Message, State, decode};
 use mp_search::{Search, SendingList};
@@ -162,7 +162,7 @@ pub(crate) fn run_search<H: Heuristic>(
     out: &mut Out,
 ) -> Result<(), OutOfMemory> {
     let limit = long(part(head, 2), 0).min(9).max(1);
-    if let Some(task) = task(alloc, head, lines)? {
+    if let Some(task) = task(alloc, FACTS, head, lines)? {
         let mut searcher = made::<H>(alloc, task, limit)?;
         return run_lines(alloc, &mut searcher, lines, out);
     }

@@ -1,4 +1,5 @@
-//! Costs of what may be out of reach: their order, the lesser and the greater of two (`specs/`), and their laws.
+//! Costs of what may be out of reach (`specs/`): their order, the lesser and the greater of two, their laws, and numbers that stand
+//! for them in a search that lowers these.
 #![tactic(auto)]
 
 mod laws;

@@ -6,11 +6,11 @@ use Rattle.mp_relaxed.specs.Users.{times}
 use Rattle.mp_lmcut.specs.Cut.{cheaper_where, priced_by}
 use Rattle.mp_lmcut.specs.Sides.{AreAdders, costless, repriced}
 
-length-priced_by : (cost : Operator → ℕ) (os : List Operator) → length (priced_by cost os) ≡ length os
+pub length-priced_by : (cost : Operator → ℕ) (os : List Operator) → length (priced_by cost os) ≡ length os
 length-priced_by cost [] = refl
 length-priced_by cost (o ∷ os) = ap suc (length-priced_by cost os)
 
-add_at : (cost : Operator → ℕ) (os : List Operator) (k : ℕ) → (operator_at (priced_by cost os) k).add ≡ (operator_at os k).add
+pub add_at : (cost : Operator → ℕ) (os : List Operator) (k : ℕ) → (operator_at (priced_by cost os) k).add ≡ (operator_at os k).add
 add_at cost [] k = refl
 add_at cost (o ∷ os) zero = refl
 add_at cost (o ∷ os) (suc k) = add_at cost os k

@@ -8,7 +8,8 @@ use Rattle.std.specs.Option.{unwrap_or}
 use Rattle.mp_sets.specs.Numbers.{Numbers}
 use Rattle.mp_task.specs.Strips.{Operator}
 use Rattle.mp_relaxed.specs.Relaxed.{without_deletes}
-use Rattle.mp_relaxed.specs.Values.{Values, fact_values, greatest}
+use Rattle.mp_estimates.specs.Estimates.{Values}
+use Rattle.mp_relaxed.specs.Values.{fact_values, greatest}
 use Rattle.mp_relaxed.proofs.Found.{values-without_deletes}
 use Rattle.mp_lmcut.specs.Cut.{all_valued, avoiding, cut_cost, cuts, edge, in_cut, in_zone, is_near, is_positive, leads, least, lmcut_of, lowered, possible, support, turned}
 

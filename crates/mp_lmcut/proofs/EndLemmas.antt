@@ -7,9 +7,9 @@ use Rattle.std.specs.List.{filter, list_all, list_any}
 use Rattle.std.specs.Option.{is_some, unwrap_or}
 use Rattle.mp_sets.specs.Numbers.{Numbers}
 use Rattle.mp_task.specs.Strips.{Operator}
-use Rattle.mp_estimates.specs.Estimates.{AtMost, greater, lesser}
+use Rattle.mp_estimates.specs.Estimates.{AtMost, greater, lesser, Values}
 use Rattle.mp_estimates.specs.Laws.Order.{within, within-AtMost}
-use Rattle.mp_relaxed.specs.Values.{Values, adds, cost_by, fact_values, greatest}
+use Rattle.mp_relaxed.specs.Values.{adds, cost_by, fact_values, greatest}
 use Rattle.mp_lmcut.specs.Cut.{all_valued, cut_cost, cuts, in_cut, in_zone, is_near, is_positive, leads, least, lowered, priced_by, support}
 use Rattle.mp_lmcut.specs.Sides.{least_where}
 use Rattle.mp_lmcut.specs.Laws.Leading.{adds_low, leads_only}

@@ -11,7 +11,8 @@ use Rattle.mp_sets.proofs.SetLemmas.{contains-numbers_below}
 use Rattle.mp_task.specs.Strips.{Operator}
 use Rattle.mp_relaxed.specs.Relaxed.{HasFree, HasUsers, RelaxedProblem, operator_at, state_of}
 use Rattle.mp_relaxed.specs.Users.{times}
-use Rattle.mp_relaxed.specs.Values.{Values, adds}
+use Rattle.mp_estimates.specs.Estimates.{Values}
+use Rattle.mp_relaxed.specs.Values.{adds}
 use Rattle.mp_relaxed.proofs.TimesLemmas.{times_contained}
 use Rattle.mp_lmcut.specs.Cut.{all_valued, avoiding, edge, in_zone, is_near, possible, support}
 use Rattle.mp_lmcut.specs.Marks.{MarkLists}

@@ -8,12 +8,21 @@ use Rattle.mp_task.specs.AgentTask.{AgentTask}
 use Rattle.mp_task.specs.Projected.{projected, projected_state}
 use Rattle.mp_task.specs.Strips.{Operator}
 use Rattle.mp_relaxed.specs.Relaxed.{RelaxedProblem, delete_relaxation, state_of}
-use Rattle.mp_relaxed.specs.Search.{value_at}
+use Rattle.mp_estimates.specs.Lowering.{value_at}
 use Rattle.mp_relaxed.specs.Values.{fact_values, greatest}
 use Rattle.mp_lmcut.specs.Cut.{all_valued, cheaper_where, cut_cost, cuts, in_cut, is_positive, least, lmcut, lmcut_of, lowered, support}
+use Rattle.mp_lmcut.specs.Marked.{is_marked}
 use Rattle.mp_lmcut.specs.Sides.{IsNearSide, IsZone, is_between, least_where}
 use Rattle.mp_lmcut.specs.Laws.Costs.{least_small}
 use Rattle.mp_lmcut.proofs.DeleteLemmas.{lmcut_bare}
+
+turned_round : (a b c : Bool) → (a && (b && c)) ≡ (b && (c && a))
+turned_round true true true = refl
+turned_round true true false = refl
+turned_round true false c = refl
+turned_round false true true = refl
+turned_round false true false = refl
+turned_round false false c = refl
 
 module _ (r : RelaxedProblem) (s : Numbers) (numbers : List ℕ) (zone near : List Bool) (values : (x : ℕ) → value_at numbers x ≡ fact_values r.operators s x) (zoned : IsZone (value_at numbers) r.operators r.goals zone) (neared : IsNearSide (value_at numbers) r.operators r.goals s near) where
   abbrev between : Operator → Bool
@@ -22,7 +31,8 @@ module _ (r : RelaxedProblem) (s : Numbers) (numbers : List ℕ) (zone near : Li
   same_cut : (o : Operator) → between o ≡ in_cut (fact_values r.operators s) r.operators r.goals s o
   unfolding in_cut
   same_cut o =
-      (λ i. all_valued (value_at numbers) o.pre && (list_all (λ x. neared x i) (support (value_at numbers) o.pre) && list_any (λ x. zoned x i) o.add))
+      turned_round (list_any (is_marked zone) o.add) (all_valued (value_at numbers) o.pre) (list_all (is_marked near) (support (value_at numbers) o.pre))
+      ∙ (λ i. all_valued (value_at numbers) o.pre && (list_all (λ x. neared x i) (support (value_at numbers) o.pre) && list_any (λ x. zoned x i) o.add))
       ∙ (λ i. in_cut (λ x. values x i) r.operators r.goals s o)
 
   pub cost_is : unwrap_or (least_where between r.operators) 0 ≡ cut_cost (fact_values r.operators s) r.operators r.goals s

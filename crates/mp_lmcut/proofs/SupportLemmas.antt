@@ -4,8 +4,8 @@ use Rattle.std.proofs.lemmas.Bool.{cases_lt, lt-ltb, le-ltb, le-leb, lt-leb}
 use Rattle.std.proofs.lemmas.List.{drop_more}
 use Rattle.std.specs.Option.{is_some}
 use Rattle.mp_list.specs.First.{earlier, leftmost}
-use Rattle.mp_relaxed.specs.Search.{known, number_at, unknown, value_at}
-use Rattle.mp_relaxed.proofs.SearchLemmas.{known-none, known-some}
+use Rattle.mp_estimates.specs.Lowering.{known, number_at, unknown, value_at}
+use Rattle.mp_estimates.proofs.LoweringLemmas.{known-none, known-some}
 use Rattle.mp_lmcut.specs.Cut.{all_valued, is_above, supports_before}
 
 pub valued_more : (numbers xs : List ℕ) (i : ℕ) → i < length xs → number_at numbers (get_or xs i 0) < unknown → all_valued (value_at numbers) (drop i xs) ≡ all_valued (value_at numbers) (drop (i + 1) xs)

@@ -11,7 +11,8 @@ use Rattle.mp_sets.proofs.NumbersLemmas.{All_at, among_itself}
 use Rattle.mp_task.specs.Strips.{Operator}
 use Rattle.mp_relaxed.specs.Relaxed.{HasAdders, operator_at}
 use Rattle.mp_relaxed.specs.Users.{times}
-use Rattle.mp_relaxed.specs.Values.{Values, adds}
+use Rattle.mp_estimates.specs.Estimates.{Values}
+use Rattle.mp_relaxed.specs.Values.{adds}
 use Rattle.mp_relaxed.proofs.TimesLemmas.{times_contained}
 use Rattle.mp_lmcut.specs.Cut.{all_valued, edge, in_zone, possible, support, turned}
 use Rattle.mp_lmcut.specs.Marked.{is_marked}

@@ -9,8 +9,8 @@ use Rattle.mp_sets.specs.Numbers.{Numbers}
 use Rattle.mp_task.specs.AgentTask.{AgentTask}
 use Rattle.mp_task.specs.Projected.{projected, projected_state}
 use Rattle.mp_task.specs.Strips.{Operator}
-use Rattle.mp_estimates.specs.Estimates.{lesser}
-use Rattle.mp_relaxed.specs.Values.{Values, fact_values, greatest}
+use Rattle.mp_estimates.specs.Estimates.{lesser, Values}
+use Rattle.mp_relaxed.specs.Values.{fact_values, greatest}
 
 -- whether operators lead to a fact from a set of facts, where nothing becomes false: whether it has a value there
 unfoldable pub leads : List Operator → Numbers → ℕ → Bool

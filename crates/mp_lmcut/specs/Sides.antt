@@ -1,11 +1,12 @@
 -- The sides of a cut in a search by marks: what is to be marked for each fact.
-use Rattle.std.specs.Prelude.{◌≡◌, ℕ, map, Option, ◌+◌, ◌==◌, ◌<◌, ◌&&◌, Bool, true, false, List, [], length, All, IsTrue, slice_index_or}
+use Rattle.std.specs.Prelude.{◌≡◌, ℕ, map, Option, ◌+◌, ◌==◌, ◌<◌, ◌&&◌, Bool, true, false, List, [], length, All, Contains, IsTrue, slice_index_or}
 use Rattle.std.specs.FinSet as set
 use Rattle.std.specs.List.{filter, list_all, list_any}
 use Rattle.mp_sets.specs.Numbers.{Numbers}
 use Rattle.mp_task.specs.Strips.{Operator}
 use Rattle.mp_relaxed.specs.Relaxed.{HasAdders, RelaxedProblem, operator_at, priced}
-use Rattle.mp_relaxed.specs.Values.{Values, adds}
+use Rattle.mp_estimates.specs.Estimates.{Values}
+use Rattle.mp_relaxed.specs.Values.{adds}
 use Rattle.mp_lmcut.specs.Cut.{all_valued, support, in_zone, is_near, least, priced_by}
 use Rattle.mp_lmcut.specs.Marked.{is_marked}
 
@@ -83,8 +84,13 @@ pub record AreAdders (operators : List Operator) (facts : ℕ) (lists : List (Li
 -- whether an operator has an edge between two sides that are marked
 abbrev pub is_between : Values → List Bool → List Bool → Operator → Bool
 is_between values zone near o =
-    all_valued values o.pre
-    && (list_all (is_marked near) (support values o.pre) && list_any (is_marked zone) o.add)
+    list_any (is_marked zone) o.add
+    && (all_valued values o.pre && list_all (is_marked near) (support values o.pre))
+
+-- a list has those of the first so many operators of which something holds
+pub record ListsFirst (such : Operator → Bool) (operators : List Operator) (n : ℕ) (cut : List ℕ) : Type 0 where
+  pub all : (k : ℕ) → k < n → such (operator_at operators k) ≡ true → Contains cut k
+  pub below : All (λ k. k < length operators) cut
 
 -- the least cost of the operators of which something holds
 abbrev pub least_where : (Operator → Bool) → List Operator → Option ℕ

@@ -1,17 +1,18 @@
 //! The cut of a round: which operators are in it, what it costs, and what they cost afterwards.
 
-ghost use Rattle.std.specs.Prelude.{◌≡◌, ◌<◌, ◌≤◌, ℕ, All, Some, false, length, true, if◌then◌else◌};
+ghost use Rattle.std.specs.Prelude.{◌≡◌, ◌<◌, ◌≤◌, ◌++◌, ◌∷◌, [], ℕ, All, OnOk, Some, false, length, true, if◌then◌else◌};
 ghost use Rattle.std.specs.List.{list_all};
 ghost use Rattle.std.specs.Option.{unwrap_or};
 ghost use Rattle.mp_estimates.specs.Estimates.{lesser};
 ghost use Rattle.mp_relaxed.specs.Relaxed.{operator_at, with_cheaper};
-ghost use Rattle.mp_relaxed.specs.Search.{value_at};
+ghost use Rattle.mp_estimates.specs.Lowering.{value_at};
 ghost use Rattle.mp_lmcut.specs.Cut.{cheaper_where, support};
 ghost use Rattle.mp_lmcut.specs.Marked.{is_marked};
-ghost use Rattle.mp_lmcut.specs.Sides.{is_between, least_where};
+ghost use Rattle.mp_lmcut.specs.Sides.{ListsFirst, is_between, least_where};
 
 use crate::marks::Marks;
 use crate::supports::{are_valued, support_of};
+use mp_list::OutOfMemory;
 use mp_relaxed::Relaxed;
 
 /// Whether the support of some preconditions is marked, or there is none.
@@ -26,7 +27,7 @@ fn is_from(numbers: &[u64], pre: &[u32], near: &Marks) -> bool
     }
 }
 
-/// Whether an operator is in the cut.
+/// Whether an operator is in the cut. Few add a fact of the zone, so this is asked first.
 fn is_in_cut(problem: &Relaxed, numbers: &[u64], zone: &Marks, near: &Marks, k: u32) -> bool
     requires operator { k < length problem.now.operators }
     requires sized { length numbers.now ≡ problem.now.facts }
@@ -35,8 +36,8 @@ fn is_in_cut(problem: &Relaxed, numbers: &[u64], zone: &Marks, near: &Marks, k: 
     ensures { result ≡ is_between (value_at numbers.now) zone.now.flags near.now.flags
         (operator_at problem.now.operators k) }
 {
-    are_valued(numbers, problem.pre(k))
-        && (is_from(numbers, problem.pre(k), near) && zone.has_one_of(problem.add(k)))
+    zone.has_one_of(problem.add(k))
+        && (are_valued(numbers, problem.pre(k)) && is_from(numbers, problem.pre(k), near))
 }
 
 /// The lesser one of a cost, if there is one, and another.
@@ -124,6 +125,61 @@ fn lower_all(problem: &mut Relaxed, numbers: &[u64], zone: &Marks, near: &Marks,
     for k in 0..problem.operators() {
         lower_one(problem, numbers, zone, near, k, by);
     }
+}
+
+/// Puts an operator at the end of a list where it is in the cut.
+fn note(
+    problem: &Relaxed,
+    numbers: &[u64],
+    zone: &Marks,
+    near: &Marks,
+    k: u32,
+    cut: &mut Vec<u32>,
+) -> Result<(), OutOfMemory>
+    requires operator { k < length problem.now.operators }
+    requires sized { length numbers.now ≡ problem.now.facts }
+    requires zone { length zone.now.flags ≡ problem.now.facts }
+    requires near { length near.now.flags ≡ problem.now.facts }
+    ensures inside { is_between (value_at numbers.now) zone.now.flags near.now.flags
+        (operator_at problem.now.operators k) ≡ true
+        → OnOk result (cut.new.items ≡ cut.old.items ++ k ∷ []) }
+    ensures outside { is_between (value_at numbers.now) zone.now.flags near.now.flags
+        (operator_at problem.now.operators k) ≡ false
+        → OnOk result (cut.new.items ≡ cut.old.items) }
+{
+    if is_in_cut(problem, numbers, zone, near, k) {
+        cut.push(k)?;
+    }
+    Ok(())
+}
+
+/// Empties a list.
+fn empty(cut: &mut Vec<u32>)
+    ensures { cut.new.items ≡ [] }
+{
+    cut.clear();
+}
+
+/// Lists the operators of the cut. Refuses only for want of memory.
+pub(crate) fn list_cut(
+    problem: &Relaxed,
+    numbers: &[u64],
+    zone: &Marks,
+    near: &Marks,
+    cut: &mut Vec<u32>,
+) -> Result<(), OutOfMemory>
+    requires sized { length numbers.now ≡ problem.now.facts }
+    requires zone { length zone.now.flags ≡ problem.now.facts }
+    requires near { length near.now.flags ≡ problem.now.facts }
+    ensures { OnOk result (ListsFirst
+        (is_between (value_at numbers.now) zone.now.flags near.now.flags)
+        problem.now.operators (length problem.now.operators) cut.new.items) }
+{
+    empty(cut);
+    for k in 0..problem.operators() {
+        note(problem, numbers, zone, near, k, cut)?;
+    }
+    Ok(())
 }
 
 /// Makes the operators of the cut cheaper by what it costs, and says how much that is.

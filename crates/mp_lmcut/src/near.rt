@@ -4,7 +4,7 @@ ghost use Rattle.std.specs.Prelude.{◌≡◌, ◌<◌, ◌≤◌, ◌==◌, ◌
 ghost use Rattle.std.specs.FinSet as set;
 ghost use Rattle.std.specs.List.{list_any};
 ghost use Rattle.mp_relaxed.specs.Relaxed.{AreAllFree, HasFree, HasUsers, operator_at, state_of};
-ghost use Rattle.mp_relaxed.specs.Search.{value_at};
+ghost use Rattle.mp_estimates.specs.Lowering.{value_at};
 ghost use Rattle.mp_relaxed.specs.Values.{adds};
 ghost use Rattle.mp_lmcut.specs.Cut.{support};
 ghost use Rattle.mp_lmcut.specs.Marked.{HasGrown, is_marked};

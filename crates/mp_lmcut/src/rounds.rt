@@ -1,14 +1,14 @@
 //! The rounds of the heuristic.
 
-ghost use Rattle.std.specs.Prelude.{◌≡◌, ◌+◌, ◌≤◌, ℕ, suc, IfOk, IfSome, OnOk, length, option_map};
+ghost use Rattle.std.specs.Prelude.{◌≡◌, ◌+◌, ◌<◌, ◌≤◌, ℕ, suc, All, IfOk, IfSome, OnOk, length, option_map};
 ghost use Rattle.std.specs.Option.{option_map_or};
-ghost use Rattle.mp_relaxed.specs.Relaxed.{state_of};
+ghost use Rattle.mp_relaxed.specs.Relaxed.{AreCheaper, state_of};
 ghost use Rattle.mp_relaxed.specs.Search.{AreValues};
 ghost use Rattle.mp_relaxed.specs.Values.{fact_values};
 ghost use Rattle.mp_lmcut.specs.Cut.{cut_cost, cuts, is_positive, lmcut_of, lowered};
 ghost use Rattle.mp_lmcut.specs.Sides.{AreAdders, costless};
 
-use crate::costs::pay;
+use crate::costs::{list_cut, pay};
 use crate::near::mark_near;
 use crate::sides::Sides;
 use crate::zone::mark_zone;
@@ -26,8 +26,8 @@ fn is_left(cost: Option<u64>) -> bool
     }
 }
 
-/// Makes the operators of the cut cheaper by what the cut costs, and says how much that is. Refuses only for want of
-/// memory.
+/// Makes the operators of the cut cheaper by what the cut costs, and says how much that is; the cut is listed. Refuses only
+/// for want of memory.
 fn lower(
     problem: &mut Relaxed,
     numbers: &[u64],
@@ -52,6 +52,9 @@ fn lower(
           (state_of problem.old publics.now.members privates.now.members);
     }) }
     ensures small { IfOk result (λ cost. cost ≤ 16000000) }
+    ensures listed { OnOk result
+        (AreCheaper problem.old.operators problem.new.operators sides.new.cut.items) }
+    ensures below { OnOk result (All (λ k. k < length problem.new.operators) sides.new.cut.items) }
     ensures kept { costless problem.new ≡ costless problem.old }
 {
     mark_zone(problem, numbers, adders, &mut sides.zone)?;
@@ -63,12 +66,13 @@ fn lower(
         privates,
         &mut sides.near,
     )?;
+    list_cut(problem, numbers, &sides.zone, &sides.near, &mut sides.cut)?;
     let _ = problem.operators();
     Ok(pay(problem, numbers, &sides.zone, &sides.near))
 }
 
-/// Plays a round: where the goals cost something, it makes the operators of the cut cheaper by what the cut costs, and
-/// says how much that is. Refuses only for want of memory.
+/// Plays a round on the values of facts: where the goals cost something, it makes the operators of the cut cheaper by what
+/// the cut costs, finds the values again at these costs, and says how much it is. Refuses only for want of memory.
 fn round(
     problem: &mut Relaxed,
     adders: &[List<u32>],
@@ -79,6 +83,7 @@ fn round(
 ) -> Result<Option<u64>, OutOfMemory>
     requires counted { search.old.operators ≡ length problem.old.operators }
     requires sized { length search.old.numbers ≡ problem.old.facts }
+    requires values { AreValues problem.old publics.now.members privates.now.members search.old.numbers }
     requires adders { AreAdders problem.old.operators problem.old.facts adders.now }
     requires publics { publics.now.size ≡ problem.old.publics }
     requires privates { problem.old.publics + privates.now.size ≡ problem.old.facts }
@@ -87,21 +92,23 @@ fn round(
         (state_of problem.old publics.now.members privates.now.members)
         ≡ option_map_or (λ cost. cost + cuts rounds problem.new.operators problem.new.goals
         (state_of problem.new publics.now.members privates.now.members)) paid 0) }
+    ensures values { OnOk result
+        (AreValues problem.new publics.now.members privates.now.members search.new.numbers) }
     ensures small { IfOk result (λ paid. IfSome paid (λ cost. cost ≤ 16000000)) }
     ensures kept { costless problem.new ≡ costless problem.old }
     ensures counted { search.new.operators ≡ search.old.operators }
     ensures sized { length search.new.numbers ≡ length search.old.numbers }
 {
-    search.find(problem, publics, privates)?;
     if !is_left(search.greatest(problem.goals())) {
         return Ok(None);
     }
     let cost = lower(problem, search.numbers(), adders, sides, publics, privates)?;
+    search.again(problem, sides.cut.as_slice())?;
     Ok(Some(cost))
 }
 
-/// Plays rounds until the goals cost nothing, at most as many as there are operators, and says what their cuts cost
-/// together. Refuses only for want of memory.
+/// Plays rounds, the first one on the values that were found, until the goals cost nothing, at most as many as there are
+/// operators, and says what their cuts cost together. Refuses only for want of memory.
 fn play(
     problem: &mut Relaxed,
     adders: &[List<u32>],
@@ -112,6 +119,7 @@ fn play(
 ) -> Result<u64, OutOfMemory>
     requires counted { search.old.operators ≡ length problem.old.operators }
     requires sized { length search.old.numbers ≡ problem.old.facts }
+    requires values { AreValues problem.old publics.now.members privates.now.members search.old.numbers }
     requires adders { AreAdders problem.old.operators problem.old.facts adders.now }
     requires publics { publics.now.size ≡ problem.old.publics }
     requires privates { problem.old.publics + privates.now.size ≡ problem.old.facts }

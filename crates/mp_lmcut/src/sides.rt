@@ -1,13 +1,14 @@
-//! The two sides of a cut.
+//! The two sides of a cut, and the cut.
 
 use crate::marks::Marks;
 use std::alloc::Global;
 
-/// The marks of the goal zone and of the near side. They keep their memory from round to round.
+/// The marks of the goal zone and of the near side, and the operators of the cut. They keep their memory from round to round.
 #[derive(Drop)]
 pub(crate) struct Sides {
     pub(crate) zone: Marks,
     pub(crate) near: Marks,
+    pub(crate) cut: Vec<u32>,
 }
 
 impl Sides {
@@ -16,6 +17,7 @@ impl Sides {
         Sides {
             zone: Marks::new(alloc),
             near: Marks::new(alloc),
+            cut: Vec::new(alloc),
         }
     }
 }

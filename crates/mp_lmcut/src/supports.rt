@@ -3,7 +3,7 @@
 ghost use Rattle.std.specs.Prelude.{◌≡◌, ◌<◌, ℕ, All, IfSome, length};
 ghost use Rattle.std.specs.Option.{option_to_list};
 ghost use Rattle.mp_list.specs.First.{earlier as first_of};
-ghost use Rattle.mp_relaxed.specs.Search.{value_at};
+ghost use Rattle.mp_estimates.specs.Lowering.{value_at};
 ghost use Rattle.mp_lmcut.specs.Cut.{all_valued, support, supports_before};
 
 /// Whether all of some facts have values.

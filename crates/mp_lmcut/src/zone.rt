@@ -3,7 +3,7 @@
 ghost use Rattle.std.specs.Prelude.{◌≡◌, ◌<◌, ◌≤◌, ◌&&◌, ◌==◌, ◌+◌, ℕ, All, List as ListOf, OnOk, length, slice_index_or, true};
 ghost use Rattle.std.specs.List.{list_all, list_any};
 ghost use Rattle.mp_relaxed.specs.Relaxed.{HasAdders, operator_at};
-ghost use Rattle.mp_relaxed.specs.Search.{value_at};
+ghost use Rattle.mp_estimates.specs.Lowering.{value_at};
 ghost use Rattle.mp_lmcut.specs.Cut.{in_zone, support};
 ghost use Rattle.mp_lmcut.specs.Marked.{HasGrown, IsReaching, is_marked, weight};
 ghost use Rattle.mp_lmcut.specs.Sides.{AreAdders, IsTurned, IsZone, Supports, TurnsBack, is_free as is_free_edge};

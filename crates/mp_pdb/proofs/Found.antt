@@ -25,13 +25,14 @@ use Rattle.mp_pdb.specs.Moves.{HasLists, IsMoveOf, HasMove, AreMoves, after_move
 use Rattle.mp_pdb.specs.Moves.HasMove.{by_move, by_nothing}
 use Rattle.mp_pdb.specs.Pattern.{is_in, of_pattern, abstract_operator, abstraction, abstract_state, abstract_states, actions_of, abstract_distance, pattern_value}
 use Rattle.mp_pdb.specs.Pdb.{IsDatabaseOf}
-use Rattle.mp_pdb.specs.Table.{unknown, known, number_at, IsTable, AreLow}
+use Rattle.mp_estimates.specs.Lowering.{unknown, known, number_at}
+use Rattle.mp_pdb.specs.Table.{IsTable, AreLow}
 use Rattle.mp_pdb.specs.Laws.Bounds.{Step, step_of, step_leads, abstract_at, abstract_cost, are_closed, abstract_distance_is_least, abstract_distance_is_small, number_among}
 use Rattle.mp_pdb.specs.Laws.Least.{goal_costs, action_costs}
 use Rattle.mp_pdb.specs.Laws.States.{is_state}
 use Rattle.mp_pdb.proofs.MaskLemmas.{shows_below}
 use Rattle.mp_pdb.proofs.ChosenLemmas.{set_of, set_is_of, set_of_shown, set_holds, set_of-after, has_shown, shows-after, shows-idle, shows_abstract}
-use Rattle.mp_pdb.proofs.TableLemmas.{known-some}
+use Rattle.mp_estimates.proofs.LoweringLemmas.{known-some}
 
 module _ (pattern : List ℕ) (problem : Problem) (moves : List Move) (goal : ℕ) (numbers : List ℕ) (few : length pattern ≤ 12) (are : AreMoves pattern problem.operators moves) (goals : Shows pattern (is_in problem.goals) goal) (table : IsTable (2 ^ length pattern) moves goal numbers) where
   fits : (mask : ℕ) → mask < 2 ^ length pattern → mask < 2 ^ 16

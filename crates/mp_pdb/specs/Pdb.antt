@@ -6,7 +6,7 @@ use Rattle.mp_task.specs.AgentTask.{AgentTask}
 use Rattle.mp_task.specs.Projected.{projected}
 use Rattle.mp_pdb.specs.Masks.{Shows}
 use Rattle.mp_pdb.specs.Pattern.{abstract_distance, abstract_state, pattern_of}
-use Rattle.mp_pdb.specs.Table.{known, number_at}
+use Rattle.mp_estimates.specs.Lowering.{known, number_at}
 
 -- a table has the distances of a task's projected problem for a pattern
 pub record IsDatabaseOf (t : AgentTask) (publics : ℕ) (facts table : List ℕ) : Type 0 where

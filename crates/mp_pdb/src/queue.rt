@@ -1,7 +1,7 @@
 //! Sets of facts that wait with their numbers.
 
 ghost use Rattle.std.specs.Prelude.{◌≡◌, [], ◌∷◌, IfNone, IfSome, OnOk, IsPermutation};
-ghost use Rattle.mp_pdb.specs.Table.{key};
+ghost use Rattle.mp_estimates.specs.Lowering.{key};
 
 use mp_list::OutOfMemory;
 use std::alloc::Global;
@@ -20,7 +20,7 @@ pub(crate) struct Queue {
 impl Model for Queue {
     ghost use Rattle.std.specs.Prelude.{List};
     ghost use Rattle.mp_pdb.specs.Queue.{queue_entries};
-    ghost use Rattle.mp_pdb.specs.Table.{Key};
+    ghost use Rattle.mp_estimates.specs.Lowering.{Key};
 
     ghost Value = { List Key };
 

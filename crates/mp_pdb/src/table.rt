@@ -1,10 +1,11 @@
 //! The table of the least costs at which moves lead to a goal, settled from the goals backwards (Dijkstra 1959).
 
 ghost use Rattle.std.specs.Prelude.{◌≡◌, ℕ, ◌<◌, ◌≤◌, ◌+◌, ◌^◌, [], All, IfOk, IsTrue, OnOk, Some, min, vec_len};
-ghost use Rattle.mp_estimates.specs.Estimates.{AtMost};
+ghost use Rattle.mp_estimates.specs.Estimates.{AtMost, Values};
 ghost use Rattle.mp_pdb.specs.Moves.{after_move, has_all};
 ghost use Rattle.mp_pdb.specs.declared.moves.Move.{Move as Mover};
-ghost use Rattle.mp_pdb.specs.Table.{AreBelow, AreLow, AreReached, HaveFallen, IsServed, IsSize, IsTable, Key, MoveFits, Values, known, number_at, unknown};
+ghost use Rattle.mp_estimates.specs.Lowering.{AreBelow, HaveFallen, Key, known, number_at, unknown};
+ghost use Rattle.mp_pdb.specs.Table.{AreLow, AreReached, IsServed, IsSize, IsTable, MoveFits};
 
 use crate::moves::Move;
 use crate::queue::Queue;

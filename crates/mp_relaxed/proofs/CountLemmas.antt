@@ -5,14 +5,16 @@ use Rattle.std.proofs.lemmas.Bool.{cases_eq, eqb-false}
 use Rattle.std.proofs.lemmas.List.{take_more, get_or_default}
 use Rattle.std.specs.List.Sorted.{IsPermutation}
 use Rattle.mp_task.specs.Strips.{Operator}
-use Rattle.mp_relaxed.specs.Values.{Values, greatest}
-use Rattle.mp_estimates.specs.Estimates.{greater}
+use Rattle.mp_estimates.specs.Estimates.{Values, greater}
+use Rattle.mp_relaxed.specs.Values.{greatest}
 use Rattle.mp_relaxed.specs.Relaxed.{operator_at}
-use Rattle.mp_relaxed.specs.Search.{unknown, number_at, value_at, Key, key, HaveFallen, capped, IsServed, IsOpen, AtLeast, count_at, CountOpen, ServeAtZero, AreLowered}
+use Rattle.mp_estimates.specs.Lowering.{unknown, number_at, value_at, Key, key, HaveFallen}
+use Rattle.mp_relaxed.specs.Search.{capped, IsServed, IsOpen, AtLeast, count_at, CountOpen, ServeAtZero, AreLowered}
 use Rattle.mp_relaxed.specs.Search.AtLeast.{nothing, one, more}
 use Rattle.mp_relaxed.specs.Users.{times}
 use Rattle.mp_relaxed.proofs.TimesLemmas.{times-append, times_same, times_other, times_contained}
-use Rattle.mp_relaxed.proofs.SearchLemmas.{greater-none, known-none, none_served, popped_quiet, served_kept, served_popped}
+use Rattle.mp_estimates.proofs.LoweringLemmas.{known-none, popped_quiet}
+use Rattle.mp_relaxed.proofs.SearchLemmas.{greater-none, none_served, served_kept, served_popped}
 
 -- at least so many
 

@@ -9,15 +9,16 @@ use Rattle.mp_sets.specs.Numbers.{Numbers}
 use Rattle.mp_sets.proofs.NumbersLemmas.{All_at}
 use Rattle.mp_sets.proofs.SetLemmas.{contains-numbers_below}
 use Rattle.mp_task.specs.Strips.{Operator}
-use Rattle.mp_estimates.specs.Estimates.{AtMost, lesser}
-use Rattle.mp_relaxed.specs.Values.{Values, cost_by, adds, least_cost, next_values, after_rounds, fact_values}
+use Rattle.mp_estimates.specs.Estimates.{AtMost, lesser, Values}
+use Rattle.mp_relaxed.specs.Values.{cost_by, adds, least_cost, next_values, after_rounds, fact_values}
 use Rattle.mp_relaxed.specs.Relaxed.{RelaxedProblem, operator_at, state_of, without_deletes}
-use Rattle.mp_relaxed.specs.Search.{unknown, known, number_at, value_at, capped, IsServed, AreLow, AreBelow, AreValues}
+use Rattle.mp_estimates.specs.Lowering.{unknown, known, number_at, value_at, AreBelow}
+use Rattle.mp_relaxed.specs.Search.{capped, IsServed, AreLow, AreValues}
 use Rattle.mp_estimates.specs.Laws.Order.{AtMost-refl, AtMost-trans, AtMost-antisym, zero_AtMost}
 use Rattle.mp_relaxed.specs.Laws.Equations.{cost_by-mono, least_below, least_above}
 use Rattle.mp_relaxed.specs.Laws.Rounds.{first_round, next_round, settled}
 use Rattle.mp_relaxed.specs.Laws.Bounds.{Below, cost-Below, rounds-Below, start_zero}
-use Rattle.mp_relaxed.proofs.SearchLemmas.{known-some}
+use Rattle.mp_estimates.proofs.LoweringLemmas.{known-some}
 
 -- deletes make no difference
 

@@ -1,5 +1,5 @@
--- rows, users and operators in arrays; the projected problem; entries of the queue, numbers and the queue; counts of open
--- preconditions, and of those that are not settled; what is found
+-- rows, users and operators in arrays; the projected problem; entries of the queue; numbers and the queue; counts of open
+-- preconditions, and of those that are not settled; what is found, and found again
 pub mod RowLemmas
 pub mod TimesLemmas
 pub mod UserLemmas
@@ -7,8 +7,8 @@ pub mod ZippedLemmas
 pub mod ProjectedLemmas
 pub mod PlaceLemmas
 pub mod QueueLemmas
-pub mod ProperLemmas
 pub mod SearchLemmas
 pub mod CountLemmas
 pub mod SettledLemmas
 pub mod Found
+pub mod AgainLemmas

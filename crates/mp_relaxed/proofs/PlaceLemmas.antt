@@ -8,7 +8,8 @@ use Rattle.std.proofs.lemmas.List.Sorted.{IsPermutation-middle, IsPermutation-sy
 use Rattle.std.specs.List.Sorted.{IsPermutation}
 use Rattle.std.specs.declared.vec.Vec.{Vec}
 use Rattle.mp_relaxed.specs.Places.{placed, AreEmpty, AreEmptyWithin}
-use Rattle.mp_relaxed.specs.Search.{Key, key, AreFrom}
+use Rattle.mp_estimates.specs.Lowering.{Key, key}
+use Rattle.mp_relaxed.specs.Search.{AreFrom}
 
 module _ {Z : Type 0} where
   -- one fact more in a row is one entry more

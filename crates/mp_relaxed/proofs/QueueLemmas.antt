@@ -11,7 +11,8 @@ use Rattle.std.specs.declared.cmp.Ordering.{Ordering}
 use Rattle.std.specs.declared.cmp.Ordering.TheVariants.{Less, Equal, Greater}
 use Rattle.std.specs.declared.cmp.Reverse.{Reverse}
 use Rattle.mp_relaxed.specs.Queue.{from_low}
-use Rattle.mp_relaxed.specs.Search.{Key, AreFrom}
+use Rattle.mp_estimates.specs.Lowering.{Key}
+use Rattle.mp_relaxed.specs.Search.{AreFrom}
 
 first_not_less : (a b : Ordering) → is_lt (ordering_then a b) ≡ false → is_lt a ≡ false
 first_not_less Less b e = e

@@ -1,18 +1,17 @@
 -- Numbers and the queue in the search.
-use Rattle.std.proofs.Common.{◌≡◌, ◌≢◌, ℕ, zero, suc, ◌+◌, ◌<◌, ◌≤◌, true, cond, max, Option, Some, None, option_map, List, [], ◌∷◌, length, get_or, All, Contains, refl, sym, ap, ◌∙◌, subst, ⊎_elim, get_or-set_same, get_or-set_other, arith}
+use Rattle.std.proofs.Common.{◌≡◌, ◌≢◌, ℕ, zero, suc, ◌+◌, ◌<◌, ◌≤◌, true, max, Option, Some, None, option_map, List, [], ◌∷◌, length, get_or, All, Contains, refl, sym, ap, ◌∙◌, subst, ⊎_elim, get_or-set_other, arith}
 use Rattle.std.proofs.Math.ListN.{set as set_at}
-use Rattle.std.proofs.lemmas.Bool.{cases_eq, lt-ltb, le-ltb, cases_lt}
-use Rattle.std.proofs.lemmas.List.{length-set}
-use Rattle.std.proofs.lemmas.List.Elements.{All-cons, All-head, All-tail, Contains-append_right, Contains-append_left, Contains-append_cases}
-use Rattle.std.proofs.lemmas.List.Sums.{sum_by-set}
-use Rattle.std.proofs.lemmas.List.Sorted.{All-permutation, Contains-permutation, IsPermutation-sym, length_permutation, sum_by_pushed}
+use Rattle.std.proofs.lemmas.Bool.{cases_lt}
+use Rattle.std.proofs.lemmas.List.Elements.{All-cons, Contains-append_cases}
+use Rattle.std.proofs.lemmas.List.Sorted.{All-permutation, Contains-permutation, IsPermutation-sym}
 use Rattle.std.specs.List.Sorted.{IsPermutation}
 use Rattle.mp_task.specs.Strips.{Operator}
-use Rattle.mp_estimates.specs.Estimates.{AtMost, greater}
-use Rattle.mp_relaxed.specs.Values.{Values, greatest, cost_by, adds}
+use Rattle.mp_estimates.specs.Estimates.{AtMost, greater, Values}
+use Rattle.mp_estimates.proofs.LoweringLemmas.{known-none, known-some, known-mono, popped_quiet, none_at}
+use Rattle.mp_relaxed.specs.Values.{greatest, cost_by, adds}
 use Rattle.mp_relaxed.specs.Relaxed.{operator_at}
-use Rattle.mp_relaxed.specs.Search.{unknown, known, number_at, value_at, Key, key, Waits, HaveFallen, HaveStayed, IsProper, entries, capped, IsServed, AreLow, AreBelow}
-use Rattle.mp_relaxed.proofs.ProperLemmas.{mark_of, mark_same, mark_other_fact, entries_none}
+use Rattle.mp_estimates.specs.Lowering.{unknown, known, number_at, value_at, Key, key, HaveFallen, AreBelow}
+use Rattle.mp_relaxed.specs.Search.{HaveStayed, capped, IsServed, AreLow}
 use Rattle.mp_relaxed.specs.Laws.Equations.{cost_by-mono}
 use Rattle.mp_estimates.specs.Laws.Order.{AtMost-refl, AtMost-trans}
 
@@ -36,18 +35,6 @@ pub zero-greater : (a : Option ℕ) → greater a (Some 0) ≡ a
 zero-greater None = refl
 zero-greater (Some m) = let e : max m 0 ≡ m = omega arith in ap Some e
 
-pub known-none : (n : ℕ) → unknown ≤ n → known n ≡ None
-known-none n h = ap (λ b. cond b (Some n) None) (le-ltb n unknown h)
-
-pub known-some : (n : ℕ) → n < unknown → known n ≡ Some n
-known-some n h = ap (λ b. cond b (Some n) None) (lt-ltb n unknown h)
-
-pub known-mono : (m n : ℕ) → m ≤ n → AtMost (known m) (known n)
-known-mono m n le = ⊎_elim
-    (λ h. subst (AtMost (known m)) (sym (known-some n h)) (subst (λ a. AtMost a (Some n)) (sym (known-some m (omega arith))) le))
-    (λ h. subst (AtMost (known m)) (sym (known-none n h)) tt)
-    (cases_lt n unknown)
-
 pub known-max : (m n : ℕ) → known (max m n) ≡ greater (known m) (known n)
 known-max m n = ⊎_elim
     (λ h. ⊎_elim
@@ -61,33 +48,6 @@ pub greatest_step : (numbers : List ℕ) (x most : ℕ) (rest : List ℕ) (whole
 greatest_step numbers x most rest whole e =
     ap (λ a. greater a (greatest (value_at numbers) rest)) (known-max most (number_at numbers x))
     ∙ greater-assoc (known most) (value_at numbers x) (greatest (value_at numbers) rest) ∙ e
-
--- numbers that fall
-
-pub fallen_refl : (numbers : List ℕ) (queue : List Key) → HaveFallen numbers queue numbers queue
-fallen_refl numbers queue = record {
-  as_many = refl;
-  lower = λ x. omega arith;
-  quiet = λ x h. (refl, h);
-  inside = λ h. h;
-  lighter = omega arith;
-  proper = λ h. h;
-}
-
-pub fallen_trans : (a : List ℕ) (p : List Key) (b : List ℕ) (q : List Key) (c : List ℕ) (r : List Key) → HaveFallen a p b q → HaveFallen b q c r → HaveFallen a p c r
-fallen_trans a p b q c r h k = record {
-  as_many = k.as_many ∙ h.as_many;
-  lower = λ x. let one = h.lower x in let two = k.lower x in omega arith;
-  quiet = λ x still.
-      let two = k.quiet x still in
-      let one = h.quiet x two.1 in
-      (two.0 ∙ one.0, one.1);
-  inside = λ all.
-      subst (λ n. All (λ (e : Key). e.1 < n) r) h.as_many
-      (k.inside (subst (λ n. All (λ (e : Key). e.1 < n) q) (sym h.as_many) (h.inside all)));
-  lighter = let one = h.lighter in let two = k.lighter in omega arith;
-  proper = λ all. k.proper (h.proper all);
-}
 
 -- numbers that stay
 
@@ -111,81 +71,16 @@ stayed_trans n a p b q c r h k = record {
 
 -- a number has been lowered, and its fact waits
 
-module _ (numbers : List ℕ) (queue after : List Key) (x cost : ℕ) (within : x < length numbers) (less : cost < number_at numbers x) (pushed : IsPermutation (key cost x ∷ queue) after) where
-  same_at : number_at (set_at numbers x cost) x ≡ cost
-  same_at = get_or-set_same numbers x cost unknown within
-
-  other_at : (y : ℕ) → y ≢ x → number_at (set_at numbers x cost) y ≡ number_at numbers y
-  other_at y ne = get_or-set_other numbers x y cost unknown ne
-
-  lower_at : (y : ℕ) → number_at (set_at numbers x cost) y ≤ number_at numbers y
-  lower_at y = ⊎_elim
-      (λ e. subst (λ z. number_at (set_at numbers x cost) z ≤ number_at numbers z) (sym e) (let same = same_at in omega arith))
-      (λ ne. let same = other_at y ne in omega arith)
-      (cases_eq y x)
-
-  new_waits : Waits (set_at numbers x cost) after x
-  new_waits =
-      subst (λ n. Contains after (key n x)) (sym same_at)
-      (Contains-permutation (key cost x ∷ queue) after (key cost x) pushed (Contains-append_left (key cost x ∷ []) queue (key cost x) (0, (let h : 0 < 1 = omega arith in h), refl)))
-
-  quiet_at : (y : ℕ) → ¬ Waits (set_at numbers x cost) after y → (number_at (set_at numbers x cost) y ≡ number_at numbers y) × ¬ Waits numbers queue y
-  quiet_at y still = ⊎_elim
-      (λ e. absurd (still (subst (Waits (set_at numbers x cost) after) (sym e) new_waits)))
-      (λ ne. (
-        other_at y ne,
-        λ waits. still (subst (λ n. Contains after (key n y)) (sym (other_at y ne))
-            (Contains-permutation (key cost x ∷ queue) after (key (number_at numbers y) y) pushed (Contains-append_right (key cost x ∷ []) queue (key (number_at numbers y) y) waits))),
-      ))
-      (cases_eq y x)
-
-  proper_at : IsProper numbers queue → IsProper (set_at numbers x cost) after
-  proper_at proper = record {
-    current =
-        All-permutation (λ (k : Key). number_at (set_at numbers x cost) k.1 ≤ k.0) (key cost x ∷ queue) after pushed
-        (All-cons (λ (k : Key). number_at (set_at numbers x cost) k.1 ≤ k.0) (key cost x) queue (let same = same_at in omega arith)
-        (λ i d lt.
-        let before = proper.current i d lt in
-        let fell = lower_at (get_or queue i d).1 in
-        omega arith));
-    once = λ y. ⊎_elim
-        (λ e. subst (λ z. entries (number_at (set_at numbers x cost) z) z after ≤ 1) (sym e)
-        (subst (λ n. entries n x after ≤ 1) (sym same_at)
-        (let sum = sum_by_pushed (mark_of cost x) (key cost x) queue after pushed in
-        let mark = mark_same cost x in
-        let none = entries_none cost x queue (λ i d lt at. let before = proper.current i d lt in let same = ap (number_at numbers) at in omega arith) in
-        omega arith)))
-        (λ ne. subst (λ n. entries n y after ≤ 1) (sym (other_at y ne))
-        (let sum = sum_by_pushed (mark_of (number_at numbers y) y) (key cost x) queue after pushed in
-        let mark = mark_other_fact (number_at numbers y) y (key cost x) (λ e. ne (sym e)) in
-        let one = proper.once y in
-        omega arith))
-        (cases_eq y x);
-  }
-
-  pub fallen_one : HaveFallen numbers queue (set_at numbers x cost) after
-  fallen_one = record {
-    as_many = length-set numbers x cost;
-    lower = lower_at;
-    quiet = quiet_at;
-    inside = λ all. All-permutation (λ (e : Key). e.1 < length numbers) (key cost x ∷ queue) after pushed (All-cons (λ (e : Key). e.1 < length numbers) (key cost x) queue within all);
-    lighter =
-        let sums = sum_by-set (λ n. n) numbers x cost unknown within in
-        let long : length after ≡ length (key cost x ∷ queue) = length_permutation (key cost x ∷ queue) after pushed in
-        let more : length (key cost x ∷ queue) ≡ length queue + 1 = omega arith in
-        omega arith;
-    proper = proper_at;
-  }
-
+module _ (numbers : List ℕ) (queue after : List Key) (x cost : ℕ) (less : cost < number_at numbers x) (pushed : IsPermutation (key cost x ∷ queue) after) where
   stays_at : (n : ℕ) → n ≤ cost → (y : ℕ) → number_at numbers y ≤ n → y ≢ x
   stays_at n le y low e = let same = ap (number_at numbers) e in absurd (omega arith)
 
   pub stayed_one : (n : ℕ) → n ≤ cost → HaveStayed n numbers queue (set_at numbers x cost) after
   stayed_one n le = record {
-    same = λ y low. other_at y (stays_at n le y low);
+    same = λ y low. get_or-set_other numbers x y cost unknown (stays_at n le y low);
     calm = λ y low still waits. ⊎_elim
         (λ here. stays_at n le y low (at_x y here))
-        (λ later. still (subst (λ m. Contains queue (key m y)) (other_at y (stays_at n le y low)) later))
+        (λ later. still (subst (λ m. Contains queue (key m y)) (get_or-set_other numbers x y cost unknown (stays_at n le y low)) later))
         (Contains-append_cases (key cost x ∷ []) queue (key (number_at (set_at numbers x cost) y) y)
         (Contains-permutation after (key cost x ∷ queue) (key (number_at (set_at numbers x cost) y) y) (IsPermutation-sym (key cost x ∷ queue) after pushed) waits));
     above = λ all. All-permutation (λ (k : Key). n ≤ k.0) (key cost x ∷ queue) after pushed (All-cons (λ (k : Key). n ≤ k.0) (key cost x) queue le all);
@@ -194,13 +89,6 @@ module _ (numbers : List ℕ) (queue after : List Key) (x cost : ℕ) (within : 
       at_x : (y : ℕ) → Contains (key cost x ∷ []) (key (number_at (set_at numbers x cost) y) y) → y ≡ x
       at_x y (zero, lt, e) = sym (ap (λ (k : Key). k.1) e)
       at_x y (suc i, lt, e) = absurd (omega arith)
-
--- values below those of numbers that have fallen at one place stay below where the new one is no lower
-pub below_one : (numbers : List ℕ) (x cost : ℕ) (values : Values) → x < length numbers → AtMost (values x) (known cost) → AreBelow values numbers → AreBelow values (set_at numbers x cost)
-below_one numbers x cost values within low below = λ y. ⊎_elim
-    (λ e. subst (λ z. AtMost (values z) (value_at (set_at numbers x cost) z)) (sym e) (subst (λ n. AtMost (values x) (known n)) (sym (get_or-set_same numbers x cost unknown within)) low))
-    (λ ne. subst (λ n. AtMost (values y) (known n)) (sym (get_or-set_other numbers x y cost unknown ne)) (below y))
-    (cases_eq y x)
 
 capped-mono : (a b : Option ℕ) → AtMost a b → AtMost (capped a) (capped b)
 capped-mono a None h = tt
@@ -256,35 +144,11 @@ low_cost os numbers values k x most cost low below within adding e less is =
 
 -- what is left of the queue when an entry has gone
 
-pub popped_quiet : (numbers : List ℕ) (queue rest : List Key) (cost x y : ℕ) → IsPermutation queue (key cost x ∷ rest) → (y ≡ x → number_at numbers y ≡ cost → ⊥) → ¬ Waits numbers rest y → ¬ Waits numbers queue y
-popped_quiet numbers queue rest cost x y popped other still waits = ⊎_elim
-    (λ here. other (at_x here) (at_cost here))
-    (λ later. still later)
-    (Contains-append_cases (key cost x ∷ []) rest (key (number_at numbers y) y) (Contains-permutation queue (key cost x ∷ rest) (key (number_at numbers y) y) popped waits))
-  where
-    same : Contains (key cost x ∷ []) (key (number_at numbers y) y) → key cost x ≡ key (number_at numbers y) y
-    same (zero, lt, e) = e
-    same (suc k, lt, e) = absurd (omega arith)
-
-    at_x : Contains (key cost x ∷ []) (key (number_at numbers y) y) → y ≡ x
-    at_x h = sym (ap (λ (e : Key). e.1) (same h))
-
-    at_cost : Contains (key cost x ∷ []) (key (number_at numbers y) y) → number_at numbers y ≡ cost
-    at_cost h = sym (ap (λ (e : Key). e.0) (same h))
-
 pub served_popped : (os : List Operator) (numbers : List ℕ) (queue rest : List Key) (cost x k : ℕ) → IsPermutation queue (key cost x ∷ rest) → All (λ y. y ≡ x → number_at numbers y ≡ cost → ⊥) (operator_at os k).pre → IsServed os numbers queue k → IsServed os numbers rest k
 served_popped os numbers queue rest cost x k popped other served quiet =
     served (λ i e lt. popped_quiet numbers queue rest cost x _ popped (other i e lt) (quiet i e lt))
 
 -- before a search
-
-pub none_at : (numbers : List ℕ) → All (λ n. n ≡ unknown) numbers → (x : ℕ) → number_at numbers x ≡ unknown
-none_at [] h x = refl
-none_at (n ∷ numbers) h zero = All-head (λ n. n ≡ unknown) n numbers h
-none_at (n ∷ numbers) h (suc x) = none_at numbers (All-tail (λ n. n ≡ unknown) n numbers h) x
-
-pub all_below : (values : Values) (numbers : List ℕ) → All (λ n. n ≡ unknown) numbers → AreBelow values numbers
-all_below values numbers none = λ x. subst (λ n. AtMost (values x) (known n)) (sym (none_at numbers none x)) tt
 
 pub begin_served : (os : List Operator) (numbers : List ℕ) (queue : List Key) (k y : ℕ) (ys : List ℕ) → All (λ n. n ≡ unknown) numbers → (operator_at os k).pre ≡ y ∷ ys → IsServed os numbers queue k
 begin_served os numbers queue k y ys none e =

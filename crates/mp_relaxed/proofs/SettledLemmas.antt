@@ -8,10 +8,11 @@ use Rattle.mp_task.specs.Strips.{Operator}
 use Rattle.mp_estimates.specs.Estimates.{greater}
 use Rattle.mp_relaxed.specs.Values.{greatest}
 use Rattle.mp_relaxed.specs.Relaxed.{operator_at}
-use Rattle.mp_relaxed.specs.Search.{known, number_at, value_at, Key, key, Waits, AreFrom, IsSettled, AllBut, CountUnsettled, IsProper, HaveStayed, IsMost, count_at, AreLowered}
+use Rattle.mp_estimates.specs.Lowering.{known, number_at, value_at, Key, key, Waits, IsProper}
+use Rattle.mp_relaxed.specs.Search.{AreFrom, IsSettled, AllBut, CountUnsettled, HaveStayed, IsMost, count_at, AreLowered}
 use Rattle.mp_relaxed.specs.Search.AllBut.{empty, such, spared}
 use Rattle.mp_relaxed.specs.Users.{times}
-use Rattle.mp_relaxed.proofs.ProperLemmas.{waits_no_more}
+use Rattle.mp_estimates.proofs.ProperLemmas.{waits_no_more}
 use Rattle.mp_relaxed.proofs.SearchLemmas.{greater-assoc, zero-greater, known-max}
 
 -- all but so many

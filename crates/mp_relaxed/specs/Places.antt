@@ -2,7 +2,7 @@
 use Rattle.std.specs.Prelude.{◌≡◌, ℕ, ◌+◌, ◌<◌, ◌≤◌, List, [], ◌∷◌, ◌++◌, All, length, map, slice_index_or}
 use Rattle.std.specs.declared.vec.Vec.{Vec}
 use Rattle.mp_relaxed.specs.declared.places.Places.TheInside.{Inside}
-use Rattle.mp_relaxed.specs.Search.{Key}
+use Rattle.mp_estimates.specs.Lowering.{Key}
 
 module _ {Z : Type 0} where
   -- the facts of rows, each with the number of its row, from a first number on

@@ -5,7 +5,7 @@ use Rattle.std.specs.Ordering.{nat_cmp, ordering_then}
 use Rattle.std.specs.declared.cmp.Ordering.{Ordering}
 use Rattle.std.specs.declared.cmp.Reverse.{Reverse}
 use Rattle.mp_relaxed.specs.declared.queue.Queue.TheInside.{Inside}
-use Rattle.mp_relaxed.specs.Search.{Key}
+use Rattle.mp_estimates.specs.Lowering.{Key}
 
 -- how the heap compares entries: a greater one has a lower number
 abbrev pub from_low : Reverse Key → Reverse Key → Ordering

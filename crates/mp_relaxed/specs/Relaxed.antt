@@ -1,5 +1,5 @@
 -- The delete relaxation of an agent's projected problem (Bonet and Geffner): nothing becomes false.
-use Rattle.std.specs.Prelude.{◌≡◌, ℕ, ◌+◌, ◌-◌, ◌<◌, nat_lt, List, [], ◌∷◌, length, map, slice_index_or, slice_set, All, Contains, if◌then◌else◌}
+use Rattle.std.specs.Prelude.{◌≡◌, ℕ, ◌+◌, ◌-◌, ◌<◌, ◌≤◌, nat_lt, List, [], ◌∷◌, length, map, slice_index_or, slice_set, All, Contains, if◌then◌else◌}
 use Rattle.std.specs.FinSet as set
 use Rattle.mp_sets.specs.Numbers.{Numbers, numbers_below}
 use Rattle.mp_task.specs.AgentTask.{AgentTask}
@@ -53,6 +53,18 @@ cheaper by o = record o { cost = o.cost - by }
 -- operators of which one costs so much less
 abbrev pub with_cheaper : ℕ → ℕ → List Operator → List Operator
 with_cheaper k by operators = slice_set operators k (cheaper by (operator_at operators k))
+
+-- Operators after some got cheaper, whose numbers a list has: all else of them is as it was.
+pub record AreCheaper (before after : List Operator) (numbers : List ℕ) : Type 0 where
+  pub as_many : length after ≡ length before
+  pub needed : (k : ℕ) → (operator_at after k).pre ≡ (operator_at before k).pre
+  pub added : (k : ℕ) → (operator_at after k).add ≡ (operator_at before k).add
+  pub lower : (k : ℕ) → (operator_at after k).cost ≤ (operator_at before k).cost
+  pub same :
+      (k : ℕ)
+      → k < length after
+      → ¬ Contains numbers k
+      → (operator_at after k).cost ≡ (operator_at before k).cost
 
 -- a list of numbers of operators has each operator as often as it adds a fact
 abbrev pub HasAdders : List Operator → ℕ → List ℕ → Type 0

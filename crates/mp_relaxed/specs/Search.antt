@@ -1,37 +1,13 @@
 -- What a search for the values of facts has: a number for each fact, a queue of facts whose number has changed, and for
 -- each operator a count of preconditions that are open.
-use Rattle.std.specs.Prelude.{◌≡◌, ℕ, ◌+◌, ◌-◌, ◌*◌, ◌<◌, ◌≤◌, ◌==◌, ◌&&◌, nat_lt, Option, Some, None, List, [], ◌∷◌, length, sum, slice_index_or, All, Contains, IsTrue, if◌then◌else◌}
-use Rattle.std.specs.List.{count_by}
+use Rattle.std.specs.Prelude.{◌≡◌, ℕ, ◌+◌, ◌-◌, ◌<◌, ◌≤◌, Option, Some, None, List, [], ◌∷◌, length, slice_index_or, All, IsTrue}
 use Rattle.mp_sets.specs.Numbers.{Numbers}
 use Rattle.mp_task.specs.Strips.{Operator}
-use Rattle.mp_estimates.specs.Estimates.{AtMost}
-use Rattle.mp_relaxed.specs.Values.{Values, cost_by, adds, fact_values, greatest}
+use Rattle.mp_estimates.specs.Estimates.{AtMost, Values}
+use Rattle.mp_estimates.specs.Lowering.{unknown, known, number_at, value_at, Key, Waits}
+use Rattle.mp_relaxed.specs.Values.{cost_by, adds, fact_values, greatest}
 use Rattle.mp_relaxed.specs.Relaxed.{RelaxedProblem, operator_at, state_of}
 use Rattle.mp_relaxed.specs.Users.{times}
-
--- numbers from this one on stand for none
-abbrev pub unknown : ℕ
-unknown = 18446744073709551615
-
-abbrev pub known : ℕ → Option ℕ
-known n = if nat_lt n unknown then Some n else None
-
-abbrev pub number_at : List ℕ → ℕ → ℕ
-number_at numbers x = slice_index_or numbers x unknown
-
-abbrev pub value_at : List ℕ → Values
-value_at numbers x = known (number_at numbers x)
-
--- a number and the fact that has it
-abbrev pub Key : Type 0
-Key = ℕ × ℕ
-
-abbrev pub key : ℕ → ℕ → Key
-key n x = (n, x)
-
--- a fact waits in the queue with the number that it has now
-abbrev pub Waits : List ℕ → List Key → ℕ → Type 0
-Waits numbers queue x = Contains queue (key (number_at numbers x) x)
 
 -- a fact is open: it waits, or it has no number
 abbrev pub IsOpen : List ℕ → List Key → ℕ → Type 0
@@ -75,15 +51,6 @@ CountUnsettled operators numbers queue counts =
     → k < length operators
     → AllBut (IsSettled numbers queue) (operator_at operators k).pre (count_at counts k)
 
--- how often a queue has an entry
-abbrev pub entries : ℕ → ℕ → List Key → ℕ
-entries n x queue = count_by (λ (k : Key). (k.0 == n) && (k.1 == x)) queue
-
--- No entry is less than its fact's number, and none that has it stands twice.
-pub record IsProper (numbers : List ℕ) (queue : List Key) : Type 0 where
-  pub current : All (λ (k : Key). number_at numbers k.1 ≤ k.0) queue
-  pub once : (x : ℕ) → entries (number_at numbers x) x queue ≤ 1
-
 -- numbers up to this one have stayed, their facts wait only where they did, and what came into the queue is no less
 pub record HaveStayed (n : ℕ) (old : List ℕ) (before : List Key) (new : List ℕ) (after : List Key) : Type 0 where
   pub same : (x : ℕ) → number_at old x ≤ n → number_at new x ≡ number_at old x
@@ -94,24 +61,6 @@ pub record HaveStayed (n : ℕ) (old : List ℕ) (before : List Key) (new : List
 pub record IsMost (n : ℕ) (numbers : List ℕ) (facts : List ℕ) : Type 0 where
   pub at_most : All (λ x. number_at numbers x ≤ n) facts
   pub is : known n ≡ greatest (value_at numbers) facts
-
--- a measure that falls
-abbrev pub weight : List ℕ → List Key → ℕ
-weight numbers queue = 2 * sum numbers + length queue
-
--- Numbers have fallen, and a fact whose number fell waits; a fact that waited waits still.
-pub record HaveFallen (old : List ℕ) (before : List Key) (new : List ℕ) (after : List Key) : Type 0 where
-  pub as_many : length new ≡ length old
-  pub lower : (x : ℕ) → number_at new x ≤ number_at old x
-  pub quiet :
-      (x : ℕ)
-      → ¬ Waits new after x
-      → (number_at new x ≡ number_at old x) × ¬ Waits old before x
-  pub inside :
-      All (λ (k : Key). k.1 < length old) before
-      → All (λ (k : Key). k.1 < length old) after
-  pub lighter : weight new after ≤ weight old before
-  pub proper : IsProper old before → IsProper new after
 
 -- numbers beyond the greatest that a program has are as none
 abbrev pub capped : Option ℕ → Option ℕ
@@ -133,10 +82,6 @@ AreLow operators values =
     → k < length operators
     → IsTrue (adds (operator_at operators k) x)
     → AtMost (values x) (cost_by values (operator_at operators k))
-
--- values are at most those of numbers
-abbrev pub AreBelow : Values → List ℕ → Type 0
-AreBelow values numbers = (x : ℕ) → AtMost (values x) (value_at numbers x)
 
 -- numbers are the values of facts for a state, of which the public and the private facts are given
 abbrev pub AreValues : RelaxedProblem → Numbers → Numbers → List ℕ → Type 0

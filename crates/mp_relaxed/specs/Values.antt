@@ -4,11 +4,7 @@ use Rattle.std.specs.FinSet as set
 use Rattle.std.specs.List.{list_any}
 use Rattle.mp_sets.specs.Numbers.{Numbers}
 use Rattle.mp_task.specs.Strips.{Operator}
-use Rattle.mp_estimates.specs.Estimates.{AtMost, lesser, greater}
-
--- a value for each fact
-abbrev pub Values : Type 0
-Values = ℕ → Option ℕ
+use Rattle.mp_estimates.specs.Estimates.{AtMost, lesser, greater, Values}
 
 -- the greatest value of some facts: 0 without any, and none where one of them has none
 abbrev pub greatest : Values → List ℕ → Option ℕ

@@ -2,7 +2,8 @@
 
 ghost use Rattle.std.specs.Prelude.{◌≡◌, ◌<◌, ◌≤◌, [], ◌∷◌, IfNone, IfOk, IfSome, IsPermutation, OnOk, length, vec_len};
 ghost use Rattle.mp_relaxed.specs.Places.{AreEmpty, AreEmptyWithin, HasFact};
-ghost use Rattle.mp_relaxed.specs.Search.{AreFrom, key};
+ghost use Rattle.mp_estimates.specs.Lowering.{key};
+ghost use Rattle.mp_relaxed.specs.Search.{AreFrom};
 
 use mp_list::OutOfMemory;
 use std::alloc::Global;
@@ -62,7 +63,7 @@ pub(crate) struct Places {
 impl Model for Places {
     ghost use Rattle.std.specs.Prelude.{List};
     ghost use Rattle.mp_relaxed.specs.Places.{AreRows, place_entries};
-    ghost use Rattle.mp_relaxed.specs.Search.{Key};
+    ghost use Rattle.mp_estimates.specs.Lowering.{Key};
 
     ghost Value = { List Key };
 

@@ -1,7 +1,8 @@
 //! Facts that wait with their numbers.
 
 ghost use Rattle.std.specs.Prelude.{◌≡◌, [], ◌∷◌, IfNone, IfOk, IfSome, OnOk, IsPermutation};
-ghost use Rattle.mp_relaxed.specs.Search.{AreFrom, key};
+ghost use Rattle.mp_estimates.specs.Lowering.{key};
+ghost use Rattle.mp_relaxed.specs.Search.{AreFrom};
 
 use crate::places::{Places, ROWS};
 use mp_list::OutOfMemory;
@@ -21,7 +22,7 @@ pub(crate) struct Queue {
 impl Model for Queue {
     ghost use Rattle.std.specs.Prelude.{List};
     ghost use Rattle.mp_relaxed.specs.Queue.{IsInOrder, queue_entries};
-    ghost use Rattle.mp_relaxed.specs.Search.{Key};
+    ghost use Rattle.mp_estimates.specs.Lowering.{Key};
 
     ghost Value = { List Key };
 

@@ -3,7 +3,7 @@
 ghost use Rattle.std.specs.Prelude.{◌≡◌, ◌<◌, ◌≤◌, ◌+◌, ◌^◌, ◌++◌, ◌∷◌, [], All, length, vec_len, slice_index_or, IfOk, OnOk};
 ghost use Rattle.mp_task.specs.Projected.{facts_of};
 
-use mp_list::OutOfMemory;
+use mp_list::{OutOfMemory, to_u32};
 use mp_sets::FactList;
 use std::alloc::Global;
 use std::marker::Model;
@@ -76,12 +76,8 @@ impl Rows {
     pub(crate) fn push(&mut self, row: &[u32]) -> Result<(), OutOfMemory>
         ensures { OnOk result (self.new ≡ self.old ++ row.now ∷ []) }
     {
-        let Ok(start) = u32::try_from(self.items.len()) else {
-            return Err(OutOfMemory);
-        };
-        let Ok(len) = u32::try_from(row.len()) else {
-            return Err(OutOfMemory);
-        };
+        let start = to_u32(self.items.len())?;
+        let len = to_u32(row.len())?;
         self.items.extend_from_slice(row)?;
         self.rows.push(Row { start, len })?;
         Ok(())
@@ -99,13 +95,9 @@ impl Rows {
         ensures { OnOk result (self.new ≡ self.old ++ facts_of publics pub_facts.now priv_facts.now ∷ []) }
     {
         let before = self.items.len();
-        let Ok(start) = u32::try_from(before) else {
-            return Err(OutOfMemory);
-        };
+        let start = to_u32(before)?;
         gather(&mut self.items, publics, pub_facts, priv_facts)?;
-        let Ok(len) = u32::try_from(self.items.len() - before) else {
-            return Err(OutOfMemory);
-        };
+        let len = to_u32(self.items.len() - before)?;
         self.rows.push(Row { start, len })?;
         Ok(())
     }

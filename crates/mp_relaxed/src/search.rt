@@ -1,11 +1,14 @@
 //! The search for the values of facts, those of the least cost first (Dijkstra 1959; Knuth 1977).
 
-ghost use Rattle.std.specs.Prelude.{◌≡◌, ℕ, ◌<◌, ◌≤◌, ◌+◌, ◌^◌, [], ◌∷◌, All, Contains, length, vec_len, IfOk, OnOk, IsTrue, Some};
+ghost use Rattle.std.specs.Prelude.{◌≡◌, ℕ, ◌<◌, ◌≤◌, ◌+◌, ◌^◌, [], ◌∷◌, All, Contains, List, length, vec_len, IfOk, OnOk, IsTrue, Some};
 ghost use Rattle.std.specs.FinSet as set;
-ghost use Rattle.mp_estimates.specs.Estimates.{AtMost};
-ghost use Rattle.mp_relaxed.specs.Values.{Values, greatest};
-ghost use Rattle.mp_relaxed.specs.Relaxed.{AreAllFree, operator_at};
-ghost use Rattle.mp_relaxed.specs.Search.{AreBelow, AreLow, AreLowered, AreValues, HaveFallen, HaveStayed, IsMost, IsOpen, IsProper, IsServed, Key, count_at, known, number_at, unknown, value_at};
+ghost use Rattle.mp_sets.specs.Numbers.{Numbers};
+ghost use Rattle.mp_task.specs.Strips.{Operator};
+ghost use Rattle.mp_estimates.specs.Estimates.{AtMost, Values};
+ghost use Rattle.mp_relaxed.specs.Values.{greatest};
+ghost use Rattle.mp_relaxed.specs.Relaxed.{AreCheaper, operator_at};
+ghost use Rattle.mp_estimates.specs.Lowering.{AreBelow, HaveFallen, IsProper, Key, known, number_at, unknown, value_at};
+ghost use Rattle.mp_relaxed.specs.Search.{AreLow, AreLowered, AreValues, HaveStayed, IsMost, IsOpen, IsServed, count_at};
 ghost use Rattle.mp_relaxed.specs.Users.{times};
 
 use crate::queue::Queue;
@@ -74,15 +77,35 @@ fn relax(
     Ok(())
 }
 
-/// Relaxes some operators without preconditions, one after another.
-fn relax_free(
+/// Relaxes an operator from the numbers that its preconditions have.
+fn relax_now(
+    problem: &Relaxed,
+    k: u32,
+    numbers: &mut Vec<u64>,
+    queue: &mut Queue,
+) -> Result<(), OutOfMemory>
+    requires operator { k < length problem.now.operators }
+    requires sized { vec_len numbers.old ≡ problem.now.facts }
+    ensures fallen { OnOk result (HaveFallen numbers.old.items queue.old
+        numbers.new.items queue.new) }
+    ensures served { OnOk result
+        (IsServed problem.now.operators numbers.new.items queue.new k) }
+    ensures below { OnOk result ((values : Values) → AreLow problem.now.operators values
+        → AreBelow values numbers.old.items → AreBelow values numbers.new.items) }
+    ensures len { vec_len numbers.new ≡ vec_len numbers.old }
+{
+    let most = greatest_of(numbers.as_slice(), problem.pre(k));
+    relax(problem, k, most, numbers, queue)
+}
+
+/// Relaxes some operators, one after another.
+fn relax_each(
     problem: &Relaxed,
     operators: &[u32],
     numbers: &mut Vec<u64>,
     queue: &mut Queue,
 ) -> Result<(), OutOfMemory>
     requires operators { All (λ k. k < length problem.now.operators) operators.now }
-    requires free { AreAllFree problem.now.operators operators.now }
     requires sized { vec_len numbers.old ≡ problem.now.facts }
     ensures fallen { OnOk result (HaveFallen numbers.old.items queue.old
         numbers.new.items queue.new) }
@@ -93,7 +116,7 @@ fn relax_free(
     ensures len { vec_len numbers.new ≡ vec_len numbers.old }
 {
     for k in operators {
-        relax(problem, *k, 0, numbers, queue)?;
+        relax_now(problem, *k, numbers, queue)?;
     }
     Ok(())
 }
@@ -277,7 +300,7 @@ fn begin(
     queue.clear();
     mark(numbers, queue, publics, 0)?;
     mark(numbers, queue, privates, problem.publics())?;
-    relax_free(problem, problem.free(), numbers, queue)?;
+    relax_each(problem, problem.free(), numbers, queue)?;
     Ok(())
 }
 
@@ -303,5 +326,55 @@ pub(crate) fn find_values(
     let _ = problem.facts();
     begin(problem, publics, privates, numbers, queue)?;
     settle(problem, counters, numbers, queue)?;
+    Ok(())
+}
+
+/// Settles the facts that wait, until none does: each operator that has a settled fact as a precondition is relaxed. In any
+/// order of the queue nothing is missed; in the order of their numbers few facts are settled twice.
+fn settle_again(
+    problem: &Relaxed,
+    numbers: &mut Vec<u64>,
+    queue: &mut Queue,
+) -> Result<(), OutOfMemory>
+    requires sized { vec_len numbers.old ≡ problem.now.facts }
+    requires inside { All (λ (k : Key). k.1 < vec_len numbers.old) queue.old }
+    ensures lower { OnOk result ((x : ℕ) → number_at numbers.new.items x ≤ number_at numbers.old.items x) }
+    ensures served { OnOk result (
+        ((k : ℕ) → k < length problem.now.operators
+        → IsServed problem.now.operators numbers.old.items queue.old k)
+        → (k : ℕ) → k < length problem.now.operators
+        → IsServed problem.now.operators numbers.new.items [] k) }
+    ensures below { OnOk result ((values : Values) → AreLow problem.now.operators values
+        → AreBelow values numbers.old.items → AreBelow values numbers.new.items) }
+    ensures len { vec_len numbers.new ≡ vec_len numbers.old }
+{
+    'pops: while let Some((cost, x)) = queue.pop() {
+        if cost == numbers[x as usize] {
+            relax_each(problem, problem.users(x), numbers, queue)?;
+        }
+    }
+    Ok(())
+}
+
+/// Finds the values of all facts again, where some operators got cheaper since they were found: no other operator lowers a
+/// number, until one of its preconditions has got a lower one.
+pub(crate) fn find_again(
+    problem: &Relaxed,
+    cheaper: &[u32],
+    numbers: &mut Vec<u64>,
+    queue: &mut Queue,
+) -> Result<(), OutOfMemory>
+    requires operators { All (λ k. k < length problem.now.operators) cheaper.now }
+    requires sized { vec_len numbers.old ≡ problem.now.facts }
+    ensures values { OnOk result ((before : List Operator) (publics privates : Numbers)
+        → AreCheaper before problem.now.operators cheaper.now
+        → AreValues (record problem.now { operators = before }) publics privates numbers.old.items
+        → AreValues problem.now publics privates numbers.new.items) }
+    ensures len { vec_len numbers.new ≡ vec_len numbers.old }
+{
+    let _ = problem.operators();
+    queue.clear();
+    relax_each(problem, cheaper, numbers, queue)?;
+    settle_again(problem, numbers, queue)?;
     Ok(())
 }

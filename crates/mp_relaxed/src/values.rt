@@ -1,12 +1,16 @@
 //! The values of facts for one state after another.
 
-ghost use Rattle.std.specs.Prelude.{◌≡◌, ◌<◌, ◌+◌, All, length, IfOk, OnOk};
-ghost use Rattle.mp_relaxed.specs.Search.{AreValues, value_at};
+ghost use Rattle.std.specs.Prelude.{◌≡◌, ◌<◌, ◌+◌, All, List, length, IfOk, OnOk};
+ghost use Rattle.mp_sets.specs.Numbers.{Numbers};
+ghost use Rattle.mp_task.specs.Strips.{Operator};
+ghost use Rattle.mp_estimates.specs.Lowering.{value_at};
+ghost use Rattle.mp_relaxed.specs.Relaxed.{AreCheaper};
+ghost use Rattle.mp_relaxed.specs.Search.{AreValues};
 ghost use Rattle.mp_relaxed.specs.Values.{greatest};
 
 use crate::queue::Queue;
 use crate::relaxed::Relaxed;
-use crate::search::{find_values, greatest_of};
+use crate::search::{find_again, find_values, greatest_of};
 use mp_list::OutOfMemory;
 use mp_sets::Bits;
 use std::alloc::Global;
@@ -69,6 +73,21 @@ impl Search {
             &mut self.numbers,
             &mut self.queue,
         )
+    }
+
+    /// Finds the values of all facts again for the same state, where some operators got cheaper since they were found. Refuses
+    /// only for want of memory.
+    pub fn again(&mut self, problem: &Relaxed, cheaper: &[u32]) -> Result<(), OutOfMemory>
+        requires facts { length self.old.numbers ≡ problem.now.facts }
+        requires operators { All (λ k. k < length problem.now.operators) cheaper.now }
+        ensures values { OnOk result ((before : List Operator) (publics privates : Numbers)
+            → AreCheaper before problem.now.operators cheaper.now
+            → AreValues (record problem.now { operators = before }) publics privates self.old.numbers
+            → AreValues problem.now publics privates self.new.numbers) }
+        ensures operators { self.new.operators ≡ self.old.operators }
+        ensures facts { length self.new.numbers ≡ length self.old.numbers }
+    {
+        find_again(problem, cheaper, &mut self.numbers, &mut self.queue)
     }
 
     /// The numbers of the facts: the greatest one that there is stands for none.

@@ -1,6 +1,6 @@
 -- The order of costs.
-use Rattle.std.proofs.Common.{◌≡◌, ℕ, ◌+◌, ◌≤◌, Bool, true, false, leb, Option, Some, None, option_map, refl, arith}
-use Rattle.std.proofs.lemmas.Bool.{leb-true, le-leb}
+use Rattle.std.proofs.Common.{◌≡◌, ℕ, ◌+◌, ◌-◌, ◌≤◌, Bool, true, false, leb, Option, Some, None, option_map, refl, arith}
+use Rattle.std.proofs.lemmas.Bool.{false≢true, both_ways, leb-true, leb-false, le-leb, lt-leb}
 use Rattle.mp_estimates.specs.Estimates.{AtMost, lesser, greater}
 
 pub AtMost-refl : (a : Option ℕ) → AtMost a a
@@ -78,3 +78,35 @@ AtMost-within (Some m) (Some n) h = leb-true m n (h n (le-leb n n (omega arith))
 pub within-more : (t u : ℕ) (a : Option ℕ) → t ≤ u → within t a ≡ true → within u a ≡ true
 within-more t u None le k = k
 within-more t u (Some m) le k = let h = leb-true m t k in le-leb m u (omega arith)
+
+-- what is left of a limit after a cost
+pub within-plus : (c t : ℕ) (a : Option ℕ) → within t (option_map (λ h. c + h) a) ≡ true → (c ≤ t) × (within (t - c) a ≡ true)
+within-plus c t None e = absurd (false≢true e)
+within-plus c t (Some m) e = let le = leb-true (c + m) t e in (omega arith, le-leb m (t - c) (omega arith))
+
+pub not_within-plus : (c t : ℕ) (a : Option ℕ) → c ≤ t → within t (option_map (λ h. c + h) a) ≡ false → within (t - c) a ≡ false
+not_within-plus c t None le e = refl
+not_within-plus c t (Some m) le e = let gt = leb-false (c + m) t e in lt-leb m (t - c) (omega arith)
+
+pub within-lesser : (t : ℕ) (a b : Option ℕ) → within t (lesser a b) ≡ true → within t a ≡ false → within t b ≡ true
+within-lesser t None b h k = h
+within-lesser t (Some m) None h k = absurd (both_ways (within t (Some m)) k h)
+within-lesser t (Some m) (Some n) h k =
+    let le = leb-true _ t h in
+    let gt = leb-false m t k in
+    le-leb n t (omega arith)
+
+pub not_within-AtMost : (t : ℕ) (a b : Option ℕ) → AtMost a b → within t a ≡ false → within t b ≡ false
+not_within-AtMost t a b h k = by (within t b) refl
+  where
+    by : (x : Bool) → within t b ≡ x → within t b ≡ false
+    by false e = e
+    by true e = absurd (both_ways (within t a) k (within-AtMost t a b h e))
+
+pub within-greater : (t : ℕ) (a b : Option ℕ) → within t (greater a b) ≡ false → within t a ≡ true → within t b ≡ false
+within-greater t None b h k = absurd (both_ways (within t None) h k)
+within-greater t (Some m) None h k = refl
+within-greater t (Some m) (Some n) h k =
+    let le = leb-true m t k in
+    let gt = leb-false _ t h in
+    lt-leb n t (omega arith)

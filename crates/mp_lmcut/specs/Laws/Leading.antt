@@ -6,9 +6,9 @@ use Rattle.std.specs.List.{list_all}
 use Rattle.std.specs.Option.{is_some}
 use Rattle.mp_sets.specs.Numbers.{Numbers}
 use Rattle.mp_task.specs.Strips.{Operator}
-use Rattle.mp_estimates.specs.Estimates.{AtMost, greater}
+use Rattle.mp_estimates.specs.Estimates.{AtMost, greater, Values}
 use Rattle.mp_estimates.specs.Laws.Order.{AtMost-refl, zero_AtMost}
-use Rattle.mp_relaxed.specs.Values.{Values, greatest, cost_by, adds, least_cost, next_values, fact_values}
+use Rattle.mp_relaxed.specs.Values.{greatest, cost_by, adds, least_cost, next_values, fact_values}
 use Rattle.mp_relaxed.specs.Laws.Equations.{least_above, least_below}
 use Rattle.mp_relaxed.specs.Laws.Rounds.{below_rounds, settled}
 use Rattle.mp_relaxed.specs.Laws.Bounds.{start_zero}

@@ -10,9 +10,9 @@ use Rattle.std.specs.Option.{is_some}
 use Rattle.mp_sets.specs.Numbers.{Numbers}
 use Rattle.mp_sets.proofs.NumbersLemmas.{All_at, among_itself}
 use Rattle.mp_task.specs.Strips.{Operator}
-use Rattle.mp_estimates.specs.Estimates.{AtMost, greater}
+use Rattle.mp_estimates.specs.Estimates.{AtMost, greater, Values}
 use Rattle.mp_estimates.specs.Laws.Order.{AtMost-refl, AtMost-trans, zero_AtMost, greater_left, greater_right, within, within-AtMost}
-use Rattle.mp_relaxed.specs.Values.{Values, greatest, cost_by, adds, least_cost, next_values, fact_values}
+use Rattle.mp_relaxed.specs.Values.{greatest, cost_by, adds, least_cost, next_values, fact_values}
 use Rattle.mp_relaxed.specs.Laws.Equations.{least_above}
 use Rattle.mp_relaxed.specs.Laws.Bounds.{start_zero}
 use Rattle.mp_lmcut.specs.Cut.{edge, support, all_valued, possible, turned, in_zone, avoiding, is_near, in_cut, priced_by}

@@ -10,9 +10,9 @@ use Rattle.mp_task.specs.Limits.{IsWithinLimits}
 use Rattle.mp_task.specs.Projected.{projected, projected_state}
 use Rattle.mp_task.specs.Seen.{seen_system}
 use Rattle.mp_task.specs.Strips.{Operator, Problem, strips_system}
-use Rattle.mp_estimates.specs.Estimates.{AtMost}
+use Rattle.mp_estimates.specs.Estimates.{AtMost, Values}
 use Rattle.mp_estimates.specs.Laws.Order.{AtMost-refl, AtMost-trans}
-use Rattle.mp_relaxed.specs.Values.{Values, greatest, fact_values}
+use Rattle.mp_relaxed.specs.Values.{greatest, fact_values}
 use Rattle.mp_relaxed.specs.Laws.Rounds.{settled}
 use Rattle.mp_relaxed.specs.Laws.Bounds.{at_most_plans, costs_fit, operators_fit, start_zero}
 use Rattle.mp_lmcut.specs.Cut.{in_cut, cut_cost, lowered, is_positive, cuts, lmcut, priced_by}

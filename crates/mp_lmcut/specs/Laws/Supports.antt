@@ -5,8 +5,8 @@ use Rattle.std.proofs.lemmas.List.Elements.{All-cons, All-nil}
 use Rattle.std.specs.List.{list_any}
 use Rattle.std.specs.Option.{option_to_list}
 use Rattle.mp_list.specs.First.{leftmost}
-use Rattle.mp_estimates.specs.Estimates.{AtMost, greater}
-use Rattle.mp_relaxed.specs.Values.{Values, greatest}
+use Rattle.mp_estimates.specs.Estimates.{AtMost, greater, Values}
+use Rattle.mp_relaxed.specs.Values.{greatest}
 use Rattle.mp_lmcut.specs.Cut.{is_above, supports_before, support}
 
 above-AtMost : (a b : Option ℕ) → is_above a b ≡ true → AtMost b a

@@ -1,76 +1,15 @@
 -- Rounds come to an end: what it costs from a state comes to be within a limit in a round because that from another state
 -- did so in the round before, within what the action leaves of the limit, and these states are different ones.
-use Rattle.std.proofs.Common.{◌≡◌, ℕ, zero, suc, ◌+◌, ◌-◌, ◌<◌, ◌≤◌, Bool, true, false, cond, not, ◌&&◌, ◌||◌, Option, Some, None, option_map, List, [], ◌∷◌, length, Contains, refl, sym, ap, ◌∙◌, subst, arith}
-use Rattle.std.proofs.lemmas.Bool.{false≢true, leb-true, leb-false, le-leb, lt-leb, and_from, not_from_false, both_ways}
-use Rattle.std.proofs.lemmas.List.Folds.{list_any_at}
-use Rattle.std.proofs.lemmas.List.Sums.{count_by-le-length, sum_by-cons}
-use Rattle.std.specs.List.{list_any, count_by}
+use Rattle.std.proofs.Common.{◌≡◌, ℕ, zero, suc, ◌+◌, ◌-◌, ◌<◌, ◌≤◌, Bool, true, false, cond, Option, Some, None, option_map, List, [], ◌∷◌, length, Contains, refl, sym, ap, ◌∙◌, subst, arith}
+use Rattle.std.proofs.lemmas.Bool.{false≢true, both_ways}
+use Rattle.std.proofs.lemmas.List.Sums.{count_by-le-length}
+use Rattle.std.specs.List.{count_by}
 use Rattle.std.specs.Option.{option_and_then}
 use Rattle.mp_estimates.specs.Estimates.{AtMost, lesser}
-use Rattle.mp_estimates.specs.Laws.Order.{AtMost-refl, AtMost-trans, AtMost-antisym, lesser_left, lesser_right, lesser_both, plus-mono, within, within-AtMost, AtMost-within, within-more}
+use Rattle.mp_estimates.specs.Laws.Order.{AtMost-refl, AtMost-trans, AtMost-antisym, lesser_left, lesser_right, lesser_both, plus-mono, within, within-AtMost, AtMost-within, within-more, within-plus, not_within-plus, within-lesser, not_within-AtMost}
 use Rattle.mp_runs.specs.System.{System}
+use Rattle.mp_estimates.specs.Laws.Counts.{count-mono, counted_at}
 use Rattle.mp_pdb.specs.Distance.{cost_by, least_by, next_costs, after_rounds, AreClosed}
-
--- a wider test counts more, and one more where it differs somewhere
-
-count-mono : {X : Type 0} (p q : X → Bool) (xs : List X) → ((x : X) → q x ≡ true → p x ≡ true) → count_by q xs ≤ count_by p xs
-count-mono p q [] h = omega arith
-count-mono p q (x ∷ xs) h =
-    let first = sum_by-cons (λ y. cond (q y) 1 0) x xs in
-    let second = sum_by-cons (λ y. cond (p y) 1 0) x xs in
-    let step = by (q x) (p x) (h x) (count-mono p q xs h) in
-    omega arith
-  where
-    by : (b a : Bool) → (b ≡ true → a ≡ true) → count_by q xs ≤ count_by p xs → cond b 1 0 + count_by q xs ≤ cond a 1 0 + count_by p xs
-    by true true f k = omega arith
-    by true false f k = absurd (false≢true (f refl))
-    by false true f k = omega arith
-    by false false f k = omega arith
-
-count_more : {X : Type 0} (p q : X → Bool) (xs : List X) → ((x : X) → q x ≡ true → p x ≡ true) → list_any (λ x. p x && not (q x)) xs ≡ true → count_by q xs + 1 ≤ count_by p xs
-count_more p q [] h e = absurd (false≢true e)
-count_more p q (x ∷ xs) h e =
-    let first = sum_by-cons (λ y. cond (q y) 1 0) x xs in
-    let second = sum_by-cons (λ y. cond (p y) 1 0) x xs in
-    let step = by (q x) (p x) (h x) (count-mono p q xs h) (count_more p q xs h) e in
-    omega arith
-  where
-    by : (b a : Bool) → (b ≡ true → a ≡ true) → count_by q xs ≤ count_by p xs → (list_any (λ y. p y && not (q y)) xs ≡ true → count_by q xs + 1 ≤ count_by p xs) → ((a && not b) || list_any (λ y. p y && not (q y)) xs) ≡ true → (cond b 1 0 + count_by q xs) + 1 ≤ cond a 1 0 + count_by p xs
-    by true true f k rest e = let r = rest e in omega arith
-    by true false f k rest e = absurd (false≢true (f refl))
-    by false true f k rest e = omega arith
-    by false false f k rest e = let r = rest e in omega arith
-
-counted_at : {X : Type 0} (p q : X → Bool) (xs : List X) (x : X) → ((y : X) → q y ≡ true → p y ≡ true) → Contains xs x → p x ≡ true → q x ≡ false → count_by q xs + 1 ≤ count_by p xs
-counted_at p q xs x h here now none =
-    count_more p q xs h
-    (list_any_at (λ y. p y && not (q y)) xs here.0 x here.1
-    (subst (λ y. (p y && not (q y)) ≡ true) (sym here.2) (and_from _ _ now (not_from_false _ none))))
-
--- what is left of a limit after a cost
-
-within-plus : (c t : ℕ) (a : Option ℕ) → within t (option_map (λ h. c + h) a) ≡ true → (c ≤ t) × (within (t - c) a ≡ true)
-within-plus c t None e = absurd (false≢true e)
-within-plus c t (Some m) e = let le = leb-true (c + m) t e in (omega arith, le-leb m (t - c) (omega arith))
-
-not_within-plus : (c t : ℕ) (a : Option ℕ) → c ≤ t → within t (option_map (λ h. c + h) a) ≡ false → within (t - c) a ≡ false
-not_within-plus c t None le e = refl
-not_within-plus c t (Some m) le e = let gt = leb-false (c + m) t e in lt-leb m (t - c) (omega arith)
-
-within-lesser : (t : ℕ) (a b : Option ℕ) → within t (lesser a b) ≡ true → within t a ≡ false → within t b ≡ true
-within-lesser t None b h k = h
-within-lesser t (Some m) None h k = absurd (both_ways (within t (Some m)) k h)
-within-lesser t (Some m) (Some n) h k =
-    let le = leb-true _ t h in
-    let gt = leb-false m t k in
-    le-leb n t (omega arith)
-
-not_within-AtMost : (t : ℕ) (a b : Option ℕ) → AtMost a b → within t a ≡ false → within t b ≡ false
-not_within-AtMost t a b h k = by (within t b) refl
-  where
-    by : (x : Bool) → within t b ≡ x → within t b ≡ false
-    by false e = e
-    by true e = absurd (both_ways (within t a) k (within-AtMost t a b h e))
 
 module _ {S A : Type 0} (system : System S A) where
   -- lower costs afterwards are lower costs before

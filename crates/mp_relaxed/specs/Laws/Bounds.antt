@@ -19,8 +19,8 @@ use Rattle.mp_task.specs.Limits.{IsWithinLimits}
 use Rattle.mp_task.specs.Projected.{own_operator, far_operator, projected}
 use Rattle.mp_task.specs.Strips.{Operator, Problem, after_operator, strips_system}
 use Rattle.mp_task.proofs.Agreeing.{Contains-slice_get}
-use Rattle.mp_estimates.specs.Estimates.{AtMost, lesser, greater}
-use Rattle.mp_relaxed.specs.Values.{Values, greatest, cost_by, adds, least_cost, next_values, after_rounds, fact_values}
+use Rattle.mp_estimates.specs.Estimates.{AtMost, lesser, greater, Values}
+use Rattle.mp_relaxed.specs.Values.{greatest, cost_by, adds, least_cost, next_values, after_rounds, fact_values}
 use Rattle.mp_estimates.specs.Laws.Order.{AtMost-refl, AtMost-trans, zero_AtMost, plus-mono}
 use Rattle.mp_relaxed.specs.Laws.Equations.{greatest_below, least_below}
 use Rattle.mp_relaxed.specs.Laws.Rounds.{first_round, next_round, settled}

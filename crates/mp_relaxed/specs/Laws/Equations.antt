@@ -1,14 +1,14 @@
 -- The parts of the equations in order, and where two sides of them differ.
-use Rattle.std.proofs.Common.{◌≡◌, ℕ, Bool, true, false, cond, not, leb, get_or, ◌&&◌, ◌||◌, Option, Some, None, List, [], ◌∷◌, All, refl, sym, subst, arith}
-use Rattle.std.proofs.lemmas.Bool.{leb-true, le-leb, lt-leb, leb-false, or_left, or_right, and_from, not_from_false, both_ways}
+use Rattle.std.proofs.Common.{◌≡◌, ℕ, Bool, true, false, cond, not, leb, get_or, ◌&&◌, ◌||◌, Option, Some, None, List, [], ◌∷◌, All, refl, sym, subst}
+use Rattle.std.proofs.lemmas.Bool.{or_left, or_right, and_from, not_from_false, both_ways}
 use Rattle.std.proofs.lemmas.List.Elements.{All-head, All-tail, All-cons, All-nil}
 use Rattle.std.specs.FinSet as set
 use Rattle.std.specs.List.{list_any}
 use Rattle.mp_sets.specs.Numbers.{Numbers}
 use Rattle.mp_task.specs.Strips.{Operator}
-use Rattle.mp_estimates.specs.Estimates.{AtMost, lesser, greater}
-use Rattle.mp_relaxed.specs.Values.{Values, greatest, cost_by, adds, least_cost, next_values}
-use Rattle.mp_estimates.specs.Laws.Order.{AtMost-refl, AtMost-trans, zero_AtMost, lesser_left, lesser_right, lesser_both, greater_left, greater_right, greater_both, plus-mono, within, within-AtMost}
+use Rattle.mp_estimates.specs.Estimates.{AtMost, lesser, greater, Values}
+use Rattle.mp_relaxed.specs.Values.{greatest, cost_by, adds, least_cost, next_values}
+use Rattle.mp_estimates.specs.Laws.Order.{AtMost-refl, AtMost-trans, zero_AtMost, lesser_left, lesser_right, lesser_both, greater_left, greater_right, greater_both, plus-mono, within, within-AtMost, within-lesser, not_within-AtMost, within-greater}
 
 -- the greatest value is at or above each, and at or below what each is at or below
 pub greatest_above : (v : Values) (xs : List ℕ) → All (λ x. AtMost (v x) (greatest v xs)) xs
@@ -64,21 +64,6 @@ next-mono os s v w h x = by (set.contains s x)
     by false = least-mono v w x os h
 
 -- where the one side is within t and the other is not, some part of it is
-within-lesser : (t : ℕ) (a b : Option ℕ) → within t (lesser a b) ≡ true → within t a ≡ false → within t b ≡ true
-within-lesser t None b h k = h
-within-lesser t (Some m) None h k = absurd (both_ways (leb m t) k h)
-within-lesser t (Some m) (Some n) h k =
-    let le = leb-true _ t h in
-    let gt = leb-false m t k in
-    le-leb n t (omega arith)
-
-not_within-AtMost : (t : ℕ) (a b : Option ℕ) → AtMost a b → within t a ≡ false → within t b ≡ false
-not_within-AtMost t a b h k = by (within t b) refl
-  where
-    by : (c : Bool) → within t b ≡ c → within t b ≡ false
-    by true e = absurd (both_ways (within t a) k (within-AtMost t a b h e))
-    by false e = e
-
 pub least_differs : (v w : Values) (t x : ℕ) (os : List Operator) → within t (least_cost v os x) ≡ true → within t (least_cost w os x) ≡ false → list_any (λ o. within t (cost_by v o) && not (within t (cost_by w o))) os ≡ true
 least_differs v w t x [] h k = h
 least_differs v w t x (o ∷ os) h k = by (adds o x) (within t (cost_by v o)) refl (least_differs v w t x os) h k
@@ -91,14 +76,6 @@ least_differs v w t x (o ∷ os) h k = by (adds o x) (within t (cost_by v o)) re
         or_right _ _
         (rest (within-lesser t _ _ h e)
         (not_within-AtMost t (lesser (cost_by w o) (least_cost w os x)) (least_cost w os x) (lesser_right (cost_by w o) _) k))
-
-within-greater : (t : ℕ) (a b : Option ℕ) → within t (greater a b) ≡ false → within t a ≡ true → within t b ≡ false
-within-greater t None b h k = absurd (both_ways (within t None) h k)
-within-greater t (Some m) None h k = refl
-within-greater t (Some m) (Some n) h k =
-    let le = leb-true m t k in
-    let gt = leb-false _ t h in
-    lt-leb n t (omega arith)
 
 pub greatest_differs : (v w : Values) (t : ℕ) (xs : List ℕ) → within t (greatest v xs) ≡ true → within t (greatest w xs) ≡ false → (x : ℕ) × (within t (v x) ≡ true) × (within t (w x) ≡ false)
 greatest_differs v w t [] h k = absurd (both_ways (leb 0 t) k h)

@@ -1,61 +1,17 @@
 -- Rounds of the equations come to an end: a value that changes in a round comes from an operator whose cost changed in
 -- the round before, and so on, and these operators are different ones.
-use Rattle.std.proofs.Common.{◌≡◌, ℕ, zero, suc, ◌+◌, ◌-◌, ◌≤◌, Bool, true, false, cond, not, ◌&&◌, ◌||◌, Option, Some, None, option_map, List, [], ◌∷◌, length, refl, ◌∙◌, subst, add-one, arith}
-use Rattle.std.proofs.lemmas.Bool.{false≢true, leb-true, leb-false, le-leb, lt-leb, and_parts, not-true, both_ways}
-use Rattle.std.proofs.lemmas.List.Sums.{count_by-le-length, sum_by-cons}
+use Rattle.std.proofs.Common.{◌≡◌, ℕ, zero, suc, ◌+◌, ◌-◌, ◌≤◌, Bool, true, false, cond, not, ◌&&◌, Some, None, List, length, refl, ◌∙◌, subst, add-one, arith}
+use Rattle.std.proofs.lemmas.Bool.{and_parts, not-true, both_ways}
+use Rattle.std.proofs.lemmas.List.Sums.{count_by-le-length}
 use Rattle.std.specs.FinSet as set
 use Rattle.std.specs.List.{list_any, count_by}
 use Rattle.mp_sets.specs.Numbers.{Numbers}
 use Rattle.mp_task.specs.Strips.{Operator}
-use Rattle.mp_estimates.specs.Estimates.{AtMost}
-use Rattle.mp_relaxed.specs.Values.{Values, cost_by, least_cost, next_values, AreGreatest, after_rounds, fact_values}
-use Rattle.mp_estimates.specs.Laws.Order.{AtMost-refl, AtMost-trans, AtMost-antisym, within, within-AtMost, AtMost-within, within-more}
+use Rattle.mp_estimates.specs.Estimates.{AtMost, Values}
+use Rattle.mp_estimates.specs.Laws.Counts.{count-mono, count_more, one_of}
+use Rattle.mp_relaxed.specs.Values.{cost_by, least_cost, next_values, AreGreatest, after_rounds, fact_values}
+use Rattle.mp_estimates.specs.Laws.Order.{AtMost-refl, AtMost-trans, AtMost-antisym, within, within-AtMost, AtMost-within, within-more, within-plus, not_within-plus}
 use Rattle.mp_relaxed.specs.Laws.Equations.{cost_by-mono, next-mono, least_differs, greatest_differs}
-
--- a wider test counts more, and one more where it differs somewhere
-count-mono : {X : Type 0} (p q : X → Bool) (xs : List X) → ((x : X) → q x ≡ true → p x ≡ true) → count_by q xs ≤ count_by p xs
-count-mono p q [] h = omega arith
-count-mono p q (x ∷ xs) h =
-    let first = sum_by-cons (λ y. cond (q y) 1 0) x xs in
-    let second = sum_by-cons (λ y. cond (p y) 1 0) x xs in
-    let step = by (q x) (p x) (h x) (count-mono p q xs h) in
-    omega arith
-  where
-    by : (b a : Bool) → (b ≡ true → a ≡ true) → count_by q xs ≤ count_by p xs → cond b 1 0 + count_by q xs ≤ cond a 1 0 + count_by p xs
-    by true true f k = omega arith
-    by true false f k = absurd (false≢true (f refl))
-    by false true f k = omega arith
-    by false false f k = omega arith
-
-count_more : {X : Type 0} (p q : X → Bool) (xs : List X) → ((x : X) → q x ≡ true → p x ≡ true) → list_any (λ x. p x && not (q x)) xs ≡ true → count_by q xs + 1 ≤ count_by p xs
-count_more p q [] h e = absurd (false≢true e)
-count_more p q (x ∷ xs) h e =
-    let first = sum_by-cons (λ y. cond (q y) 1 0) x xs in
-    let second = sum_by-cons (λ y. cond (p y) 1 0) x xs in
-    let step = by (q x) (p x) (h x) (count-mono p q xs h) (count_more p q xs h) e in
-    omega arith
-  where
-    by : (b a : Bool) → (b ≡ true → a ≡ true) → count_by q xs ≤ count_by p xs → (list_any (λ y. p y && not (q y)) xs ≡ true → count_by q xs + 1 ≤ count_by p xs) → ((a && not b) || list_any (λ y. p y && not (q y)) xs) ≡ true → (cond b 1 0 + count_by q xs) + 1 ≤ cond a 1 0 + count_by p xs
-    by true true f k rest e = let r = rest e in omega arith
-    by true false f k rest e = absurd (false≢true (f refl))
-    by false true f k rest e = omega arith
-    by false false f k rest e = let r = rest e in omega arith
-
-one_of : {X : Type 0} (p : X → Bool) (xs : List X) → list_any p xs ≡ true → (x : X) × (p x ≡ true)
-one_of p [] e = absurd (false≢true e)
-one_of p (x ∷ xs) e = by (p x) refl (one_of p xs) e
-  where
-    by : (b : Bool) → p x ≡ b → (list_any p xs ≡ true → (y : _) × (p y ≡ true)) → (b || list_any p xs) ≡ true → (y : _) × (p y ≡ true)
-    by true is rest e = (x, is)
-    by false is rest e = rest e
-
-within-plus : (c t : ℕ) (a : Option ℕ) → within t (option_map (λ h. c + h) a) ≡ true → (c ≤ t) × (within (t - c) a ≡ true)
-within-plus c t None e = absurd (false≢true e)
-within-plus c t (Some m) e = let le = leb-true (c + m) t e in (omega arith, le-leb m (t - c) (omega arith))
-
-not_within-plus : (c t : ℕ) (a : Option ℕ) → c ≤ t → within t (option_map (λ h. c + h) a) ≡ false → within (t - c) a ≡ false
-not_within-plus c t None le e = refl
-not_within-plus c t (Some m) le e = let gt = leb-false (c + m) t e in lt-leb m (t - c) (omega arith)
 
 module _ (os : List Operator) (s : Numbers) where
   round : ℕ → Values

@@ -2,7 +2,7 @@ use Rattle.std.proofs.Common.{◌+◌, drop, ap, sym, ◌∙◌, arith}
 use Rattle.std.proofs.lemmas.List.{drop_all}
 use Rattle.std.specs.Option.{unwrap_or}
 use Rattle.mp_estimates.specs.Estimates.{lesser}
-use Rattle.mp_relaxed.specs.Search.{value_at}
+use Rattle.mp_estimates.specs.Lowering.{value_at}
 use Rattle.mp_lmcut.specs.Sides.{is_between, least_where}
 use Rattle.mp_lmcut.proofs.CutLemmas.{least_more, lesser-none}
 use Rattle.mp_lmcut.proofs.costs.cost_of.Goals as goal

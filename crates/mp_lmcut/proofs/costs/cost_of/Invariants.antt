@@ -1,6 +1,6 @@
 use Rattle.std.proofs.Common.{◌≡◌, drop}
 use Rattle.mp_estimates.specs.Estimates.{lesser}
-use Rattle.mp_relaxed.specs.Search.{value_at}
+use Rattle.mp_estimates.specs.Lowering.{value_at}
 use Rattle.mp_lmcut.specs.Sides.{is_between, least_where}
 use Rattle.mp_lmcut.proofs.costs.cost_of.Given as goal
 

@@ -1,7 +1,7 @@
 use Rattle.std.proofs.Common.{◌≡◌, ◌+◌, ◌<◌, ◌≤◌, true, length, ap, sym, ◌∙◌, subst, arith}
 use Rattle.mp_task.specs.Strips.{Operator}
 use Rattle.mp_relaxed.specs.Relaxed.{RelaxedProblem}
-use Rattle.mp_relaxed.specs.Search.{value_at}
+use Rattle.mp_estimates.specs.Lowering.{value_at}
 use Rattle.mp_lmcut.specs.Sides.{is_between}
 use Rattle.mp_lmcut.proofs.CutLemmas.{length-lowered_first, lowered_all, lowered_step, next_in}
 use Rattle.mp_lmcut.proofs.costs.lower_all.Goals as goal

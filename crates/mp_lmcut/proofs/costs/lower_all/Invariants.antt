@@ -1,5 +1,5 @@
 use Rattle.std.proofs.Common.{◌≡◌, length}
-use Rattle.mp_relaxed.specs.Search.{value_at}
+use Rattle.mp_estimates.specs.Lowering.{value_at}
 use Rattle.mp_lmcut.specs.Sides.{is_between}
 use Rattle.mp_lmcut.proofs.CutLemmas.{lowered_first}
 use Rattle.mp_lmcut.proofs.costs.lower_all.Given as goal

@@ -1,6 +1,6 @@
 use Rattle.std.proofs.Common.{◌≡◌, ◌≤◌, true, All, sym, subst}
 use Rattle.mp_task.specs.Strips.{Operator}
-use Rattle.mp_relaxed.specs.Search.{value_at}
+use Rattle.mp_estimates.specs.Lowering.{value_at}
 use Rattle.mp_lmcut.specs.Laws.Costs.{least_of_some}
 use Rattle.mp_lmcut.specs.Sides.{is_between}
 use Rattle.mp_lmcut.proofs.costs.pay.Goals as goal

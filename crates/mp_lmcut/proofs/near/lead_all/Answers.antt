@@ -1,6 +1,6 @@
 use Rattle.std.proofs.Common.{◌≡◌, true, get_or, below_more, ◌∙◌, arith}
 use Rattle.mp_relaxed.specs.Relaxed.{operator_at}
-use Rattle.mp_relaxed.specs.Search.{value_at}
+use Rattle.mp_estimates.specs.Lowering.{value_at}
 use Rattle.mp_lmcut.specs.Sides.{AreMarkedOutside, IsLed, is_led_by}
 use Rattle.mp_lmcut.proofs.MarkLemmas.{grown_refl, grown_trans}
 use Rattle.mp_lmcut.proofs.NearLemmas.{leads_from_users, outside_kept}

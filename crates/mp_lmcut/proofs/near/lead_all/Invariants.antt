@@ -1,6 +1,6 @@
 use Rattle.std.proofs.Common.{◌≡◌, ℕ, ◌<◌, true, get_or, length}
 use Rattle.mp_relaxed.specs.Relaxed.{operator_at}
-use Rattle.mp_relaxed.specs.Search.{value_at}
+use Rattle.mp_estimates.specs.Lowering.{value_at}
 use Rattle.mp_lmcut.specs.Marked.{HasGrown}
 use Rattle.mp_lmcut.specs.Sides.{AreMarkedOutside, IsLed, is_led_by}
 use Rattle.mp_lmcut.proofs.near.lead_all.Given as goal

@@ -1,7 +1,7 @@
 use Rattle.std.proofs.Common.{◌≡◌, ℕ, ◌+◌, IsTrue, true, ap, sym, ◌∙◌, subst, length, arith}
 use Rattle.std.specs.FinSet as set
 use Rattle.mp_relaxed.specs.Relaxed.{operator_at, state_of}
-use Rattle.mp_relaxed.specs.Search.{value_at}
+use Rattle.mp_estimates.specs.Lowering.{value_at}
 use Rattle.mp_lmcut.specs.Marked.{HasGrown, is_marked}
 use Rattle.mp_lmcut.specs.Sides.{IsMember, IsNearSide, LeadsOn}
 use Rattle.mp_lmcut.proofs.MarkLemmas.{reached_all}

@@ -1,7 +1,7 @@
 use Rattle.std.proofs.Common.{◌≡◌, ℕ, ◌<◌, true, [], length}
 use Rattle.std.specs.FinSet as set
 use Rattle.mp_relaxed.specs.Relaxed.{operator_at, state_of}
-use Rattle.mp_relaxed.specs.Search.{value_at}
+use Rattle.mp_estimates.specs.Lowering.{value_at}
 use Rattle.mp_lmcut.specs.Cut.{is_near}
 use Rattle.mp_lmcut.specs.Marked.{IsReaching, is_marked, weight}
 use Rattle.mp_lmcut.specs.Sides.{AreMarkedOutside, LeadsOn}

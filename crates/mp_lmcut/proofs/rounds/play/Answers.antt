@@ -23,6 +23,7 @@ loop-preserved c =
     let small : c.in-Some.cost ≤ 16000000 = subst (λ a. IfSome a (λ n. n ≤ 16000000)) c.in-Some.is c.in_ok-cost.ensures.small in
     record {
       total = omega (arith, c.loop.invariant.total, whole, paid);
+      values = c.in_ok-cost.ensures.values;
       small = omega (arith, c.loop.invariant.small, small);
       kept = c.round.ensures.kept ∙ c.loop.invariant.kept;
       counted = c.round.ensures.counted ∙ c.loop.invariant.counted;

@@ -1,5 +1,6 @@
-use Rattle.std.proofs.Common.{ap, sym, ◌∙◌}
-use Rattle.mp_relaxed.specs.Relaxed.{state_of}
+use Rattle.std.proofs.Common.{ap, sym, subst, ◌∙◌}
+use Rattle.mp_relaxed.specs.Relaxed.{AreCheaper, RelaxedProblem, state_of}
+use Rattle.mp_relaxed.specs.Search.{AreValues}
 use Rattle.mp_relaxed.specs.Values.{greatest}
 use Rattle.mp_lmcut.specs.Cut.{is_positive}
 use Rattle.mp_lmcut.proofs.RoundLemmas.{cuts_end, cuts_more}
@@ -9,7 +10,7 @@ pub returns-then-not-is_left-clause-paid : goal.returns-then-not-is_left-clause-
 returns-then-not-is_left-clause-paid c =
     let r = c.args.problem.now in
     let s = state_of r c.args.publics.now.members c.args.privates.now.members in
-    let found = c.greatest.ensures ∙ (λ i. greatest (λ x. c.in_ok-find.ensures.values x i) (c.goals.ensures.value i)) in
+    let found = c.greatest.ensures ∙ (λ i. greatest (λ x. c.requires.values x i) (c.goals.ensures.value i)) in
     cuts_end r.operators r.goals s (sym (c.is_left.ensures ∙ ap is_positive found) ∙ c.if-not-is_left.true)
 
 pub returns-clause-paid : goal.returns-clause-paid
@@ -17,5 +18,15 @@ returns-clause-paid c =
     let r = c.args.problem.now in
     let p = c.args.publics.now.members in
     let q = c.args.privates.now.members in
-    let found = c.greatest.ensures ∙ (λ i. greatest (λ x. c.in_ok-find.ensures.values x i) (c.goals.ensures.value i)) in
+    let found = c.greatest.ensures ∙ (λ i. greatest (λ x. c.requires.values x i) (c.goals.ensures.value i)) in
     cuts_more r c.lower.new.problem p q c.in_ok-cost.cost (sym (c.is_left.ensures ∙ ap is_positive found) ∙ c.if-not-is_left.false) c.in_ok-cost.ensures.cost c.in_ok-cost.ensures.lowered
+
+pub returns-clause-values : goal.returns-clause-values
+returns-clause-values c =
+    let r = c.args.problem.now in
+    let p = c.args.publics.now.members in
+    let q = c.args.privates.now.members in
+    let back = ap (λ (m : RelaxedProblem). record m { operators = r.operators }) c.in_ok-cost.ensures.lowered in
+    c.in_ok-again.ensures.values r.operators p q
+    (subst (AreCheaper r.operators c.lower.new.problem.operators) (sym c.as_slice.ensures.value) c.in_ok-cost.ensures.listed)
+    (subst (λ (m : RelaxedProblem). AreValues m p q c.args.search.now.numbers) (sym back) c.requires.values)

@@ -1,7 +1,7 @@
 use Rattle.std.proofs.Common.{◌≡◌, ◌<◌, None, drop, length}
 use Rattle.std.specs.Option.{IfSome}
 use Rattle.mp_list.specs.First.{leftmost}
-use Rattle.mp_relaxed.specs.Search.{value_at}
+use Rattle.mp_estimates.specs.Lowering.{value_at}
 use Rattle.mp_lmcut.specs.Cut.{supports_before}
 use Rattle.mp_lmcut.proofs.supports.support_of.Given as goal
 

@@ -1,6 +1,6 @@
 use Rattle.std.proofs.Common.{◌≡◌, true, subst}
 use Rattle.std.specs.List.{list_all}
-use Rattle.mp_relaxed.specs.Search.{value_at}
+use Rattle.mp_estimates.specs.Lowering.{value_at}
 use Rattle.mp_lmcut.specs.Cut.{in_zone, support}
 use Rattle.mp_lmcut.specs.Marked.{HasGrown, is_marked}
 use Rattle.mp_lmcut.specs.Sides.{Supports, TurnsBack}

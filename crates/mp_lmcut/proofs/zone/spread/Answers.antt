@@ -1,7 +1,7 @@
 use Rattle.std.proofs.Common.{◌≡◌, ◌<◌, [], true, All, ap, sym, ◌∙◌, subst, length, arith}
 use Rattle.std.proofs.lemmas.List.{get_or_default}
 use Rattle.mp_relaxed.specs.Relaxed.{HasAdders}
-use Rattle.mp_relaxed.specs.Search.{value_at}
+use Rattle.mp_estimates.specs.Lowering.{value_at}
 use Rattle.mp_lmcut.specs.Cut.{in_zone}
 use Rattle.mp_lmcut.specs.Marked.{is_marked}
 use Rattle.mp_lmcut.specs.Sides.{TurnsBack}

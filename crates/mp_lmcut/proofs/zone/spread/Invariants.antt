@@ -1,5 +1,5 @@
 use Rattle.std.proofs.Common.{◌≡◌, ℕ, true, length}
-use Rattle.mp_relaxed.specs.Search.{value_at}
+use Rattle.mp_estimates.specs.Lowering.{value_at}
 use Rattle.mp_lmcut.specs.Cut.{in_zone}
 use Rattle.mp_lmcut.specs.Marked.{IsReaching, is_marked, weight}
 use Rattle.mp_lmcut.specs.Sides.{TurnsBack}

@@ -1,6 +1,6 @@
 use Rattle.std.proofs.Common.{◌≡◌, true, get_or, below_more, arith}
 use Rattle.mp_relaxed.specs.Relaxed.{operator_at}
-use Rattle.mp_relaxed.specs.Search.{value_at}
+use Rattle.mp_estimates.specs.Lowering.{value_at}
 use Rattle.mp_lmcut.specs.Cut.{in_zone}
 use Rattle.mp_lmcut.specs.Sides.{IsTurned, Supports, is_free}
 use Rattle.mp_lmcut.proofs.MarkLemmas.{grown_refl, grown_trans, grown_weaker}

@@ -1,6 +1,6 @@
 use Rattle.std.proofs.Common.{◌≡◌, ℕ, ◌<◌, true, get_or}
 use Rattle.mp_relaxed.specs.Relaxed.{operator_at}
-use Rattle.mp_relaxed.specs.Search.{value_at}
+use Rattle.mp_estimates.specs.Lowering.{value_at}
 use Rattle.mp_lmcut.specs.Cut.{in_zone}
 use Rattle.mp_lmcut.specs.Marked.{HasGrown}
 use Rattle.mp_lmcut.specs.Sides.{IsTurned}

@@ -1,7 +1,7 @@
 use Rattle.std.proofs.Common.{◌≤◌, IsTrue, below_more, ◌∙◌, arith}
 use Rattle.mp_pdb.specs.Moves.{has_all}
-use Rattle.mp_pdb.specs.Table.{number_at}
-use Rattle.mp_pdb.proofs.TableLemmas.{fallen_trans}
+use Rattle.mp_estimates.specs.Lowering.{number_at}
+use Rattle.mp_estimates.proofs.LoweringLemmas.{fallen_trans}
 use Rattle.mp_pdb.proofs.table.begin.Goals as goal
 
 pub loop-mask-preserved : goal.loop-mask-preserved

@@ -1,7 +1,7 @@
 use Rattle.std.proofs.Common.{◌≡◌, ℕ, ◌<◌, ◌≤◌, Some, IsTrue, vec_len}
-use Rattle.mp_estimates.specs.Estimates.{AtMost}
+use Rattle.mp_estimates.specs.Estimates.{AtMost, Values}
 use Rattle.mp_pdb.specs.Moves.{has_all}
-use Rattle.mp_pdb.specs.Table.{AreBelow, HaveFallen, Values, number_at}
+use Rattle.mp_estimates.specs.Lowering.{AreBelow, HaveFallen, number_at}
 use Rattle.mp_pdb.proofs.table.begin.Given as goal
 
 abbrev pub invariant-loop-mask : goal.invariant-loop-mask

@@ -1,7 +1,7 @@
 use Rattle.std.proofs.Common.{◌<◌, length, subst, ◌∙◌, arith}
 use Rattle.std.proofs.lemmas.List.{get_or_default}
-use Rattle.mp_pdb.specs.Table.{unknown}
-use Rattle.mp_pdb.proofs.TableLemmas.{fallen_one}
+use Rattle.mp_estimates.specs.Lowering.{unknown}
+use Rattle.mp_estimates.proofs.LoweringLemmas.{fallen_one}
 use Rattle.mp_pdb.proofs.table.lower.Goals as goal
 
 pub returns-in_ok-push-clause-fallen : goal.returns-in_ok-push-clause-fallen

@@ -1,10 +1,11 @@
 use Rattle.std.proofs.Common.{◌<◌, ◌≤◌, ◌-◌, ◌^◌, subst, sym, ◌∙◌, arith, vec_len, w16}
 use Rattle.std.specs.Int.{bit_not}
 use Rattle.std.specs.Prelude.{bit_and, bit_or}
-use Rattle.mp_pdb.specs.Table.{number_at}
+use Rattle.mp_estimates.specs.Lowering.{number_at}
 use Rattle.mp_pdb.proofs.MaskLemmas.{and_twice}
 use Rattle.mp_pdb.proofs.MoveLemmas.{does_lead, from_within, is_ready, made_of, must_arrive, small_size}
-use Rattle.mp_pdb.proofs.TableLemmas.{done_all, done_more, fallen_trans}
+use Rattle.mp_estimates.proofs.LoweringLemmas.{fallen_trans}
+use Rattle.mp_pdb.proofs.TableLemmas.{done_all, done_more}
 use Rattle.mp_pdb.proofs.table.relax.Goals as goal
 
 pub returns-then-to-found-clause-reached : goal.returns-then-to-found-clause-reached

@@ -1,8 +1,8 @@
 use Rattle.std.proofs.Common.{◌≡◌, ℕ, ◌<◌, ◌≤◌, IsTrue, vec_len}
 use Rattle.std.specs.Prelude.{bit_and, bit_or}
-use Rattle.mp_estimates.specs.Estimates.{AtMost}
+use Rattle.mp_estimates.specs.Estimates.{AtMost, Values}
 use Rattle.mp_pdb.specs.Moves.{after_move, has_all}
-use Rattle.mp_pdb.specs.Table.{AreBelow, HaveFallen, Values, known, number_at}
+use Rattle.mp_estimates.specs.Lowering.{AreBelow, HaveFallen, known, number_at}
 use Rattle.mp_pdb.proofs.table.relax.Given as goal
 
 abbrev pub invariant-parts : goal.invariant-parts

@@ -2,7 +2,8 @@ use Rattle.std.proofs.Common.{◌+◌, ◌<◌, length, ◌∙◌, arith, vec_le
 use Rattle.std.proofs.lemmas.List.Elements.{All-more, Contains-get_or}
 use Rattle.mp_pdb.specs.declared.moves.Move.{Move}
 use Rattle.mp_pdb.specs.Table.{AreReached}
-use Rattle.mp_pdb.proofs.TableLemmas.{fallen_trans, low_by_move}
+use Rattle.mp_estimates.proofs.LoweringLemmas.{fallen_trans}
+use Rattle.mp_pdb.proofs.TableLemmas.{low_by_move}
 use Rattle.mp_pdb.proofs.table.relax_all.Goals as goal
 
 pub loop-found-preserved : goal.loop-found-preserved

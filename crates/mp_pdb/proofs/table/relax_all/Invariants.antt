@@ -1,7 +1,8 @@
 use Rattle.std.proofs.Common.{◌≡◌, ◌+◌, All, take, vec_len}
-use Rattle.mp_estimates.specs.Estimates.{AtMost}
+use Rattle.mp_estimates.specs.Estimates.{AtMost, Values}
 use Rattle.mp_pdb.specs.declared.moves.Move.{Move}
-use Rattle.mp_pdb.specs.Table.{AreBelow, AreLow, AreReached, HaveFallen, Values, known}
+use Rattle.mp_estimates.specs.Lowering.{AreBelow, HaveFallen, known}
+use Rattle.mp_pdb.specs.Table.{AreLow, AreReached}
 use Rattle.mp_pdb.proofs.table.relax_all.Given as goal
 
 abbrev pub invariant-loop-found : goal.invariant-loop-found

@@ -4,7 +4,8 @@ use Rattle.std.proofs.lemmas.List.Elements.{All-head, All-tail}
 use Rattle.std.proofs.lemmas.List.Sorted.{All-permutation, length_permutation}
 use Rattle.std.specs.List.Sorted.{IsPermutation}
 use Rattle.mp_estimates.specs.Estimates.{AtMost}
-use Rattle.mp_pdb.specs.Table.{AreLow, Key, key, known, number_at, unknown}
+use Rattle.mp_estimates.specs.Lowering.{Key, key, known, number_at, unknown}
+use Rattle.mp_pdb.specs.Table.{AreLow}
 use Rattle.mp_pdb.proofs.TableLemmas.{served_settled, served_stale}
 use Rattle.mp_pdb.proofs.table.settle.Goals as goal
 

@@ -1,6 +1,8 @@
 use Rattle.std.proofs.Common.{◌≡◌, ℕ, ◌<◌, ◌≤◌, All, vec_len}
 use Rattle.mp_pdb.specs.declared.moves.Move.{Move}
-use Rattle.mp_pdb.specs.Table.{AreBelow, AreLow, IsServed, Key, Values, number_at, weight}
+use Rattle.mp_estimates.specs.Lowering.{AreBelow, Key, number_at, weight}
+use Rattle.mp_estimates.specs.Estimates.{Values}
+use Rattle.mp_pdb.specs.Table.{AreLow, IsServed}
 use Rattle.mp_pdb.proofs.table.settle.Given as goal
 
 abbrev pub invariant-pops : goal.invariant-pops

@@ -2,7 +2,7 @@ use Rattle.std.proofs.Common.{[], subst, sym, ◌∙◌, arith}
 use Rattle.std.proofs.lemmas.List.Elements.{All-contains}
 use Rattle.mp_pdb.specs.declared.moves.Move.{Move}
 use Rattle.mp_pdb.specs.Table.{AreLow, IsServed}
-use Rattle.mp_pdb.proofs.TableLemmas.{all_below}
+use Rattle.mp_estimates.proofs.LoweringLemmas.{all_below}
 use Rattle.mp_pdb.proofs.table.settled.Goals as goal
 
 pub returns : goal.returns

@@ -3,7 +3,8 @@ use Rattle.std.proofs.lemmas.List.{take_all}
 use Rattle.mp_relaxed.specs.Relaxed.{operator_at}
 use Rattle.mp_relaxed.specs.Search.{AreLowered}
 use Rattle.mp_relaxed.proofs.CountLemmas.{ServedSoFar, lowered_more, served_more, times_more}
-use Rattle.mp_relaxed.proofs.SearchLemmas.{fallen_trans, stayed_trans}
+use Rattle.mp_estimates.proofs.LoweringLemmas.{fallen_trans}
+use Rattle.mp_relaxed.proofs.SearchLemmas.{stayed_trans}
 use Rattle.mp_relaxed.proofs.SettledLemmas.{most_stayed}
 use Rattle.mp_relaxed.proofs.TimesLemmas.{times_same, times_taken}
 use Rattle.mp_relaxed.proofs.search.count_down_all.Goals as goal

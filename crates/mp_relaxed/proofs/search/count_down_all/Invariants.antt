@@ -1,6 +1,7 @@
 use Rattle.std.proofs.Common.{◌≡◌, take, vec_len}
-use Rattle.mp_relaxed.specs.Values.{Values}
-use Rattle.mp_relaxed.specs.Search.{AreBelow, AreLow, AreLowered, HaveFallen, HaveStayed}
+use Rattle.mp_estimates.specs.Estimates.{Values}
+use Rattle.mp_estimates.specs.Lowering.{AreBelow, HaveFallen}
+use Rattle.mp_relaxed.specs.Search.{AreLow, AreLowered, HaveStayed}
 use Rattle.mp_relaxed.proofs.CountLemmas.{ServedSoFar}
 use Rattle.mp_relaxed.proofs.search.count_down_all.Given as goal
 

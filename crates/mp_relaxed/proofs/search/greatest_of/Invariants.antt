@@ -1,7 +1,7 @@
 use Rattle.std.proofs.Common.{◌≡◌, ◌<◌, ◌^◌, drop}
 use Rattle.mp_estimates.specs.Estimates.{greater}
 use Rattle.mp_relaxed.specs.Values.{greatest}
-use Rattle.mp_relaxed.specs.Search.{known, value_at}
+use Rattle.mp_estimates.specs.Lowering.{known, value_at}
 use Rattle.mp_relaxed.proofs.search.greatest_of.Given as goal
 
 abbrev pub invariant-loop-x : goal.invariant-loop-x

@@ -1,7 +1,8 @@
 use Rattle.std.proofs.Common.{◌<◌, length, subst, ◌∙◌, arith}
 use Rattle.std.proofs.lemmas.List.{get_or_default}
-use Rattle.mp_relaxed.specs.Search.{unknown}
-use Rattle.mp_relaxed.proofs.SearchLemmas.{fallen_one, stayed_one}
+use Rattle.mp_estimates.specs.Lowering.{unknown}
+use Rattle.mp_estimates.proofs.LoweringLemmas.{fallen_one}
+use Rattle.mp_relaxed.proofs.SearchLemmas.{stayed_one}
 use Rattle.mp_relaxed.proofs.search.lower.Goals as goal
 
 pub returns-in_ok-push-clause-fallen : goal.returns-in_ok-push-clause-fallen
@@ -14,6 +15,6 @@ returns-in_ok-push-clause-fallen c =
 pub returns-in_ok-push-clause-stayed : goal.returns-in_ok-push-clause-stayed
 returns-in_ok-push-clause-stayed c =
     let within : c.args.x < length c.args.numbers.now.items = omega arith in
-    stayed_one c.args.numbers.now.items c.args.queue.now c.push.new.self c.args.x c.args.cost within
+    stayed_one c.args.numbers.now.items c.args.queue.now c.push.new.self c.args.x c.args.cost
     (subst (λ n. c.args.cost < n) (c.index.ensures ∙ get_or_default c.args.numbers.now.items c.args.x c.index.result.now unknown within) c.if-cost-index.true)
     c.in_ok-push.ensures

@@ -1,5 +1,5 @@
 use Rattle.std.proofs.Common.{rules, ◌∙◌}
-use Rattle.mp_relaxed.proofs.SearchLemmas.{fallen_trans}
+use Rattle.mp_estimates.proofs.LoweringLemmas.{fallen_trans}
 use Rattle.mp_relaxed.proofs.search.mark.Goals as goal
 
 pub members-preserved : goal.members-preserved

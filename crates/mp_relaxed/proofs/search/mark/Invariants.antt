@@ -1,8 +1,7 @@
 use Rattle.std.proofs.Common.{◌≡◌, ℕ, ◌+◌, ◌-◌, ◌<◌, ◌≤◌, Some, IsTrue, vec_len}
 use Rattle.std.specs.FinSet as set
-use Rattle.mp_estimates.specs.Estimates.{AtMost}
-use Rattle.mp_relaxed.specs.Values.{Values}
-use Rattle.mp_relaxed.specs.Search.{AreBelow, HaveFallen, number_at}
+use Rattle.mp_estimates.specs.Estimates.{AtMost, Values}
+use Rattle.mp_estimates.specs.Lowering.{AreBelow, HaveFallen, number_at}
 use Rattle.mp_relaxed.proofs.search.mark.Given as goal
 
 abbrev pub invariant-members : goal.invariant-members

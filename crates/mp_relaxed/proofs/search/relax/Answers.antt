@@ -4,8 +4,9 @@ use Rattle.std.proofs.lemmas.List.{take_all}
 use Rattle.std.proofs.lemmas.List.Elements.{All-more}
 use Rattle.std.proofs.lemmas.List.Folds.{list_any_at}
 use Rattle.std.specs.List.{list_any}
-use Rattle.mp_relaxed.specs.Search.{number_at}
-use Rattle.mp_relaxed.proofs.SearchLemmas.{fallen_trans, stayed_trans, relax_served, low_cost}
+use Rattle.mp_estimates.specs.Lowering.{number_at}
+use Rattle.mp_estimates.proofs.LoweringLemmas.{fallen_trans}
+use Rattle.mp_relaxed.proofs.SearchLemmas.{stayed_trans, relax_served, low_cost}
 use Rattle.mp_relaxed.proofs.search.relax.Goals as goal
 
 pub loop-x-preserved : goal.loop-x-preserved

@@ -1,6 +1,7 @@
 use Rattle.std.proofs.Common.{◌≡◌, ◌≤◌, All, take, vec_len}
-use Rattle.mp_relaxed.specs.Values.{Values}
-use Rattle.mp_relaxed.specs.Search.{AreBelow, AreLow, HaveFallen, HaveStayed, number_at}
+use Rattle.mp_estimates.specs.Estimates.{Values}
+use Rattle.mp_estimates.specs.Lowering.{AreBelow, HaveFallen, number_at}
+use Rattle.mp_relaxed.specs.Search.{AreLow, HaveStayed}
 use Rattle.mp_relaxed.proofs.search.relax.Given as goal
 
 abbrev pub invariant-loop-x : goal.invariant-loop-x

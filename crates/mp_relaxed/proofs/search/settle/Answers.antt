@@ -3,9 +3,10 @@ use Rattle.std.proofs.lemmas.List.{get_or_default}
 use Rattle.std.proofs.lemmas.List.Elements.{All-head, All-tail}
 use Rattle.std.proofs.lemmas.List.Sorted.{All-permutation, length_permutation}
 use Rattle.std.specs.List.Sorted.{IsPermutation}
-use Rattle.mp_relaxed.specs.Search.{AreFrom, Key, key, number_at, unknown}
+use Rattle.mp_estimates.specs.Lowering.{Key, key, number_at, unknown}
+use Rattle.mp_relaxed.specs.Search.{AreFrom}
 use Rattle.mp_relaxed.proofs.CountLemmas.{all_settled, counts_begin, counts_stale, counts_settled, served_settled}
-use Rattle.mp_relaxed.proofs.ProperLemmas.{proper_popped}
+use Rattle.mp_estimates.proofs.ProperLemmas.{proper_popped}
 use Rattle.mp_relaxed.proofs.SearchLemmas.{served_popped}
 use Rattle.mp_relaxed.proofs.SettledLemmas.{reached, unsettled_begin, unsettled_settled, unsettled_stale}
 use Rattle.mp_relaxed.proofs.search.settle.Goals as goal

@@ -1,6 +1,7 @@
 use Rattle.std.proofs.Common.{◌≡◌, ℕ, ◌<◌, ◌≤◌, All, vec_len}
-use Rattle.mp_relaxed.specs.Values.{Values}
-use Rattle.mp_relaxed.specs.Search.{AreBelow, AreLow, CountOpen, CountUnsettled, IsProper, Key, ServeAtZero, number_at, weight}
+use Rattle.mp_estimates.specs.Estimates.{Values}
+use Rattle.mp_estimates.specs.Lowering.{AreBelow, IsProper, Key, number_at, weight}
+use Rattle.mp_relaxed.specs.Search.{AreLow, CountOpen, CountUnsettled, ServeAtZero}
 use Rattle.mp_relaxed.proofs.search.settle.Given as goal
 
 abbrev pub invariant-pops : goal.invariant-pops

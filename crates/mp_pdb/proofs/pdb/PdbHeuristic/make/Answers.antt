@@ -7,7 +7,8 @@ use Rattle.mp_task.specs.Projected.{facts_of, projected}
 use Rattle.mp_pdb.specs.Masks.{Shows, SizedPattern}
 use Rattle.mp_pdb.specs.Moves.{IsMoveOf}
 use Rattle.mp_pdb.specs.Pattern.{abstract_distance, abstract_state, is_in}
-use Rattle.mp_pdb.specs.Table.{IsTable, MoveFits, known, number_at}
+use Rattle.mp_estimates.specs.Lowering.{known, number_at}
+use Rattle.mp_pdb.specs.Table.{IsTable, MoveFits}
 use Rattle.mp_pdb.specs.Laws.Bounds.{costs_fit}
 use Rattle.mp_pdb.proofs.Found.{numbers_are_distances}
 use Rattle.mp_pdb.proofs.MaskLemmas.{shows_below}

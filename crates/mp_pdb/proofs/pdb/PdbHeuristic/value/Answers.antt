@@ -3,7 +3,7 @@ use Rattle.std.specs.FinSet as set
 use Rattle.mp_task.specs.Projected.{projected_state}
 use Rattle.mp_pdb.proofs.Found.{value_is}
 use Rattle.mp_pdb.proofs.MaskLemmas.{shows_below}
-use Rattle.mp_pdb.proofs.TableLemmas.{known-none, known-some}
+use Rattle.mp_estimates.proofs.LoweringLemmas.{known-none, known-some}
 use Rattle.mp_pdb.proofs.pdb.PdbHeuristic.value.Goals as goal
 
 pub index-number-requires : goal.index-number-requires

@@ -2,7 +2,7 @@ use Rattle.std.proofs.Common.{◌∷◌, subst}
 use Rattle.std.proofs.lemmas.List.Sorted.{IsPermutation-map}
 use Rattle.std.specs.List.Sorted.{IsPermutation}
 use Rattle.std.specs.declared.cmp.Reverse.{Reverse}
-use Rattle.mp_pdb.specs.Table.{Key}
+use Rattle.mp_estimates.specs.Lowering.{Key}
 use Rattle.mp_pdb.specs.Queue.{queue_entries}
 use Rattle.mp_pdb.proofs.queue.Queue.pop.Goals as goal
 

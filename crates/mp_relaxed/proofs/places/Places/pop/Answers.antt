@@ -2,7 +2,8 @@ use Rattle.std.proofs.Common.{◌∷◌, ◌<◌, length, subst, sym, ◌∙◌,
 use Rattle.std.proofs.Math.ListN.{set as set_at}
 use Rattle.std.specs.List.Sorted.{IsPermutation}
 use Rattle.mp_relaxed.specs.Places.{AreEmptyWithin, placed}
-use Rattle.mp_relaxed.specs.Search.{AreFrom, key}
+use Rattle.mp_estimates.specs.Lowering.{key}
+use Rattle.mp_relaxed.specs.Search.{AreFrom}
 use Rattle.mp_relaxed.proofs.PlaceLemmas.{empty_all, empty_joined, placed_least, placed_none, placed_popped}
 use Rattle.mp_relaxed.proofs.places.Places.pop.Goals as goal
 

@@ -2,7 +2,7 @@ use Rattle.std.proofs.Common.{◌∷◌, subst, arith}
 use Rattle.std.proofs.Math.ListN.{set as set_at}
 use Rattle.std.specs.List.Sorted.{IsPermutation}
 use Rattle.mp_relaxed.specs.Places.{placed}
-use Rattle.mp_relaxed.specs.Search.{key}
+use Rattle.mp_estimates.specs.Lowering.{key}
 use Rattle.mp_relaxed.proofs.PlaceLemmas.{placed_pushed}
 use Rattle.mp_relaxed.proofs.places.Places.push.Goals as goal
 

@@ -4,7 +4,8 @@ use Rattle.std.proofs.lemmas.List.Sorted.{IsPermutation-map}
 use Rattle.std.specs.BinaryHeap.{heap_items}
 use Rattle.std.specs.List.Sorted.{IsPermutation}
 use Rattle.std.specs.declared.cmp.Reverse.{Reverse}
-use Rattle.mp_relaxed.specs.Search.{Key, AreFrom}
+use Rattle.mp_estimates.specs.Lowering.{Key}
+use Rattle.mp_relaxed.specs.Search.{AreFrom}
 use Rattle.mp_relaxed.proofs.QueueLemmas.{least_of, popped_high, popped_low}
 use Rattle.mp_relaxed.proofs.queue.Queue.pop.Goals as goal
 

@@ -4,7 +4,7 @@ use Rattle.std.proofs.lemmas.List.Sorted.{All-permutation, IsPermutation-map}
 use Rattle.std.specs.BinaryHeap.{heap_items}
 use Rattle.std.specs.List.Sorted.{IsPermutation}
 use Rattle.std.specs.declared.cmp.Reverse.{Reverse}
-use Rattle.mp_relaxed.specs.Search.{Key, key}
+use Rattle.mp_estimates.specs.Lowering.{Key, key}
 use Rattle.mp_relaxed.proofs.QueueLemmas.{on_ok, pushed_high, pushed_low}
 use Rattle.mp_relaxed.proofs.queue.Queue.push.Goals as goal
 

@@ -8,9 +8,9 @@ pub returns : goal.returns
 returns c =
     let old = c.self.inside.items.items in
     let row = facts_of c.args.publics c.args.pub_facts.now c.args.priv_facts.now in
-    let at : c.in-Ok.start ≡ length old = search rules in
+    let at : c.in_ok-start.start ≡ length old = search rules in
     let long = ap length c.in_ok-gather.ensures.ok ∙ length-append old row in
-    let len_is : c.in-Ok-try_from.len ≡ length row = omega arith in
-    let pushed = rows_pushed old row _ c.self.inside.rows.items _ c.in-Ok.start c.self.invariant c.in_ok-gather.ensures.ok at
-    (c.in_ok-push.ensures.items ∙ (λ i. c.self.inside.rows.items ++ record { start = c.in-Ok.start; len = len_is i } ∷ [])) in
+    let len_is : c.in_ok-len.len ≡ length row = omega (arith, c.in_ok-len.ensures.ok) in
+    let pushed = rows_pushed old row _ c.self.inside.rows.items _ c.in_ok-start.start c.self.invariant c.in_ok-gather.ensures.ok at
+    (c.in_ok-push.ensures.items ∙ (λ i. c.self.inside.rows.items ++ record { start = c.in_ok-start.start; len = len_is i } ∷ [])) in
     cc

@@ -5,7 +5,7 @@ use Rattle.std.proofs.lemmas.List.Elements.{All-nil, All-head, All-tail}
 use Rattle.std.proofs.lemmas.List.Sums.{sum_by-cons}
 use Rattle.std.proofs.lemmas.List.Sorted.{All-permutation, sum_by_popped}
 use Rattle.std.specs.List.Sorted.{IsPermutation}
-use Rattle.mp_relaxed.specs.Search.{number_at, Key, key, Waits, IsProper, entries}
+use Rattle.mp_estimates.specs.Lowering.{number_at, Key, key, Waits, IsProper, entries}
 
 -- one for the entry that is counted
 abbrev pub mark_of : ℕ → ℕ → Key → ℕ

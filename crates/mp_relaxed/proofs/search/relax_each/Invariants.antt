@@ -1,7 +1,8 @@
 use Rattle.std.proofs.Common.{◌≡◌, ℕ, ◌<◌, get_or, vec_len}
-use Rattle.mp_relaxed.specs.Values.{Values}
-use Rattle.mp_relaxed.specs.Search.{AreBelow, AreLow, HaveFallen, IsServed}
-use Rattle.mp_relaxed.proofs.search.relax_free.Given as goal
+use Rattle.mp_estimates.specs.Estimates.{Values}
+use Rattle.mp_estimates.specs.Lowering.{AreBelow, HaveFallen}
+use Rattle.mp_relaxed.specs.Search.{AreLow, IsServed}
+use Rattle.mp_relaxed.proofs.search.relax_each.Given as goal
 
 abbrev pub invariant-loop-k : goal.invariant-loop-k
 invariant-loop-k l = record {
