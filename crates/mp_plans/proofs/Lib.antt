@@ -12,3 +12,11 @@ mod AgentLemmas
 mod SlotLemmas
 -- a plan has no more steps than its text has bytes
 pub mod PlanSizes
+-- lines and numbers as they are written are read again; so are steps, and what each agent has of a plan; taken by their
+-- times these are the plan; all together
+mod WrittenLines
+mod WrittenNumbers
+mod WrittenSteps
+mod WrittenAgents
+mod WrittenOrder
+mod WrittenPlans

@@ -6,6 +6,8 @@ pub mod Names
 pub mod Lines
 -- plans as texts
 pub mod Plan
+-- outcomes that are written with their plan
+pub mod Written
 -- steps at the places of their times
 pub mod Slots
 -- what is told of a plan that was checked

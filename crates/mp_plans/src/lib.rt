@@ -2,6 +2,7 @@
 #![tactic(auto)]
 
 mod field;
+mod laws;
 mod line;
 mod made;
 mod name;
@@ -10,6 +11,7 @@ mod plan;
 mod verdict;
 mod write;
 
+pub use laws::written_plans_are_read_again;
 pub use made::{made_text, shown_text};
 pub use plan::{PlanText, read_plan};
 pub use verdict::verdict_text;
