@@ -1,0 +1,82 @@
+//! Posts at the end.
+
+ghost use Rattle.std.specs.Prelude.{◌≡◌, ◌≤◌, ℕ, All, length, map, IfErr, IfOk};
+ghost use Rattle.mp_messages.specs.History.{IsHistory, agent_of, part};
+ghost use Rattle.mp_stamps.specs.Lists.{IsAgentOf, Matched, entries, list_of};
+ghost use Rattle.mp_stamps.specs.Merged.{Merged};
+ghost use Rattle.mp_post_rule.specs.Kinds.{HoldsAll};
+ghost use Rattle.mp_post_rule.specs.Table.{ArePosts};
+ghost use Rattle.mp_post_rule.specs.Views.{list_at, lists_of};
+ghost use Rattle.mp_post.specs.Desks.{IsDeskOf};
+
+use crate::desk::Desk;
+use mp_list::{Copied, List, OutOfMemory};
+use mp_messages::Log;
+use mp_post_rule::{Posts, look_at_lists};
+use mp_stamps::{StampedList, StampedLists, merge_stamped};
+use std::alloc::Global;
+
+/// What each agent signed, without stamps, that of agent 1 first.
+pub type Lists = List<Log>;
+
+/// The entries of a list without their stamps.
+fn entries_of(alloc: Global, list: &StampedList) -> Result<Log, OutOfMemory>
+    ensures { IfOk result (λ log. log ≡ entries list.now) }
+{
+    let mut log = Log::with_capacity(alloc, list.len())?;
+    for stamped in list.as_slice() {
+        log.push(stamped.entry.copy()?)?;
+    }
+    Ok(log)
+}
+
+/// The entries of all lists without their stamps.
+fn all_entries(alloc: Global, lists: &StampedLists) -> Result<Lists, OutOfMemory>
+    ensures { IfOk result (λ all. all ≡ map entries lists.now) }
+{
+    let mut all = Lists::with_capacity(alloc, lists.len())?;
+    for list in lists.as_slice() {
+        all.push(entries_of(alloc, list)?)?;
+    }
+    Ok(all)
+}
+
+/// The one log of some lists that fit each other, and the entries of each of them.
+fn logs(alloc: Global, lists: &StampedLists) -> Result<(Log, Lists), OutOfMemory>
+    requires count { (1 ≤ length lists.now) × (length lists.now ≤ 16) }
+    requires matched { Matched lists.now }
+    ensures merged { IfOk result (λ r. Merged lists.now r.0) }
+    ensures legal { IfOk result (λ r. IsHistory r.0) }
+    ensures parts { IfOk result (λ r. (agent : ℕ) → IsAgentOf (length lists.now) agent
+        → part r.0 agent ≡ entries (list_of lists.now agent)) }
+    ensures agents { IfOk result (λ r. All (λ e. IsAgentOf (length lists.now) (agent_of e)) r.0) }
+    ensures lists { IfOk result (λ r. r.1 ≡ map entries lists.now) }
+{
+    let log = merge_stamped(lists)?;
+    let all = all_entries(alloc, lists)?;
+    Ok((log, all))
+}
+
+impl Desk {
+    /// Ends the posts of a desk that holds all agents: the log of all that they signed, merged by stamps, and what each
+    /// of them signed. For want of memory posts and desk come back.
+    pub fn close(mut self, posts: Posts) -> Result<(Log, Lists), (OutOfMemory, Posts, Desk)>
+        requires posts { ArePosts posts.shared.table_id posts.shared.key }
+        requires desk { IsDeskOf posts.shared.table_id posts.shared.key self }
+        requires all { HoldsAll posts.shared.key self.view }
+        ensures merged { IfOk result (λ r. Merged (lists_of self.view) r.0) }
+        ensures legal { IfOk result (λ r. IsHistory r.0) }
+        ensures parts { IfOk result (λ r. (agent : ℕ) → IsAgentOf posts.shared.key agent
+            → part r.0 agent ≡ entries (list_at self.view agent)) }
+        ensures agents { IfOk result (λ r. All (λ e. IsAgentOf posts.shared.key (agent_of e)) r.0) }
+        ensures lists { IfOk result (λ r. r.1 ≡ map entries (lists_of self.view)) }
+        ensures refused { IfErr result (λ r. (r.1.shared ≡ posts.shared) × (r.2 ≡ self)) }
+    {
+        look_at_lists(&posts, &mut self.seat);
+        let alloc = *self.held.allocator();
+        match logs(alloc, &self.lists) {
+            Ok(both) => Ok(both),
+            Err(refused) => Err((refused, posts, self)),
+        }
+    }
+}
