@@ -3,8 +3,8 @@
 //! must be printed was worked out by hand.
 #![tactic(auto)]
 
-use mp_outside::MemSink;
-use mp_top::run_on_files;
+use mp_outside::{FileSource, MemSink, NoGate};
+use mp_top::{Report, run};
 use std::alloc::{AllocGlobal, Global};
 use std::fs;
 use std::io::{self, Print};
@@ -40,7 +40,17 @@ fn show_example<R: Files + Threads + Wait + Sync + AllocGlobal + Print>(
     let mut out = MemSink::new(alloc, PIECE, Vec::new(alloc));
     let mut err = MemSink::new(alloc, PIECE, Vec::new(alloc));
     let words = words(alloc, line)?;
-    let status = run_on_files(rt, alloc, Some(words), &mut out, &mut err);
+    let mut report = Report::new(alloc);
+    let status = run(
+        rt,
+        alloc,
+        words.as_slice(),
+        &mut FileSource::new(rt),
+        &mut out,
+        &mut err,
+        &NoGate,
+        &mut report,
+    );
     let code = status.code();
     println!(rt; "[{line}]")?;
     println!(rt; "status {code}")?;

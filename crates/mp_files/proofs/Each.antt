@@ -1,7 +1,7 @@
 -- Readings of items, one after another: one value more, and a refusal.
 use Rattle.std.proofs.Common.{◌≡◌, ◌<◌, ◌⊎◌, ⊎_elim, inl, inr, ℕ, zero, suc, arith, List, [], ◌∷◌, ◌++◌, drop, length, length-append, map, option_map, Some, Result, Ok, Err, IfErr, IsErrAnd, refl, sym, subst, ap, ◌∙◌}
 use Rattle.std.specs.Prelude.{slice_get}
-use Rattle.std.proofs.lemmas.List.{map-append}
+use Rattle.std.proofs.lemmas.List.{length-map, map-append}
 use Rattle.std.proofs.lemmas.Option.{none-some, same_Some, slice_get-map}
 use Rattle.mp_files.specs.Reading.{AreRead, Each, IsRefused, Reading, Refuses}
 use Rattle.mp_files.specs.declared.refusal.Refusal.{Refusal}
@@ -23,6 +23,12 @@ item_within (x ∷ xs) (suc k) l = item_within xs k (omega arith)
 -- an item under a map
 pub mapped : {X Y : Type 0} (f : X → Y) (xs : List X) (k : ℕ) (x : X) → slice_get xs k ≡ Some x → slice_get (map f xs) k ≡ Some (f x)
 mapped f xs k x e = slice_get-map f xs k ∙ ap (option_map f) e
+
+-- what stands under a map is that of an item
+pub unmapped : {X Y : Type 0} (f : X → Y) (xs : List X) (k : ℕ) (y : Y) → slice_get (map f xs) k ≡ Some y → (x : X) × (slice_get xs k ≡ Some x) × (f x ≡ y)
+unmapped f [] k y e = absurd (none-some y e)
+unmapped f (x ∷ xs) zero y e = (x, refl, same_Some (f x) y e)
+unmapped f (x ∷ xs) (suc k) y e = unmapped f xs k y e
 
 -- of items that are left behind the first n, the first one and the others
 pub item_left : {X : Type 0} (xs : List X) (n : ℕ) (x : X) (others : List X) → x ∷ others ≡ drop n xs → slice_get xs n ≡ Some x
@@ -98,3 +104,22 @@ grown xs new x same = let size = ap length same ∙ length-append xs (x ∷ []) 
 pub handed_on : {A E : Type 0} (r : Result A E) (e : E) (P : E → Type 0) → IsErrAnd r (λ x. x ≡ e) → P e → IfErr r P
 handed_on (Ok a) e P handed p = tt
 handed_on (Err x) e P handed p = subst P (sym handed) p
+
+-- ---- readings of what stands under a map
+
+module _ {X Y Z : Type 0} (read : ℕ → Y → Reading Z) (f : X → Y) (xs : List X) (values : List Z) where
+  pub each_mapped : Each (λ k x. read k (f x)) xs (Ok values) → Each read (map f xs) (Ok values)
+  each_mapped (size, h) = (
+    size ∙ sym (length-map xs f),
+    record {
+      each = λ k y z there here.
+          let x = unmapped f xs k y there in
+          subst (λ w. read k w (Ok z)) x.2 (h.each k x.0 z x.1 here);
+    },
+  )
+
+  pub each_unmapped : Each read (map f xs) (Ok values) → Each (λ k x. read k (f x)) xs (Ok values)
+  each_unmapped (size, h) = (
+    size ∙ length-map xs f,
+    record { each = λ k x z there here. h.each k (f x) z (mapped f xs k x there) here },
+  )

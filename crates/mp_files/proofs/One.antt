@@ -1,5 +1,5 @@
 -- What the files of a team lead to is one thing alone.
-use Rattle.std.proofs.Common.{◌≡◌, ◌<◌, ◌≤◌, ◌⊎◌, inl, inr, ℕ, zero, suc, List, [], length, Option, Some, None, Result, Ok, Err, refl, sym, ap, ◌∙◌, subst, arith}
+use Rattle.std.proofs.Common.{◌≡◌, ◌<◌, ◌≤◌, ◌⊎◌, inl, inr, ℕ, zero, suc, List, [], length, map, Option, Some, None, Result, Ok, Err, refl, sym, ap, ◌∙◌, subst, arith}
 use Rattle.std.specs.Prelude.{Contains}
 use Rattle.mp_factor.specs.Values.Files.{domain_value, problem_value}
 use Rattle.mp_factor.specs.Faults.Files.{domain_faults, problem_faults}
@@ -17,12 +17,13 @@ use Rattle.mp_typing.specs.CheckFaults.{check_faults}
 use Rattle.mp_typing.specs.FirstFault.{IsFirst as IsFirstCheck}
 use Rattle.mp_typing.specs.declared.fault.Fault.{Fault as CheckFault}
 use Rattle.mp_files.specs.File.{Checks, Fetches, HasShape, Parts, SaysDomain, SaysProblem, Spells, check_refusal, file_of, longest_file, shape_refusal, text_refusal}
-use Rattle.mp_files.specs.Reading.{Each}
-use Rattle.mp_files.specs.Team.{FetchesTwo, FindsTwo, HoldsTeam, IsFirst, MeasuresTwo, ReadsMade, ReadsTeam, ReadsTexts, Says, Two}
+use Rattle.mp_files.specs.Reading.{Each, Reading}
+use Rattle.mp_files.specs.Team.{FetchesTwo, FindsTwo, FoundTwo, HoldsTeam, IsFirst, MeasuresTwo, ReadsFound, ReadsMade, ReadsTeam, ReadsTexts, Says, Two, found_in_memory, found_under}
 use Rattle.mp_files.specs.declared.refusal.FileOf.{FileOf}
 use Rattle.mp_files.specs.declared.refusal.Refusal.{Refusal}
 use Rattle.mp_files.specs.declared.refusal.Refusal.TheVariants as why
-use Rattle.mp_files.proofs.Readings.{IsOne, as_err, ok_err, one_each, one_given, one_then}
+use Rattle.mp_files.proofs.Each.{each_mapped, each_unmapped}
+use Rattle.mp_files.proofs.Readings.{IsOne, as_err, ok_err, one_each, one_given, one_then, same_ok}
 
 -- the laws that are used: one tree and one first fault of a text, not both, and one first fault of a tree and of a
 -- factor
@@ -153,3 +154,25 @@ one_first_made laws texts r s h k = as_err (Err r) (Err s) r s (one_made laws te
 
 pub made_none : Laws → (texts : List Two) (team : List Factor) (r : Refusal) → ReadsMade texts (Ok team) → ReadsMade texts (Err r) → ⊥
 made_none laws texts team r h k = ok_err team r (one_made laws texts (Ok team) (Err r) h k)
+
+-- ---- what is found for a team leads to one team, under whatever names
+
+abbrev finds : ℕ → FoundTwo → Reading Two
+finds agent two = FindsTwo agent two.domain two.problem
+
+pub one_found : Laws → (found : List FoundTwo) (team other : List Factor) → ReadsFound found (Ok team) → ReadsFound found (Ok other) → other ≡ team
+one_found laws found team other h k =
+    let one = one_then (Each finds found) ReadsTexts (one_each finds (λ agent two. one_two agent two.domain two.problem) found) (one_of_texts laws) in
+    same_ok other team (one (Ok other) (Ok team) k h)
+
+pub held_found : (files : Files) (names : List Two) (team : List Factor) → HoldsTeam files names team → ReadsFound (map (found_under files) names) (Ok team)
+held_found files names team (texts, fetched, read) =
+    (texts, each_mapped finds (found_under files) names texts fetched, read)
+
+pub found_held : (files : Files) (names : List Two) (team : List Factor) → ReadsFound (map (found_under files) names) (Ok team) → HoldsTeam files names team
+found_held files names team (texts, found, read) =
+    (texts, each_unmapped finds (found_under files) names texts found, read)
+
+pub made_found : (made : List Two) (team : List Factor) → ReadsMade made (Ok team) → ReadsFound (map found_in_memory made) (Ok team)
+made_found made team (texts, measured, read) =
+    (texts, each_mapped finds found_in_memory made texts measured, read)

@@ -22,6 +22,19 @@ FindsTwo agent domain_found problem_found =
     (λ domain. Then (Fetches problem_found (file_of agent file.Problem))
     (λ problem. Gives (record { domain = domain; problem = problem })))
 
+-- what is found for an agent: a text for its domain, and for its problem, or none
+pub record FoundTwo : Type 0 where
+  pub domain : Option Text
+  pub problem : Option Text
+
+-- under the names of its files
+abbrev pub found_under : Files → Two → FoundTwo
+found_under files names = record { domain = files names.domain; problem = files names.problem }
+
+-- as texts in memory
+abbrev pub found_in_memory : Two → FoundTwo
+found_in_memory texts = record { domain = Some texts.domain; problem = Some texts.problem }
+
 -- the names of an agent's files lead to their texts
 abbrev pub FetchesTwo : Files → ℕ → Two → Reading Two
 FetchesTwo files agent names = FindsTwo agent (files names.domain) (files names.problem)
@@ -48,6 +61,10 @@ ReadsTeam files names = Then (Each (FetchesTwo files) names) ReadsTexts
 -- the texts of a team in memory lead to its factors
 abbrev pub ReadsMade : List Two → Reading (List Factor)
 ReadsMade texts = Then (Each MeasuresTwo texts) ReadsTexts
+
+-- what is found for the agents of a team leads to its factors
+abbrev pub ReadsFound : List FoundTwo → Reading (List Factor)
+ReadsFound found = Then (Each (λ agent two. FindsTwo agent two.domain two.problem) found) ReadsTexts
 
 abbrev pub HoldsTeam : Files → List Two → List Factor → Type 0
 HoldsTeam files names team = ReadsTeam files names (Ok team)

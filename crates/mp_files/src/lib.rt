@@ -12,6 +12,6 @@ mod shapes;
 mod team;
 
 pub use fetched::{AgentFiles, AgentTexts};
-pub use first::one_first;
+pub use first::{one_first, one_team};
 pub use refusal::{Fault, FileOf, Refusal};
 pub use team::{read_team, read_texts};

@@ -52,6 +52,15 @@ module _ (law : KeepsTasks) (value : AgentTask → Numbers → Numbers → Optio
       no_refusal law value limit team text checked found n again read
       (subst (λ s. IsFound value limit team s found) (sym events) f) refused
 
+  -- the text leads to what was found, where the events happened one after another
+  pub trace_replayed : found.log ≡ log_of_run value limit f.tasks.tasks schedule → IsReplayed value limit team text found
+  trace_replayed logged = record {
+    lines = again;
+    read = read;
+    in_turn =
+        subst (λ s. IsFoundInTurn value limit team s found) (sym events) (record { is_found = f; logged = logged });
+  }
+
   module _ (its : Solution) (g : IsReplayed value limit team text its) where
     same : map (λ line. line.event) g.lines ≡ schedule
     same = ap (map (λ line. line.event)) (one_reading law value limit team text checked g.lines again g.read read) ∙ events

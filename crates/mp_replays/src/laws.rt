@@ -49,13 +49,19 @@ pub fn refused_lines_are_one()
 
 /// Where a team found something by some schedule, on one thread or by workers, the text of its trace is a schedule that is
 /// not refused, and what is found by it is the same: schedule, messages of each two agents, trace, answer, text and views.
-/// The logs are equal where the events of both happened one after another.
+/// Where the events happened one after another, the trace leads to just what was found, and the logs are equal where those of
+/// both did.
 pub fn traces_are_replayed()
     ensures accepted { (value : AgentTask → Numbers → Numbers → Option ℕ) (limit : ℕ) (team : List Factor)
         (schedule : List Event) (found : Solution) (text : Text) (n : ℕ)
         → All IsChecked team → length team ≤ 16
         → IsFound value limit team schedule found → IsTraceOf found.log text
         → IsRefusedLine value limit team text n → ⊥ }
+    ensures replayed { (value : AgentTask → Numbers → Numbers → Option ℕ) (limit : ℕ) (team : List Factor)
+        (schedule : List Event) (found : Solution) (text : Text)
+        → All IsChecked team → length team ≤ 16
+        → IsFoundInTurn value limit team schedule found → IsTraceOf found.log text
+        → IsReplayed value limit team text found }
     ensures same { (value : AgentTask → Numbers → Numbers → Option ℕ) (limit : ℕ) (team : List Factor)
         (schedule : List Event) (found again : Solution) (text : Text)
         → All IsChecked team → length team ≤ 16

@@ -16,5 +16,9 @@ pub mod Said
 pub mod Decided
 -- what a call keeps, by how it ends
 pub mod Kept
+-- where nothing is refused, a call answers
+pub mod Complete
+-- what is found for the agents of a request leads to one team
+pub mod OneTeam
 -- what is printed for two requests
 pub mod OfTwo

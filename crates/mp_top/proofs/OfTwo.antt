@@ -1,5 +1,6 @@
 -- What is printed for two requests.
-use Rattle.std.proofs.Common.{◌≡◌, ◌≤◌, ℕ, true, List, ◌∷◌, ◌++◌, length, map, All, Option, refl, sym, ap, subst, ◌∙◌}
+use Rattle.std.proofs.Common.{◌≡◌, ◌≤◌, ℕ, true, List, ◌∷◌, ◌++◌, length, map, All, Option, Some, None, refl, sym, ap, subst, ◌∙◌}
+use Rattle.std.proofs.lemmas.Option.{same_Some}
 use Rattle.mp_factor.specs.declared.factor.Factor.{Factor}
 use Rattle.mp_grounder.specs.Checked.{IsChecked}
 use Rattle.mp_joint.specs.Fact.{Text}
@@ -12,7 +13,7 @@ use Rattle.mp_renaming.specs.Team.{IsRenamedTeam}
 use Rattle.mp_replays.specs.Same.{AreSameSearches, IsFoundAgain}
 use Rattle.mp_replays.specs.Traces.{IsTraceOf}
 use Rattle.mp_sets.specs.Numbers.{Numbers}
-use Rattle.mp_solutions.specs.Solution.{IsFound, IsFoundInTurn, IsRefusedLine, IsReplayed}
+use Rattle.mp_solutions.specs.Solution.{IsFound, IsFoundInTurn, IsReplayed}
 use Rattle.mp_solutions.specs.declared.solution.Solution.{Solution}
 use Rattle.mp_split.specs.Team.{AreTasksOf}
 use Rattle.mp_split.specs.declared.team.Tasks.{Tasks}
@@ -22,12 +23,20 @@ use Rattle.mp_text.specs.Schedule.{is_end}
 use Rattle.mp_text.specs.Trace.{trace_text}
 use Rattle.mp_words.specs.Requests.{Searching, ToReplay, Wanted}
 use Rattle.mp_words.specs.Requests.Wanted.{checks, makes, replays, solves}
+use Rattle.mp_solve.specs.Refused.{AreWithin}
+use Rattle.mp_world.specs.Logs.{IsLog}
 use Rattle.mp_world.specs.declared.answer.Answer.{Answer}
 use Rattle.mp_world.specs.declared.answer.Answer.TheVariants as answer
-use Rattle.mp_top.specs.Asked.{KeepsLimits, values_of}
-use Rattle.mp_top.specs.Outcome.{HasTrace, IsOutcome, Searches, behind_trace, printed_text, reported, team_in}
+use Rattle.mp_top.specs.Asked.{FirstFile, KeepsLimits, TeamRequest, Texts, agents_of, longest_schedule, team_request, texts_of, values_of}
+use Rattle.mp_top.specs.First.{IsAccepted, IsFirst}
+use Rattle.mp_top.specs.FirstText.{IsFirstText, IsHeld}
+use Rattle.mp_top.specs.Outcome.{AreSameRuns, HasTrace, IsOutcome, IsPrintedAgain, Printed, Searches, answer_status, behind_trace, printed_text, reported, team_in}
+use Rattle.mp_top.specs.Team.{IsFoundForBoth, IsTeam}
+use Rattle.mp_top.specs.declared.refusal.Refusal.{Refusal}
 use Rattle.mp_top.specs.declared.report.Report.{Report}
 use Rattle.mp_top.specs.declared.status.Status.{Status}
+use Rattle.mp_top.proofs.Checked.{checked_team}
+use Rattle.mp_top.proofs.OneTeam.{TeamLaw, one_team, team_held, team_of_both}
 
 -- what was found was found for a team by the events of some schedule, one after another, and has a text
 abbrev FoundBy : Searching → List Factor → Report → Text → Type 0
@@ -61,7 +70,30 @@ few_agents held (replays w) report ended text keeps (o, end) = subst (λ n. n �
 few_agents held (checks w) report ended text keeps o = subst (λ n. n ≤ 16) (sym o.is_team.one_each) keeps.at_most
 few_agents held (makes w) report ended text keeps (o, end) = subst (λ n. n ≤ 16) (sym o.is_team.one_each) keeps.at_most
 
+outcome_team : (held : Option Files) (request : Wanted) (report : Report) (ended : Status) (text : Text) → (o : IsOutcome held request report ended text) → IsTeam held (texts_of request) (team_in held request report ended text o)
+outcome_team held (solves w) report ended text (o, end) = o.is_team.is_team
+outcome_team held (replays w) report ended text (o, end) = o.is_team.is_team
+outcome_team held (checks w) report ended text o = o.is_team.is_team
+outcome_team held (makes w) report ended text (o, end) = o.is_team.is_team
+
+outcome_within : (held : Option Files) (request : Wanted) (s : Searching) (report : Report) (ended : Status) (text : Text) → Searches request s → (o : IsOutcome held request report ended text) → AreWithin (team_in held request report ended text o)
+outcome_within held (solves w) s report ended text is (o, end) = o.solved.within
+outcome_within held (replays w) s report ended text is (o, end) = o.replayed.within
+outcome_within held (checks w) s report ended text is o = absurd is
+outcome_within held (makes w) s report ended text is (o, end) = o.solved.within
+
+outcome_status : (held : Option Files) (request : Wanted) (s : Searching) (report : Report) (ended : Status) (text : Text) → Searches request s → IsOutcome held request report ended text → ended ≡ answer_status report.answer
+outcome_status held (solves w) s report ended text is (o, end) = end
+outcome_status held (replays w) s report ended text is (o, end) = end
+outcome_status held (checks w) s report ended text is o = absurd is
+outcome_status held (makes w) s report ended text is (o, end) = end
+
 -- ---- traces
+
+-- the text of the first file is the one that is held
+text_held : (held : Option Files) (file : FirstFile) (text first : Text) → IsHeld held file.name text → IsFirstText held (Some file) (Some first) → first ≡ text
+text_held None file text first there is = absurd there
+text_held (Some files) file text first there is = same_Some first text (sym is.0 ∙ there)
 
 behind_ends : (a : Answer) → is_end (behind_trace a) ≡ true
 behind_ends answer.Nothing = refl
@@ -85,22 +117,39 @@ is_trace report text outcome printed = record {
   text_is = printed;
 }
 
--- the law of mp_replays: a trace is not refused
-abbrev pub Accepts : Type 0
-Accepts =
+-- the law of mp_replays: the text of a trace leads to what was found
+abbrev pub LeadsBack : Type 0
+LeadsBack =
     (value : AgentTask → Numbers → Numbers → Option ℕ) (limit : ℕ) (team : List Factor) (schedule : List Event)
-    (found : Solution) (text : Text) (n : ℕ)
+    (found : Solution) (text : Text)
     → All IsChecked team → length team ≤ 16
-    → IsFound value limit team schedule found → IsTraceOf found.log text
-    → IsRefusedLine value limit team text n → ⊥
+    → IsFoundInTurn value limit team schedule found → IsTraceOf found.log text
+    → IsReplayed value limit team text found
 
-pub trace_accepted : Accepts → (held : Option Files) (request : Wanted) (s : Searching) (report : Report) (ended : Status) (text : Text) (n : ℕ) → KeepsLimits request → Searches request s → HasTrace request → (first : IsOutcome held request report ended text) → IsRefusedLine (values_of s.heuristic) s.limit (team_in held request report ended text first) text n → ⊥
-trace_accepted law held request s report ended text n keeps is trace first refused =
-    let found = outcome_found held request s report ended text is first in
-    let outcome = outcome_text held request s report ended text is first in
-    law (values_of s.heuristic) s.limit (team_in held request report ended text first) found.0 (reported report outcome) text n
-    (outcome_checked held request report ended text first) (few_agents held request report ended text keeps first) found.1.is_found
-    (is_trace report text outcome (traced held request s report ended text is trace first)) refused
+-- where nothing is refused of what the texts lead to, there is no first refusal
+abbrev pub NoneFirst : Type 0
+NoneFirst =
+    (files : Files) (request : TeamRequest) (text : Option Text) (team : List Factor) (r : Refusal)
+    → IsFirstText (Some files) request.first text
+    → IsTeam (Some files) request.texts team → IsAccepted request.work team text
+    → IsFirst files request r → ⊥
+
+pub trace_accepted : LeadsBack → TeamLaw → NoneFirst → (held : Option Files) (files : Files) (request : Wanted) (replay : ToReplay) (first : Printed held request) (r : Refusal) → KeepsLimits request → Searches request replay.search → HasTrace request → IsFoundForBoth held (Some files) (texts_of request) (texts_of (replays replay)) → files replay.schedule ≡ Some first.text → length first.text ≤ longest_schedule → IsFirst files (team_request (replays replay)) r → ⊥
+trace_accepted back law none held files request replay first r keeps is trace both there short refused =
+    let s = replay.search in
+    let team = team_in held request first.report first.ended first.text first.outcome in
+    let found = outcome_found held request s first.report first.ended first.text is first.outcome in
+    let outcome = outcome_text held request s first.report first.ended first.text is first.outcome in
+    let again : IsReplayed (values_of s.heuristic) s.limit team first.text (reported first.report outcome) =
+    back (values_of s.heuristic) s.limit team found.0 (reported first.report outcome) first.text
+    (outcome_checked held request first.report first.ended first.text first.outcome)
+    (few_agents held request first.report first.ended first.text keeps first.outcome) found.1
+    (is_trace first.report first.text outcome (traced held request s first.report first.ended first.text is trace first.outcome)) in
+    none files (team_request (replays replay)) (Some first.text) team r
+    (there, short)
+    (team_held law held files (texts_of request) (agents_of replay.names) team both (outcome_team held request first.report first.ended first.text first.outcome))
+    (outcome_within held request s first.report first.ended first.text is first.outcome, (reported first.report outcome, again))
+    refused
 
 -- and it is replayed as it was
 abbrev pub Replays : Type 0
@@ -158,6 +207,30 @@ module _ (held other : Option Files) (request : Wanted) (replay : ToReplay) (rep
       (outcome_checked held request report ended text first) (few_agents held request report ended text keeps first) found.1
       (is_trace report text outcome (traced held request s report ended text is trace first)) (replayed_same team text_is)
 
+pub printed_again : Replays → ReplaysInTurn → TeamLaw → (held other : Option Files) (request : Wanted) (replay : ToReplay) (first : Printed held request) (second : Printed other (replays replay)) → KeepsLimits request → Searches request replay.search → HasTrace request → IsFoundForBoth held other (texts_of request) (texts_of (replays replay)) → IsHeld other replay.schedule first.text → IsPrintedAgain held other request (replays replay) first second
+printed_again law turn files held other request replay first second keeps is trace both there =
+    let team =
+    team_of_both files held other (texts_of request) (texts_of (replays replay))
+    (team_in held request first.report first.ended first.text first.outcome) second.outcome.0.team both
+    (outcome_team held request first.report first.ended first.text first.outcome) second.outcome.0.is_team.is_team in
+    let text =
+    text_held other (record { name = replay.schedule; longest = longest_schedule }) first.text second.outcome.0.schedule
+    there second.outcome.0.is_team.is_first in
+    let again =
+    trace_again held other request replay first.report second.report first.ended second.ended first.text second.text
+    first.outcome second.outcome law keeps is trace team text in
+    record {
+      text = again.0;
+      ended =
+          second.outcome.1 ∙ ap answer_status again.3
+          ∙ sym (outcome_status held request replay.search first.report first.ended first.text is first.outcome);
+      runs = record { alike = again.1; told = again.2; answer = again.3 };
+      views = again.4;
+      log =
+          log_again held other request replay first.report second.report first.ended second.ended first.text second.text
+          first.outcome second.outcome turn keeps is trace team text;
+    }
+
 -- ---- renaming
 
 abbrev pub KeepsViews : Type 0
@@ -166,6 +239,13 @@ KeepsViews =
     (team other : List Factor) (schedule : List Event) (found : Solution) (u : Tasks)
     → All IsChecked team → All IsChecked other → IsRenamedTeam place r team other
     → IsFound value limit team schedule found → AreTasksOf other u → u.views ≡ found.views
+
+abbrev pub KeepsLog : Type 0
+KeepsLog =
+    (value : AgentTask → Numbers → Numbers → Option ℕ) (limit place : ℕ) (r : Renaming)
+    (team other : List Factor) (schedule : List Event) (found : Solution) (u : Tasks)
+    → All IsChecked team → All IsChecked other → IsRenamedTeam place r team other
+    → IsFound value limit team schedule found → AreTasksOf other u → IsLog value limit u.tasks found.log
 
 abbrev pub KeepsMessages : Type 0
 KeepsMessages =
@@ -183,42 +263,75 @@ KeepsLogs =
     → IsFoundInTurn value limit team schedule found → IsFoundInTurn value limit other schedule its
     → its.log ≡ found.log
 
-module _ (held other : Option Files) (request its : Wanted) (s : Searching) (report renamed : Report) (ended its_end : Status) (text printed : Text) (place : ℕ) (r : Renaming) (is : Searches request s) (also : Searches its s) (first : IsOutcome held request report ended text) (second : IsOutcome other its renamed its_end printed) (renames : IsRenamedTeam place r (team_in held request report ended text first) (team_in other its renamed its_end printed second)) where
-  pub views_kept : KeepsViews → renamed.views ≡ report.views
-  views_kept law =
-      let found = outcome_found held request s report ended text is first in
-      let too = outcome_found other its s renamed its_end printed also second in
-      too.1.is_found.views
-      ∙ law (values_of s.heuristic) s.limit place r (team_in held request report ended text first) (team_in other its renamed its_end printed second) found.0
-      (reported report (outcome_text held request s report ended text is first)) too.1.is_found.tasks
-      (outcome_checked held request report ended text first) (outcome_checked other its renamed its_end printed second)
-      renames found.1.is_found too.1.is_found.are_tasks
+module _ (law : TeamLaw) (files others : Files) (request : Wanted) (s : Searching) (first : Printed (Some files) request)
+    (team other : List Factor) (place : ℕ) (r : Renaming) (is : Searches request s)
+    (of_files : IsTeam (Some files) (texts_of request) team) (renames : IsRenamedTeam place r team other) where
+  abbrev own : List Factor
+  own = team_in (Some files) request first.report first.ended first.text first.outcome
 
-  -- the second by the events that the first was found by
-  found_by_same : schedule renamed.log ≡ schedule report.log
-      → IsFoundInTurn (values_of s.heuristic) s.limit (team_in other its renamed its_end printed second)
-      (outcome_found held request s report ended text is first).0 (reported renamed (outcome_text other its s renamed its_end printed also second))
-  found_by_same same =
-      let theirs = reported renamed (outcome_text other its s renamed its_end printed also second) in
-      let found = outcome_found held request s report ended text is first in
-      let too = outcome_found other its s renamed its_end printed also second in
-      let events : too.0 ≡ found.0 = sym too.1.is_found.logged ∙ same ∙ found.1.is_found.logged in
-      subst (λ es. IsFoundInTurn (values_of s.heuristic) s.limit (team_in other its renamed its_end printed second) es theirs) events too.1
+  own_checked : All IsChecked own
+  own_checked = outcome_checked (Some files) request first.report first.ended first.text first.outcome
 
-  pub messages_kept : KeepsMessages → schedule renamed.log ≡ schedule report.log → AreAlike report.log renamed.log × TellTheSame report.log renamed.log × (renamed.answer ≡ report.answer)
-  messages_kept law same =
-      let found = outcome_found held request s report ended text is first in
-      let search =
-      law (values_of s.heuristic) s.limit place r (team_in held request report ended text first) (team_in other its renamed its_end printed second) found.0
-      (reported report (outcome_text held request s report ended text is first)) (reported renamed (outcome_text other its s renamed its_end printed also second))
-      (outcome_checked held request report ended text first) (outcome_checked other its renamed its_end printed second)
-      renames found.1.is_found (found_by_same same).is_found in
-      (search.alike, search.told, search.answer)
+  same_own : team ≡ own
+  same_own =
+      one_team law files (texts_of request) own team
+      (outcome_team (Some files) request first.report first.ended first.text first.outcome) of_files
 
-  pub log_kept : KeepsLogs → schedule renamed.log ≡ schedule report.log → renamed.log ≡ report.log
-  log_kept law same =
-      let found = outcome_found held request s report ended text is first in
-      law (values_of s.heuristic) s.limit place r (team_in held request report ended text first) (team_in other its renamed its_end printed second) found.0
-      (reported report (outcome_text held request s report ended text is first)) (reported renamed (outcome_text other its s renamed its_end printed also second))
-      (outcome_checked held request report ended text first) (outcome_checked other its renamed its_end printed second)
-      renames found.1 (found_by_same same)
+  own_renames : IsRenamedTeam place r own other
+  own_renames = subst (λ t. IsRenamedTeam place r t other) same_own renames
+
+  abbrev own_text : Text
+  own_text = outcome_text (Some files) request s first.report first.ended first.text is first.outcome
+
+  own_found : FoundBy s own first.report own_text
+  own_found = outcome_found (Some files) request s first.report first.ended first.text is first.outcome
+
+  module _ (texts : Texts) (of_others : IsTeam (Some others) texts other) (tasks : Tasks) (are : AreTasksOf other tasks) where
+    pub views_kept : KeepsViews → tasks.views ≡ first.report.views
+    views_kept keeps =
+        keeps (values_of s.heuristic) s.limit place r own other own_found.0 (reported first.report own_text) tasks
+        own_checked (checked_team others texts other of_others) own_renames own_found.1.is_found are
+
+    pub log_kept : KeepsLog → IsLog (values_of s.heuristic) s.limit tasks.tasks first.report.log
+    log_kept keeps =
+        keeps (values_of s.heuristic) s.limit place r own other own_found.0 (reported first.report own_text) tasks
+        own_checked (checked_team others texts other of_others) own_renames own_found.1.is_found are
+
+  module _ (its : Wanted) (second : Printed (Some others) its) (also : Searches its s)
+      (of_others : IsTeam (Some others) (texts_of its) other)
+      (events : schedule second.report.log ≡ schedule first.report.log) where
+    abbrev theirs : List Factor
+    theirs = team_in (Some others) its second.report second.ended second.text second.outcome
+
+    same_theirs : other ≡ theirs
+    same_theirs =
+        one_team law others (texts_of its) theirs other
+        (outcome_team (Some others) its second.report second.ended second.text second.outcome) of_others
+
+    they_rename : IsRenamedTeam place r own theirs
+    they_rename = subst (λ t. IsRenamedTeam place r own t) same_theirs own_renames
+
+    abbrev their_text : Text
+    their_text = outcome_text (Some others) its s second.report second.ended second.text also second.outcome
+
+    theirs_checked : All IsChecked theirs
+    theirs_checked = outcome_checked (Some others) its second.report second.ended second.text second.outcome
+
+    -- the second by the events that the first was found by
+    found_by_same : IsFoundInTurn (values_of s.heuristic) s.limit theirs own_found.0 (reported second.report their_text)
+    found_by_same =
+        let too = outcome_found (Some others) its s second.report second.ended second.text also second.outcome in
+        let same : too.0 ≡ own_found.0 = sym too.1.is_found.logged ∙ events ∙ own_found.1.is_found.logged in
+        subst (λ es. IsFoundInTurn (values_of s.heuristic) s.limit theirs es (reported second.report their_text)) same too.1
+
+    pub messages_kept : KeepsMessages → AreSameRuns first.report second.report
+    messages_kept keeps =
+        let search =
+        keeps (values_of s.heuristic) s.limit place r own theirs own_found.0 (reported first.report own_text) (reported second.report their_text)
+        own_checked theirs_checked they_rename own_found.1.is_found found_by_same.is_found in
+        record { alike = search.alike; told = search.told; answer = search.answer }
+
+    pub logs_kept : KeepsLogs → second.report.log ≡ first.report.log
+    logs_kept keeps =
+        keeps (values_of s.heuristic) s.limit place r own theirs own_found.0 (reported first.report own_text) (reported second.report their_text)
+        own_checked theirs_checked they_rename own_found.1 found_by_same

@@ -86,6 +86,10 @@ team_request (checks w) = record {
 }
 team_request (makes w) = record { first = None; texts = made_texts w.size w.number; work = searched w.search }
 
+-- where the texts of its team are
+abbrev pub texts_of : Wanted → Texts
+texts_of w = (team_request w).texts
+
 -- an agent may expand 1 to 10,000,000 entries
 pub record KeepsLimit (s : Searching) : Type 0 where
   pub from_1 : 1 ≤ s.limit

@@ -1,5 +1,5 @@
 -- The text of the file that stands before those of the agents.
-use Rattle.std.specs.Prelude.{◌≡◌, ◌≤◌, length, Option, Some, None, IfSome}
+use Rattle.std.specs.Prelude.{◌≡◌, ◌≤◌, length, Option, Some, None, IfSome, IsSomeAnd}
 use Rattle.mp_joint.specs.Fact.{Text}
 use Rattle.mp_outside.specs.Source.{Files}
 use Rattle.mp_top.specs.Asked.{FirstFile}
@@ -16,3 +16,7 @@ IsFirstText held (Some file) (Some text) =
 -- no such file is asked for, or it is there and fits
 abbrev pub HasFirstText : Option Files → Option FirstFile → Type 0
 HasFirstText held file = (text : Option Text) × IsFirstText held file text
+
+-- the source tells that it holds this text under a name
+abbrev pub IsHeld : Option Files → Text → Text → Type 0
+IsHeld held name text = IsSomeAnd held (λ files. files name ≡ Some text)

@@ -3,20 +3,17 @@ use Rattle.std.specs.Prelude.{◌≡◌, ◌<◌, ◌↔◌, ◌⊎◌, List, []
 use Rattle.std.specs.Io.KnownBytes.{Appends}
 use Rattle.mp_joint.specs.Fact.{Text}
 use Rattle.mp_outside.specs.Sink.{AppendsBeginning}
-use Rattle.mp_files.specs.Cause.{SeenSource}
 use Rattle.mp_files.specs.declared.refusal.FileOf.{FileOf}
 use Rattle.mp_words.specs.Requests.{Wanted}
 use Rattle.mp_words.specs.Requests.Wanted.{checks, makes, replays, solves}
 use Rattle.mp_top.specs.Asked.{FirstFile, TeamRequest, names_of_texts, team_request}
-use Rattle.mp_top.specs.Call.{Call, SeenSink, Says}
+use Rattle.mp_top.specs.Call.{Call, Says}
 use Rattle.mp_top.specs.Cause.{CannotReadFactor, CannotReadFirst, Rests}
 use Rattle.mp_top.specs.First.{IsFirst}
 use Rattle.mp_top.specs.Outcome.{IsOutcome}
 use Rattle.mp_top.specs.Refusal.{status_of, line_of, memory_line, words_line, write_line}
-use Rattle.mp_top.specs.Report.{IsEmptyReport}
 use Rattle.mp_top.specs.Words.{request_of}
 use Rattle.mp_top.specs.declared.refusal.Refusal.{Refusal}
-use Rattle.mp_top.specs.declared.report.Report.{Report}
 use Rattle.mp_top.specs.declared.status.Status.{Status}
 use Rattle.mp_top.specs.declared.status.Status.TheVariants as status
 
@@ -137,20 +134,3 @@ pub record Keeps (call : Call) : Type 0 where
   pub printed : Prints call
   pub line : (line : Text) × IsLine call line × Says call.err line
   pub first : IfSome (request_of call.words) (λ request. TellsFirst call request)
-
--- a call over a source that tells nothing and with an empty report, which are let go
-pub record KeepsUnseen (words : List Text) (out err : SeenSink) (ended : Status) : Type 0 where
-  pub source : SeenSource
-  pub untold : source.held ≡ None
-  pub before : Report
-  pub empty : IsEmptyReport before
-  pub report : Report
-  pub keeps : Keeps (record {
-    words = words;
-    source = source;
-    out = out;
-    err = err;
-    before = before;
-    report = report;
-    status = ended;
-  })

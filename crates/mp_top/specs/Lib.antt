@@ -24,5 +24,7 @@ pub mod Outcome
 pub mod Decided
 -- what each call keeps
 pub mod Keeps
+-- which statuses a call can have where nothing is refused
+pub mod Complete
 -- what telling a decision comes to
 pub mod Printed

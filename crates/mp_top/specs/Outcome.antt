@@ -2,6 +2,7 @@
 use Rattle.std.specs.Prelude.{◌≡◌, ◌↔◌, decimal, ℕ, ◌==◌, List, [], ◌∷◌, ◌++◌, length, codes, Bool, true, false, Option, Some, None, Ok, All, if◌then◌else◌}
 use Rattle.mp_factor.specs.declared.factor.Factor.{Factor}
 use Rattle.mp_joint.specs.Fact.{Text}
+use Rattle.mp_logs.specs.Alike.{AreAlike}
 use Rattle.mp_outside.specs.Source.{Files}
 use Rattle.mp_messages.specs.declared.history.Entry.{Entry}
 use Rattle.mp_grounder.specs.Checked.{IsChecked}
@@ -12,6 +13,7 @@ use Rattle.mp_plans.specs.Made.{made_text, shown_text}
 use Rattle.mp_plans.specs.Plan.{plan_in}
 use Rattle.mp_plans.specs.Verdict.{verdict_text}
 use Rattle.mp_plans.specs.declared.plan.PlanText.{PlanText}
+use Rattle.mp_text.specs.Alike.{TellTheSame}
 use Rattle.mp_text.specs.Trace.{trace_text}
 use Rattle.mp_words.specs.Requests.{Searching, Wanted}
 use Rattle.mp_words.specs.Requests.Wanted.{checks, makes, replays, solves}
@@ -176,6 +178,13 @@ IsOutcome held (makes w) report ended text =
 
 -- ---- For what is said of two outcomes.
 
+-- what was printed for a request
+pub record Printed (held : Option Files) (request : Wanted) : Type 0 where
+  pub report : Report
+  pub ended : Status
+  pub text : Text
+  pub outcome : IsOutcome held request report ended text
+
 -- the team of an outcome
 abbrev pub team_in
     : (held : Option Files) (request : Wanted) (report : Report) (ended : Status) (text : Text)
@@ -198,3 +207,22 @@ HasTrace (solves w) = w.trace ≡ true
 HasTrace (replays w) = Unit {0}
 HasTrace (checks w) = ⊥
 HasTrace (makes w) = ⊥
+
+-- One schedule, the same messages between each two agents in the same order, one trace and the same counts, and one answer.
+pub record AreSameRuns (report other : Report) : Type 0 where
+  pub alike : AreAlike report.log other.log
+  pub told : TellTheSame report.log other.log
+  pub answer : other.answer ≡ report.answer
+
+-- The same was printed again, with the same status, and the same was found, and shown.
+pub record IsPrintedAgain
+    (held other : Option Files)
+    (request its : Wanted)
+    (first : Printed held request)
+    (second : Printed other its)
+    : Type 0 where
+  pub text : second.text ≡ first.text
+  pub ended : second.ended ≡ first.ended
+  pub runs : AreSameRuns first.report second.report
+  pub views : second.report.views ≡ first.report.views
+  pub log : second.report.log ≡ first.report.log

@@ -1,14 +1,15 @@
-//! What the program does with its command line.
+//! The words of the command line, and what is answered where they cannot be held.
 
-use crate::on_files::run_on_files;
-use mp_outside::StreamSink;
+ghost use Rattle.std.specs.Prelude.{◌≡◌};
+ghost use Rattle.mp_top.specs.Call.{seen_sink, Says};
+ghost use Rattle.mp_top.specs.Refusal.{memory_line};
+
+use crate::refusal::tell_memory;
+use crate::status::Status;
+use mp_outside::Sink;
 use std::alloc::AllocGlobal;
 use std::env::{self, Env};
-use std::io::{self, ErrorKind, Write};
-use std::process::ExitCode;
-use std::rt::Files;
-use std::sync::Wait;
-use std::thread::Threads;
+use std::io::{self, ErrorKind};
 
 /// The words of the command line without the program's name.
 fn read_words<R: Env + AllocGlobal>(rt: &R) -> io::Result<Vec<String>> {
@@ -19,9 +20,9 @@ fn read_words<R: Env + AllocGlobal>(rt: &R) -> io::Result<Vec<String>> {
     Ok(words)
 }
 
-/// The words of the command line, none where no memory was left for them. Arguments that are not text are no
-/// accepted words, so there is no word then.
-fn command_line<R: Env + AllocGlobal>(rt: &R) -> Option<Vec<String>> {
+/// The words of the command line without the program's name, none where no memory was left for them. Arguments that
+/// are not text are no accepted words, so there is no word then.
+pub fn command_line<R: Env + AllocGlobal>(rt: &R) -> Option<Vec<String>> {
     match read_words(rt) {
         Ok(words) => Some(words),
         Err(e) if e.kind() == ErrorKind::OutOfMemory => None,
@@ -29,16 +30,11 @@ fn command_line<R: Env + AllocGlobal>(rt: &R) -> Option<Vec<String>> {
     }
 }
 
-/// Answers the words of the command line over the runtime's files, with an outcome on `out` or an error line on
-/// `err`: the exit status.
-pub fn run_command<R, K, E>(rt: &R, out: K, err: E) -> ExitCode
-where
-    R: Env + AllocGlobal + Files + Threads + Wait + Sync,
-    K: Write + Drop,
-    E: Write + Drop,
+/// What is answered where no memory was left for the words of the command line: the line about it on `err`, and its status.
+pub fn without_words<E: Sink>(err: &mut E) -> Status
+    ensures status { result ≡ Status.Memory }
+    ensures line { Says (seen_sink E.written E.faults err.old err.new) memory_line }
 {
-    let mut out = StreamSink::new(out);
-    let mut err = StreamSink::new(err);
-    let status = run_on_files(rt, rt.alloc(), command_line(rt), &mut out, &mut err);
-    ExitCode::from(status.code())
+    tell_memory(err);
+    Status::Memory
 }

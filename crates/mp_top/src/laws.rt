@@ -1,82 +1,99 @@
 //! Laws of what is printed for two requests. Each is the contract of a function that does no more than call the laws that
 //! it rests on.
 
-ghost use Rattle.std.specs.Prelude.{◌≡◌, ℕ, Option};
-ghost use Rattle.mp_joint.specs.Fact.{Text};
-ghost use Rattle.mp_logs.specs.Alike.{AreAlike};
+ghost use Rattle.std.specs.Prelude.{◌≡◌, ◌≤◌, ℕ, List, Option, Some, length};
+ghost use Rattle.mp_factor.specs.declared.factor.Factor.{Factor};
 ghost use Rattle.mp_messages.specs.History.{schedule};
 ghost use Rattle.mp_outside.specs.Source.{Files};
 ghost use Rattle.mp_renaming.specs.Renaming.{Renaming};
 ghost use Rattle.mp_renaming.specs.Team.{IsRenamedTeam};
-ghost use Rattle.mp_solutions.specs.Solution.{IsRefusedLine};
-ghost use Rattle.mp_text.specs.Alike.{TellTheSame};
-ghost use Rattle.mp_top.specs.Asked.{KeepsLimits, values_of};
-ghost use Rattle.mp_top.specs.Outcome.{HasTrace, IsOutcome, Searches, team_in};
-ghost use Rattle.mp_top.specs.declared.report.Report.{Report};
-ghost use Rattle.mp_top.specs.declared.status.Status.{Status as StatusOf};
+ghost use Rattle.mp_split.specs.Team.{AreTasksOf};
+ghost use Rattle.mp_split.specs.declared.team.Tasks.{Tasks};
+ghost use Rattle.mp_top.specs.Asked.{KeepsLimits, Texts, longest_schedule, team_request, texts_of, values_of};
+ghost use Rattle.mp_top.specs.Call.{Call};
+ghost use Rattle.mp_top.specs.Complete.{HadNoFault, IsAnswered, IsNotRefused};
+ghost use Rattle.mp_top.specs.First.{IsFirst};
+ghost use Rattle.mp_top.specs.FirstText.{IsHeld};
+ghost use Rattle.mp_top.specs.Keeps.{Keeps};
+ghost use Rattle.mp_top.specs.Outcome.{AreSameRuns, HasTrace, IsPrintedAgain, Printed, Searches};
+ghost use Rattle.mp_top.specs.Team.{IsFoundForBoth, IsTeam};
+ghost use Rattle.mp_top.specs.Words.{request_of};
+ghost use Rattle.mp_top.specs.declared.refusal.Refusal.{Refusal};
 ghost use Rattle.mp_words.specs.Requests.{Searching, ToReplay, Wanted};
 ghost use Rattle.mp_words.specs.Requests.Wanted.{replays};
+ghost use Rattle.mp_world.specs.Logs.{IsLog};
 
+use crate::first::one_first;
+use mp_files::one_team;
 use mp_replays::{renaming_changes_no_message, traces_are_replayed};
 
-/// What is printed with a trace is a schedule none of whose lines is refused for the same team; and a request that replays
-/// it, with the same heuristic, limit and team, prints the same text and has the same report: one schedule, the same
-/// messages of each two agents in the same order, one trace and the same counts, one answer and the same views. The logs
-/// are equal, since in each of them the events happened one after another.
+/// What is printed with a trace is a schedule. Where files hold it under a name, and the same as was found for the agents, nothing
+/// of a request that replays it, with the same heuristic and limit, is refused, as long as it is no longer than a schedule may
+/// be, 67,108,864 bytes; and that request prints the same text, with the same status and the same report.
 pub fn traces_are_printed_again()
-    ensures accepted { (held : Option Files) (request : Wanted) (s : Searching) (report : Report) (ended : StatusOf)
-        (text : Text) (n : ℕ)
-        → KeepsLimits request → Searches request s → HasTrace request
-        → (first : IsOutcome held request report ended text)
-        → IsRefusedLine (values_of s.heuristic) s.limit (team_in held request report ended text first) text n → ⊥ }
-    ensures same { (held other : Option Files) (request : Wanted) (replay : ToReplay) (report again : Report)
-        (ended its_end : StatusOf) (text printed : Text)
+    ensures accepted { (held : Option Files) (files : Files) (request : Wanted) (replay : ToReplay)
+        (first : Printed held request) (r : Refusal)
         → KeepsLimits request → Searches request replay.search → HasTrace request
-        → (first : IsOutcome held request report ended text)
-        → (second : IsOutcome other (replays replay) again its_end printed)
-        → second.0.team ≡ team_in held request report ended text first → second.0.schedule ≡ text
-        → (printed ≡ text) × AreAlike report.log again.log × TellTheSame report.log again.log
-        × (again.answer ≡ report.answer) × (again.views ≡ report.views) }
-    ensures in_turn { (held other : Option Files) (request : Wanted) (replay : ToReplay) (report again : Report)
-        (ended its_end : StatusOf) (text printed : Text)
+        → IsFoundForBoth held (Some files) (texts_of request) (texts_of (replays replay))
+        → files replay.schedule ≡ Some first.text → length first.text ≤ longest_schedule
+        → IsFirst files (team_request (replays replay)) r → ⊥ }
+    ensures same { (held other : Option Files) (request : Wanted) (replay : ToReplay)
+        (first : Printed held request) (second : Printed other (replays replay))
         → KeepsLimits request → Searches request replay.search → HasTrace request
-        → (first : IsOutcome held request report ended text)
-        → (second : IsOutcome other (replays replay) again its_end printed)
-        → second.0.team ≡ team_in held request report ended text first → second.0.schedule ≡ text
-        → again.log ≡ report.log }
+        → IsFoundForBoth held other (texts_of request) (texts_of (replays replay))
+        → IsHeld other replay.schedule first.text
+        → IsPrintedAgain held other request (replays replay) first second }
 {
     traces_are_replayed();
+    one_team();
+    one_first();
 }
 
-/// Where one agent of a team renames its private names, and the heuristic and the limit are the same, all agents show the
-/// same bytes; and where the agents did the same events, the same messages were sent between each two agents, byte for byte
-/// and in the same order, one trace and the same counts tell it, and the same answer was found. The logs are equal then,
-/// since in each of them the events happened one after another.
+/// Where one agent of the team that files make renames its private names, and the heuristic and the limit are the same, all
+/// agents show the same bytes, and what they did and sent is a log of the other team too: of the tasks that its files make. Where
+/// both teams did the same events, the same messages were sent between each two agents, byte for byte and in the same
+/// order, one trace and the same counts tell it, and the same answer was found. The logs are equal then, since in each of
+/// them the events happened one after another.
 pub fn renaming_changes_no_outcome()
-    ensures views { (held other : Option Files) (request its : Wanted) (s : Searching) (report renamed : Report)
-        (ended its_end : StatusOf) (text printed : Text) (place : ℕ) (r : Renaming)
+    ensures views { (files others : Files) (request : Wanted) (texts : Texts) (s : Searching)
+        (first : Printed (Some files) request) (team other : List Factor) (place : ℕ) (r : Renaming) (tasks : Tasks)
+        → Searches request s
+        → IsTeam (Some files) (texts_of request) team → IsTeam (Some others) texts other
+        → IsRenamedTeam place r team other → AreTasksOf other tasks
+        → tasks.views ≡ first.report.views }
+    ensures log { (files others : Files) (request : Wanted) (texts : Texts) (s : Searching)
+        (first : Printed (Some files) request) (team other : List Factor) (place : ℕ) (r : Renaming) (tasks : Tasks)
+        → Searches request s
+        → IsTeam (Some files) (texts_of request) team → IsTeam (Some others) texts other
+        → IsRenamedTeam place r team other → AreTasksOf other tasks
+        → IsLog (values_of s.heuristic) s.limit tasks.tasks first.report.log }
+    ensures messages { (files others : Files) (request its : Wanted) (s : Searching)
+        (first : Printed (Some files) request) (second : Printed (Some others) its)
+        (team other : List Factor) (place : ℕ) (r : Renaming)
         → Searches request s → Searches its s
-        → (first : IsOutcome held request report ended text) → (second : IsOutcome other its renamed its_end printed)
-        → IsRenamedTeam place r (team_in held request report ended text first)
-        (team_in other its renamed its_end printed second)
-        → renamed.views ≡ report.views }
-    ensures messages { (held other : Option Files) (request its : Wanted) (s : Searching) (report renamed : Report)
-        (ended its_end : StatusOf) (text printed : Text) (place : ℕ) (r : Renaming)
+        → IsTeam (Some files) (texts_of request) team → IsTeam (Some others) (texts_of its) other
+        → IsRenamedTeam place r team other
+        → schedule second.report.log ≡ schedule first.report.log
+        → AreSameRuns first.report second.report }
+    ensures in_turn { (files others : Files) (request its : Wanted) (s : Searching)
+        (first : Printed (Some files) request) (second : Printed (Some others) its)
+        (team other : List Factor) (place : ℕ) (r : Renaming)
         → Searches request s → Searches its s
-        → (first : IsOutcome held request report ended text) → (second : IsOutcome other its renamed its_end printed)
-        → IsRenamedTeam place r (team_in held request report ended text first)
-        (team_in other its renamed its_end printed second)
-        → schedule renamed.log ≡ schedule report.log
-        → AreAlike report.log renamed.log × TellTheSame report.log renamed.log
-        × (renamed.answer ≡ report.answer) }
-    ensures in_turn { (held other : Option Files) (request its : Wanted) (s : Searching) (report renamed : Report)
-        (ended its_end : StatusOf) (text printed : Text) (place : ℕ) (r : Renaming)
-        → Searches request s → Searches its s
-        → (first : IsOutcome held request report ended text) → (second : IsOutcome other its renamed its_end printed)
-        → IsRenamedTeam place r (team_in held request report ended text first)
-        (team_in other its renamed its_end printed second)
-        → schedule renamed.log ≡ schedule report.log
-        → renamed.log ≡ report.log }
+        → IsTeam (Some files) (texts_of request) team → IsTeam (Some others) (texts_of its) other
+        → IsRenamedTeam place r team other
+        → schedule second.report.log ≡ schedule first.report.log
+        → second.report.log ≡ first.report.log }
 {
     renaming_changes_no_message();
+    one_team();
 }
+
+/// Where a source tells what it holds, nothing of that is refused for a request, and neither the source nor the output had a
+/// fault, a call answers: `solve` and `make` that a plan was found, that there is none, or that nothing is decided; `replay`
+/// so, or that the schedule ended before; `check` that the plan is valid, or that it is not; or memory ran out.
+pub fn answers_are_complete()
+    ensures { (call : Call) (files : Files) (request : Wanted)
+        → Keeps call → call.source.held ≡ Some files → request_of call.words ≡ Some request
+        → IsNotRefused files (team_request request) → HadNoFault call
+        → IsAnswered request call }
+{}

@@ -5,7 +5,7 @@ ghost use Rattle.std.specs.Prelude.{◌<◌};
 
 use super::*;
 use mp_list::List;
-use mp_outside::{MemSink, MemSource, NamedText};
+use mp_outside::{FileSource, MemSink, MemSource, NamedText, NoGate};
 use std::alloc::Global;
 use std::test::Fail;
 
@@ -218,6 +218,7 @@ fn comes_out(alloc: Global, trial: &Trial) -> Result<bool, Fail> {
 #[test]
 fn calls(rt: HostRuntime) -> Result<(), Fail> {
     one_first();
+    answers_are_complete();
     traces_are_printed_again();
     renaming_changes_no_outcome();
     for (row, trial) in TRIALS.iter().enumerate() {
@@ -233,7 +234,18 @@ fn an_empty_file_of_the_system(rt: HostRuntime) -> Result<(), Fail> {
     let words = owned(alloc, &words)?;
     let mut out = sink(alloc, 1000, 0)?;
     let mut err = sink(alloc, 1000, 0)?;
-    let status = run_on_files(&rt, alloc, Some(words), &mut out, &mut err);
+    let mut files = FileSource::new(&rt);
+    let mut report = Report::new(alloc);
+    let status = run(
+        &rt,
+        alloc,
+        words.as_slice(),
+        &mut files,
+        &mut out,
+        &mut err,
+        &NoGate,
+        &mut report,
+    );
     let line = b"maplan: /dev/null:1:1: F2 unbalanced\n";
     let is_refused = status == Status::Refused && err.bytes() == line.as_slice();
     assert!(rt; is_refused && out.bytes().is_empty());
@@ -242,9 +254,8 @@ fn an_empty_file_of_the_system(rt: HostRuntime) -> Result<(), Fail> {
 
 #[test]
 fn words_that_took_all_memory(rt: HostRuntime) -> Result<(), Fail> {
-    let mut out = sink(rt.alloc(), 1000, 0)?;
     let mut err = sink(rt.alloc(), 1000, 0)?;
-    let status = run_on_files(&rt, rt.alloc(), None, &mut out, &mut err);
+    let status = without_words(&mut err);
     let is_told = err.bytes() == b"maplan: out of memory\n".as_slice();
     assert!(rt; status == Status::Memory && is_told);
     Ok(())

@@ -1,0 +1,90 @@
+-- Where nothing of the files is refused and no fault was counted, a call answers.
+use Rattle.std.proofs.Common.{◌≡◌, ◌<◌, ◌≤◌, inl, inr, Option, Some, None, Err, MatchOption, refl, subst, arith, ◌∙◌}
+use Rattle.std.specs.Prelude.{IsSomeAnd}
+use Rattle.mp_files.specs.Cause.{SeenSource}
+use Rattle.mp_files.specs.Team.{ReadsTeam}
+use Rattle.mp_files.specs.declared.refusal.FileOf.{FileOf}
+use Rattle.mp_files.specs.declared.refusal.Refusal.TheVariants as why
+use Rattle.mp_ground.specs.declared.refusal.GroundRefusal.TheVariants as sizes
+use Rattle.mp_outside.specs.Source.{Files as Held}
+use Rattle.mp_words.specs.Requests.{Wanted}
+use Rattle.mp_top.specs.Asked.{FirstFile, TeamRequest, Texts, team_request}
+use Rattle.mp_top.specs.Asked.Texts.{in_files, made}
+use Rattle.mp_top.specs.Call.{Call}
+use Rattle.mp_top.specs.Cause.{CannotReadFactor, CannotReadFirst, CannotReadTexts, Rests}
+use Rattle.mp_top.specs.Complete.{HadNoFault, IsAnswered, IsNotRefused}
+use Rattle.mp_top.specs.First.{ComesFirst}
+use Rattle.mp_top.specs.FirstText.{HasFirstText}
+use Rattle.mp_top.specs.Keeps.{IsLineFor, Keeps}
+use Rattle.mp_top.specs.Refusal.{status_of}
+use Rattle.mp_top.specs.Team.{IsTextRefused}
+use Rattle.mp_top.specs.Words.{request_of}
+use Rattle.mp_top.specs.declared.refusal.Refusal.{Refusal}
+use Rattle.mp_top.specs.declared.refusal.Refusal.TheVariants.{Files, First, Sizes}
+use Rattle.mp_top.specs.declared.refusal.FirstRefusal.TheVariants as first
+use Rattle.mp_top.specs.declared.status.Status.TheVariants as status
+
+module _ (source : SeenSource) (held : Held) (request : TeamRequest) (tells : source.held ≡ Some held)
+    (none : IsNotRefused held request) (calm : source.now ≤ source.before) where
+  not_first : (r : Refusal) → ComesFirst source.held request r → ⊥
+  not_first r comes = none r (subst (λ h. ComesFirst h request r) tells comes)
+
+  absent : (file : FirstFile) → request.first ≡ Some file → IsSomeAnd source.held (λ files. files file.name ≡ None) → ⊥
+  absent file asked lacks =
+      none (First first.Read) (record {
+        file = file;
+        asked = asked;
+        absent = subst (λ h. IsSomeAnd h (λ files. files file.name ≡ None)) tells lacks;
+      })
+
+  first_read : CannotReadFirst source request → ⊥
+  first_read cannot =
+      elim cannot.because [
+        | inl lacks ↦ absent cannot.file cannot.asked lacks
+        | inr fault ↦ absurd (omega (arith, fault.0, calm))
+      ]
+
+  texts_read : (texts : Texts) (at : FileOf) → CannotReadTexts source texts at → IsTextRefused (Some held) texts (why.Read at)
+  texts_read (in_files names) at cannot =
+      elim cannot.because [
+        | inl refused ↦ subst (λ h. IsSomeAnd h (λ files. ReadsTeam files names (Err (why.Read at)))) tells refused
+        | inr fault ↦ absurd (omega (arith, fault.count, calm))
+      ]
+  texts_read (made names texts) at cannot = absurd cannot
+
+  factor_read : (at : FileOf) → CannotReadFactor source request at → ⊥
+  factor_read at cannot =
+      none (Files (why.Read at)) (record {
+        first_text = subst (λ h. HasFirstText h request.first) tells cannot.first_text;
+        first = texts_read request.texts at cannot.cannot;
+      })
+
+  -- a refusal that has its cause is want of memory
+  memory_alone : (r : Refusal) → Rests source request r → status_of r ≡ status.Memory
+  memory_alone (Files (why.Read at)) rests = absurd (factor_read at rests)
+  memory_alone (Files (why.TooLarge at)) rests = absurd (not_first (Files (why.TooLarge at)) rests)
+  memory_alone (Files (why.Fault at kind place)) rests = absurd (not_first (Files (why.Fault at kind place)) rests)
+  memory_alone (Files why.OutOfMemory) rests = refl
+  memory_alone (Sizes (sizes.TooManyTries agent)) rests = absurd (not_first (Sizes (sizes.TooManyTries agent)) rests)
+  memory_alone (Sizes (sizes.TooManyActions agent number)) rests = absurd (not_first (Sizes (sizes.TooManyActions agent number)) rests)
+  memory_alone (Sizes (sizes.TooManyFacts agent number)) rests = absurd (not_first (Sizes (sizes.TooManyFacts agent number)) rests)
+  memory_alone (Sizes sizes.OutOfMemory) rests = refl
+  memory_alone (First first.Read) rests = absurd (first_read rests)
+  memory_alone (First first.TooLarge) rests = absurd (not_first (First first.TooLarge) rests)
+  memory_alone (First (first.Line number)) rests = absurd (not_first (First (first.Line number)) rests)
+
+of_some : {A : Type 0} (o : Option A) (x : A) (N : Type 0) (S : A → Type 0) → o ≡ Some x → MatchOption o N S → S x
+of_some None x N S is m = absurd (cc)
+of_some (Some y) x N S is m = let same : y ≡ x = cc in subst S same m
+
+pub answered : (call : Call) (files : Held) (request : Wanted) → Keeps call → call.source.held ≡ Some files → request_of call.words ≡ Some request → IsNotRefused files (team_request request) → HadNoFault call → IsAnswered request call
+answered call files request keeps tells asked none calm =
+    let line : IsLineFor call request keeps.line.0 =
+    of_some (request_of call.words) request _ (λ w. IsLineFor call w keeps.line.0) asked keeps.line.1 in
+    elim line [
+      | inl outcome ↦ inl outcome.0
+      | inr other ↦ elim other [
+        | inl unwritten ↦ absurd (omega (arith, calm.out, keeps.write.0 unwritten.0))
+        | inr refused ↦ inr (refused.1 ∙ memory_alone call.source files (team_request request) tells none calm.source refused.0 refused.3)
+      ]
+    ]
