@@ -87,6 +87,15 @@ module _ {Z : Type 0} where
       (λ le. passed m d le lt within)
       (cases_lt m i)
 
+  -- a row below those that are empty
+  pub empty_above : (rows : List (Vec ℕ Z)) (i from to : ℕ) (row : Vec ℕ Z) → i < from → AreEmptyWithin from to rows → AreEmptyWithin from to (set_at rows i row)
+  empty_above rows i from to row less above = λ m d at lt within.
+      let long = length-set rows i row in
+      ap (λ (r : Vec ℕ Z). r.items) (get_or-set_other rows i m row d (λ e. absurd (omega arith))) ∙ above m d at lt (omega arith)
+
+  pub empty_later : (rows : List (Vec ℕ Z)) (from later to : ℕ) → from ≤ later → AreEmptyWithin from to rows → AreEmptyWithin later to rows
+  empty_later rows from later to le above = λ m d at lt within. above m d (omega arith) lt within
+
   pub empty_fewer : (rows : List (Vec ℕ Z)) (i n : ℕ) → n ≤ i → AreEmptyWithin 0 i rows → AreEmptyWithin 0 n rows
   empty_fewer rows i n le below = λ m d from lt within. below m d from (omega arith) within
 

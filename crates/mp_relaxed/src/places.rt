@@ -23,27 +23,31 @@ fn empty_rows(alloc: Global) -> Result<Vec<Vec<u32>>, OutOfMemory>
     Ok(rows)
 }
 
-/// Empties each row. They keep their memory.
-fn empty_all(rows: &mut Vec<Vec<u32>>)
+/// Empties the rows from one on and below another, where all others are empty. They keep their memory.
+fn empty_all(rows: &mut Vec<Vec<u32>>, from: usize, end: usize)
+    requires within { (from ≤ end) × (end ≤ vec_len rows.old) }
+    requires below { AreEmptyWithin 0 from rows.old.items }
+    requires above { AreEmptyWithin end (vec_len rows.old) rows.old.items }
     ensures empty { AreEmpty rows.new.items }
     ensures len { vec_len rows.new ≡ vec_len rows.old }
 {
-    let mut at = 0;
-    'each: while at < rows.len() {
+    let mut at = from;
+    'each: while at < end {
         rows[at].clear();
         at += 1;
     }
 }
 
-/// The first row from one on that has a fact, or how many rows there are.
-fn next_row(rows: &[Vec<u32>], from: usize) -> usize
-    requires { from ≤ length rows.now }
-    ensures within { result ≤ length rows.now }
+/// The first row from one on and below another that has a fact, or that other one.
+fn next_row(rows: &[Vec<u32>], from: usize, end: usize) -> usize
+    requires { (from ≤ end) × (end ≤ length rows.now) }
+    ensures from { from ≤ result }
+    ensures within { result ≤ end }
     ensures passed { AreEmptyWithin from result rows.now }
-    ensures some { HasFact result rows.now }
+    ensures some { result < end → HasFact result rows.now }
 {
     let mut at = from;
-    'each: while at < rows.len() {
+    'each: while at < end {
         if !rows[at].is_empty() {
             return at;
         }
@@ -52,12 +56,13 @@ fn next_row(rows: &[Vec<u32>], from: usize) -> usize
     at
 }
 
-/// Facts with numbers below the number of rows, in the rows of their numbers, and a row below which none has a fact.
-/// Contracts see the list of entries, in an order that says nothing.
+/// Facts with numbers below the number of rows, in the rows of their numbers, a row below which none has a fact, and one from
+/// which on none has. Contracts see the list of entries, in an order that says nothing.
 #[derive(Drop)]
 pub(crate) struct Places {
     rows: Vec<Vec<u32>>,
     least: usize,
+    end: usize,
 }
 
 impl Model for Places {
@@ -78,15 +83,20 @@ impl Places {
         ensures { IfOk result (λ places. places ≡ []) }
     {
         let rows = empty_rows(alloc)?;
-        Ok(Places { rows, least: 0 })
+        Ok(Places {
+            rows,
+            least: 0,
+            end: 0,
+        })
     }
 
     /// Takes all entries away.
     pub(crate) fn clear(&mut self)
         ensures { self.new ≡ [] }
     {
-        empty_all(&mut self.rows);
+        empty_all(&mut self.rows, self.least, self.end);
         self.least = 0;
+        self.end = 0;
     }
 
     /// One more entry. Refuses only for want of memory.
@@ -96,6 +106,7 @@ impl Places {
     {
         self.rows[number].push(fact)?;
         self.least = self.least.min(number);
+        self.end = self.end.max(number + 1);
         Ok(())
     }
 
@@ -106,9 +117,9 @@ impl Places {
         ensures small { IfSome result (λ e. e.0 < 1024) }
         ensures none { IfNone result ((self.old ≡ []) × (self.new ≡ [])) }
     {
-        let least = next_row(self.rows.as_slice(), self.least);
+        let least = next_row(self.rows.as_slice(), self.least, self.end);
         self.least = least;
-        if least == ROWS {
+        if least == self.end {
             return None;
         }
         let fact = self.rows[least].pop()?;

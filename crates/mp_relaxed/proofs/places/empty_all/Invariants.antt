@@ -5,9 +5,10 @@ use Rattle.mp_relaxed.proofs.places.empty_all.Given as goal
 abbrev pub invariant-each : goal.invariant-each
 invariant-each l = record {
   len : vec_len l.rows ≡ vec_len l.initial.rows;
-  within : l.at ≤ vec_len l.rows;
+  within : l.at ≤ l.end;
   done : AreEmptyWithin 0 l.at l.rows.items;
+  above : AreEmptyWithin l.end (vec_len l.initial.rows) l.rows.items;
 }
 
 abbrev pub decreases-each : goal.decreases-each
-decreases-each l = vec_len l.rows - l.at
+decreases-each l = l.end - l.at

@@ -1,12 +1,13 @@
-use Rattle.std.proofs.Common.{◌≤◌, ◌-◌, length}
+use Rattle.std.proofs.Common.{◌≤◌, ◌-◌}
 use Rattle.mp_relaxed.specs.Places.{AreEmptyWithin}
 use Rattle.mp_relaxed.proofs.places.next_row.Given as goal
 
 abbrev pub invariant-each : goal.invariant-each
 invariant-each l = record {
-  within : l.at ≤ length l.rows;
+  from : l.from ≤ l.at;
+  within : l.at ≤ l.end;
   passed : AreEmptyWithin l.from l.at l.rows;
 }
 
 abbrev pub decreases-each : goal.decreases-each
-decreases-each l = length l.rows - l.at
+decreases-each l = l.end - l.at

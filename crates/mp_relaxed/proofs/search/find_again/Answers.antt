@@ -1,4 +1,4 @@
-use Rattle.std.proofs.Common.{◌<◌, ◌≤◌, ap, length, arith}
+use Rattle.std.proofs.Common.{ap, length, arith}
 use Rattle.mp_relaxed.specs.Relaxed.{state_of}
 use Rattle.mp_relaxed.proofs.AgainLemmas.{again_below, again_served, again_zero}
 use Rattle.mp_relaxed.proofs.Found.{found}

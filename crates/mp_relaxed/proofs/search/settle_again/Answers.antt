@@ -1,4 +1,4 @@
-use Rattle.std.proofs.Common.{◌≡◌, ◌<◌, ◌∷◌, length, ap, refl, subst, sym, ◌∙◌, arith, vec_len}
+use Rattle.std.proofs.Common.{◌<◌, ◌∷◌, ap, refl, subst, sym, ◌∙◌, arith, vec_len}
 use Rattle.std.proofs.lemmas.List.{get_or_default}
 use Rattle.std.proofs.lemmas.List.Elements.{All-head, All-tail}
 use Rattle.std.proofs.lemmas.List.Sorted.{All-permutation, length_permutation}
