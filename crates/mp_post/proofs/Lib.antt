@@ -12,3 +12,7 @@ pub mod Told
 pub mod Merging
 -- a party that goes to a desk of its own
 pub mod Splitting
+-- what holds of each of a list
+pub mod Each
+-- a desk goes to another thread
+pub mod Sends

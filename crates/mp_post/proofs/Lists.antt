@@ -1,6 +1,6 @@
 -- Lists of parties, as views and desks have them.
 use Rattle.std.proofs.Common.{◌≡◌, ◌≢◌, ℕ, zero, suc, ◌+◌, ◌-◌, ◌<◌, ◌≤◌, List, [], ◌∷◌, ◌++◌, length, map, get_or, set, refl, sym, ap, subst, ◌∙◌, arith, get_or-set_same, get_or-set_other, Some, None}
-use Rattle.std.specs.Prelude.{Bool, Option, replicate, slice_get, true}
+use Rattle.std.specs.Prelude.{All, Bool, Option, false, replicate, slice_get, true}
 use Rattle.std.specs.Option.{is_some, option_map}
 use Rattle.std.proofs.lemmas.Option.{none-some, same_Some}
 use Rattle.std.proofs.lemmas.List.{get_or-replicate, length-replicate, length-set, set-get_or, set-set}
@@ -86,6 +86,11 @@ pub get_map : (ps : List (Option Party)) (i : ℕ) → get_or (map list_in ps) i
 get_map [] i = refl
 get_map (p ∷ ps) zero = refl
 get_map (p ∷ ps) (suc i) = get_map ps i
+
+pub mark_at : (ps : List (Option Party)) (i : ℕ) → get_or (map is_some ps) i false ≡ is_some (get_or ps i None)
+mark_at [] i = refl
+mark_at (p ∷ ps) zero = refl
+mark_at (p ∷ ps) (suc i) = mark_at ps i
 
 module _ (lists : List (List Stamped)) (held : List Bool) (v : View) (has : HasLists lists held v) (a : ℕ) (holds : HoldsParty a v) where
   pub list_within : a - 1 < length lists
@@ -214,3 +219,20 @@ halted_all by (suc n) v w holds halts =
 
 pub second : {A B : Type 0} → A × B → B
 second p = p.1
+
+-- a desk whose marks are all set holds everybody
+pub all_marked : (v : View) (held : List Bool) → held ≡ map is_some v.parties → All (λ mark. mark ≡ true) held
+    → HoldsAll (length v.parties) v
+all_marked v held are all = record { many = refl; each = each }
+  where
+    is_there : (agent : ℕ) → 1 ≤ agent → (q : Option Party) → get_or v.parties (agent - 1) None ≡ q → is_some q ≡ true → HoldsParty agent v
+    is_there agent low (Some p) e mark = (p, from_place v.parties agent p low e)
+    is_there agent low None e mark = absurd cc
+
+    each : (agent : ℕ) → IsAgentOf (length v.parties) agent → HoldsParty agent v
+    each agent is =
+        let low = is.from_1 in
+        let high = is.at_most in
+        let many = ap length are ∙ length-map v.parties is_some in
+        is_there agent low (get_or v.parties (agent - 1) None) refl
+        (sym (mark_at v.parties (agent - 1)) ∙ (ap (λ l. get_or l (agent - 1) false) (sym are) ∙ all (agent - 1) false (omega arith)))

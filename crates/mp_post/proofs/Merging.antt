@@ -11,7 +11,7 @@ use Rattle.mp_post.specs.Desks.{HasLists, HoldsParty}
 use Rattle.mp_post.specs.Moves.{chosen, either_mark}
 use Rattle.mp_post.specs.Parts.{HasMerged}
 use Rattle.mp_post_rule.proofs.Parties.{first_at, second_at}
-use Rattle.mp_post.proofs.Lists.{get_map, map_set}
+use Rattle.mp_post.proofs.Lists.{get_map, map_set, mark_at}
 
 -- the parties of both for the first so many agents, and those of the first for the others
 abbrev pub either_first : ℕ → List (Option Party) → List (Option Party) → List (Option Party)
@@ -54,11 +54,6 @@ chosen_list None None = refl
 either_is : (p q : Option Party) → is_some (either_party p q) ≡ either_mark (is_some p) (is_some q)
 either_is (Some p) q = refl
 either_is None q = refl
-
-mark_at : (ps : List (Option Party)) (i : ℕ) → get_or (map is_some ps) i false ≡ is_some (get_or ps i None)
-mark_at [] i = refl
-mark_at (p ∷ ps) zero = refl
-mark_at (p ∷ ps) (suc i) = mark_at ps i
 
 module _ (n : ℕ) (ps qs : List (Option Party)) (low : n < length ps) (high : n < length qs) where
   abbrev now : List (Option Party)

@@ -1,6 +1,8 @@
 -- A turn that was taken, and what its post keeps, out of its slot.
 use Rattle.std.proofs.Common.{◌≡◌, ℕ, ◌-◌, List, [], ◌∷◌, length, sym, ap, subst, ◌∙◌}
+use Rattle.std.specs.Prelude.{IfSome}
 use Rattle.std.proofs.lemmas.Option.{same_Some}
+use Rattle.mp_stamps.specs.Lists.{IsAgentOf}
 use Rattle.mp_post_rule.specs.Kinds.{IsTaken, Seated}
 use Rattle.mp_post_rule.specs.Rule.{Home, kept_in}
 use Rattle.mp_post_rule.specs.Table.{HasValue, IsFree}
@@ -25,6 +27,9 @@ module _ (post agents : ℕ) (m m' : Seated) (taken : IsTaken post agents m m') 
 
     pub queues : length kept.waiting ≡ agents
     queues = subst (λ (k : Kept). length k.waiting ≡ agents) same taken.rows
+
+    pub named : IfSome kept.halted (IsAgentOf agents)
+    named = subst (λ (k : Kept). IfSome k.halted (IsAgentOf agents)) same taken.named
 
     pub view : (w : Seated) → w.0 ≡ m'.0 → w.0 ≡ after_take post kept m.0
     view w e = e ∙ (taken.view ∙ ap (λ k. after_take post k m.0) same)

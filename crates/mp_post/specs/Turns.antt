@@ -2,7 +2,7 @@
 use Rattle.std.specs.Prelude.{◌≡◌, ◌≤◌, ◌+◌, ◌-◌, ◌^◌, ℕ, List, [], ◌∷◌, length, Option, Some, None}
 use Rattle.mp_messages.specs.declared.history.Entry.{Entry}
 use Rattle.mp_messages.specs.declared.history.Entry.TheVariants.{Took}
-use Rattle.mp_stamps.specs.Lists.{clock}
+use Rattle.mp_stamps.specs.Lists.{IsAgentOf, clock}
 use Rattle.mp_stamps.specs.Mail.{Mail}
 use Rattle.mp_post_rule.specs.Queues.{waiting_for}
 use Rattle.mp_post_rule.specs.Views.{SeenAreMarked, after_receipt, after_release, after_signing, after_take, list_at}
@@ -32,8 +32,9 @@ module _ (by : ℕ) (v w : View) where
     pub view : w ≡ after_batch by kept batch v
     pub marks : SeenAreMarked w
 
-  -- this agent was halted at the party's post, and nothing was signed
-  pub record HasFoundHalted (agent : ℕ) : Type 0 where
+  -- this one of so many agents was halted at the party's post, and nothing was signed
+  pub record HasFoundHalted (agents agent : ℕ) : Type 0 where
+    pub of_team : IsAgentOf agents agent
     pub kept : Kept
     pub names : kept.halted ≡ Some agent
     pub view : w ≡ after_turn by kept v
@@ -81,7 +82,7 @@ pub record HasTurned (by : ℕ) (batch : List Entry) (from : Option ℕ) (handed
   pub first : HasSigned by v between batch
   pub second : HasHandedOver by between w from handed
 
--- a turn that signed nothing, whose batch comes back
-abbrev pub HasRefused : ℕ → List Entry → View → View → TurnRefusal → Type 0
-HasRefused by batch v w (OutOfMemory back) = (back ≡ batch) × HasSignedNothing by v w
-HasRefused by batch v w (Halted agent back) = (back ≡ batch) × HasFoundHalted by v w agent
+-- a turn that signed nothing, at the posts of so many agents; its batch comes back
+abbrev pub HasRefused : ℕ → ℕ → List Entry → View → View → TurnRefusal → Type 0
+HasRefused agents by batch v w (OutOfMemory back) = (back ≡ batch) × HasSignedNothing by v w
+HasRefused agents by batch v w (Halted agent back) = (back ≡ batch) × HasFoundHalted by v w agents agent

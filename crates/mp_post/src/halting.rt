@@ -63,7 +63,7 @@ fn halt_at<R: Wait>(rt: &R, posts: &Posts, seat: &mut PostSeat, post: Agent, by:
 }
 
 /// The agent of a place, which counts from 0.
-fn agent_at(place: usize) -> Agent
+pub(crate) fn agent_at(place: usize) -> Agent
     requires { place < 16 }
     ensures { result ≡ place + 1 }
 {

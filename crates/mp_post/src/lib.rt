@@ -2,6 +2,7 @@
 #![tactic(auto)]
 
 mod closing;
+mod crossing;
 mod desk;
 mod growth;
 mod halting;
@@ -12,12 +13,15 @@ mod own;
 mod parts;
 mod receiving;
 mod refusal;
+#[cfg(test)]
+mod ring;
 mod signing;
 #[cfg(test)]
 mod tests;
 mod turn;
 
 pub use closing::Lists;
+pub use crossing::desks_cross_threads;
 pub use desk::Desk;
 pub use mp_post_rule::Posts;
 pub use opening::make;

@@ -1,6 +1,7 @@
 //! Turns at posts.
 
-ghost use Rattle.std.specs.Prelude.{◌≡◌, ◌≤◌, [], length};
+ghost use Rattle.std.specs.Prelude.{◌≡◌, ◌≤◌, [], length, IfSome};
+ghost use Rattle.mp_stamps.specs.Lists.{IsAgentOf};
 ghost use Rattle.mp_post_rule.specs.Kinds.{IsTaken};
 ghost use Rattle.mp_post_rule.specs.Table.{ArePosts, HasSlot, Holds, IsFree};
 ghost use Rattle.mp_post_rule.specs.Views.{SeenAreMarked, after_release, after_take};
@@ -39,6 +40,7 @@ pub(crate) fn take_turn<R: Wait>(rt: &R, posts: &Posts, seat: &mut PostSeat, pos
     ensures view { seat.new.me.0 ≡ after_take post result seat.old.me.0 }
     ensures slot { HasSlot post seat.new.me }
     ensures queues { length result.waiting ≡ posts.now.shared.key }
+    ensures named { IfSome result.halted (IsAgentOf posts.now.shared.key) }
 {
     wait_for_turn(rt, posts, seat, post);
     lift(posts, seat, post)

@@ -112,7 +112,7 @@ pub(crate) fn sign<R: Wait, G: Gate>(
     ensures same { seat.new.table_id ≡ seat.old.table_id }
     ensures free { IsFree seat.new.me }
     ensures told { MatchResult result (λ _. HasSigned by seat.old.me.0 seat.new.me.0 batch)
-        (HasRefused by batch seat.old.me.0 seat.new.me.0) }
+        (HasRefused posts.now.shared.key by batch seat.old.me.0 seat.new.me.0) }
     ensures list { HasNewList by own.new.items seat.old.me.0 seat.new.me.0 }
     ensures stamps { OnOk result (clock_is own.new.items ≤ 2 ^ 64 - 2) }
     ensures room { OnOk result (vec_len own.new < vec_capacity own.new) }

@@ -40,7 +40,7 @@ fn halves<R: Wait, G: Gate>(
     ensures same { seat.new.table_id ≡ seat.old.table_id }
     ensures free { IsFree seat.new.me }
     ensures turned { IfOk result (λ handed. HasTurned by batch from handed seat.old.me.0 seat.new.me.0) }
-    ensures refused { IfErr result (HasRefused by batch seat.old.me.0 seat.new.me.0) }
+    ensures refused { IfErr result (HasRefused posts.now.shared.key by batch seat.old.me.0 seat.new.me.0) }
     ensures list { HasNewList by own.new.items seat.old.me.0 seat.new.me.0 }
 {
     sign(rt, posts, seat, own, by, batch, gate)?;
@@ -71,7 +71,7 @@ fn both_halves<R: Wait, G: Gate>(
     ensures same { seat.new.table_id ≡ seat.old.table_id }
     ensures free { IsFree seat.new.me }
     ensures turned { IfOk result (λ handed. HasTurned by batch from handed seat.old.me.0 seat.new.me.0) }
-    ensures refused { IfErr result (HasRefused by batch seat.old.me.0 seat.new.me.0) }
+    ensures refused { IfErr result (HasRefused posts.now.shared.key by batch seat.old.me.0 seat.new.me.0) }
     ensures turns { OnOk result (seat.old.me.0.turns < seat.new.me.0.turns) }
     ensures last { OnOk result (IfSome from (λ sender. IsSomeAnd seat.new.me.0.last (λ found. found.post ≡ sender))) }
     ensures entries { IfOk result (λ handed. entries (list_at seat.new.me.0 by)
@@ -104,7 +104,7 @@ impl Desk {
         requires from { IfSome from (λ f. (f ≢ by) × (f ≤ posts.now.shared.key)) }
         ensures desk { IsDeskOf posts.now.shared.table_id posts.now.shared.key self.new }
         ensures turned { IfOk result (λ handed. HasTurned by batch from handed self.old.view self.new.view) }
-        ensures refused { IfErr result (HasRefused by batch self.old.view self.new.view) }
+        ensures refused { IfErr result (HasRefused posts.now.shared.key by batch self.old.view self.new.view) }
         ensures turns { OnOk result (self.old.view.turns < self.new.view.turns) }
         ensures last { OnOk result (IfSome from (λ sender. IsSomeAnd self.new.view.last (λ found. found.post ≡ sender))) }
         ensures entries { IfOk result (λ handed. entries (list_at self.new.view by)

@@ -130,9 +130,19 @@ module _ (agents post by id : ℕ) (me : View) (kept : Kept) (p : Party) (is_pos
       (λ same. ap net'.halted same ∙ put_here k.net.halted by true)
       (λ other. put_else k.net.halted by agent true other ∙ is)
 
-  named_first : (agent : ℕ) (o : Option ℕ) → (k.net.posts post).halted ≡ o → first_halted by o ≡ Some agent → net'.halted agent ≡ true
-  named_first agent None e has = ap net'.halted (sym (same_Some by agent has)) ∙ put_here k.net.halted by true
-  named_first agent (Some other) e has = still agent (k.sound.named post agent is_post (e ∙ has))
+  -- whom a post names is an agent of the team, and marked
+  abbrev IsNamed : ℕ → Type 0
+  IsNamed agent = IsAgentOf agents agent × (net'.halted agent ≡ true)
+
+  still_named : (q agent : ℕ) → IsAgentOf agents q → (k.net.posts q).halted ≡ Some agent → IsNamed agent
+  still_named q agent is has = let old = k.sound.named q agent is has in (old.0, still agent old.1)
+
+  by_named : IsNamed by
+  by_named = ((k.parties.noted id by me p at held).0, put_here k.net.halted by true)
+
+  named_first : (agent : ℕ) (o : Option ℕ) → (k.net.posts post).halted ≡ o → first_halted by o ≡ Some agent → IsNamed agent
+  named_first agent None e has = subst IsNamed (same_Some by agent has) by_named
+  named_first agent (Some other) e has = still_named post agent is_post (e ∙ has)
 
   sound : IsSound agents net'
   sound = record {
@@ -148,8 +158,8 @@ module _ (agents post by id : ℕ) (me : View) (kept : Kept) (p : Party) (is_pos
     named = λ q agent is has. dite (ℕ_discrete q post)
         (λ same. named_first agent (k.net.posts post).halted refl
         (sym (ap (λ (x : Kept). x.halted) (ap net'.posts same ∙ put_here k.net.posts post (with_halted by (k.net.posts post)))) ∙ has))
-        (λ other. still agent (k.sound.named q agent is
-        (sym (ap (λ (x : Kept). x.halted) (put_else k.net.posts post q (with_halted by (k.net.posts post)) other)) ∙ has)));
+        (λ other. still_named q agent is
+        (sym (ap (λ (x : Kept). x.halted) (put_else k.net.posts post q (with_halted by (k.net.posts post)) other)) ∙ has));
   }
 
   pub halt_carried : IsKept agents (record {

@@ -136,7 +136,14 @@ module _ (agents post id : ℕ) (me : View) (s : State Home View) (k : IsKept ag
   seen_more : (h : Option ℕ) → kept.halted ≡ h → All (λ agent. k.net.halted agent ≡ true) me.seen
       → All (λ agent. k.net.halted agent ≡ true) (with_seen h me.seen)
   seen_more None e all = all
-  seen_more (Some agent) e all = All-cons (λ a. k.net.halted a ≡ true) agent me.seen (k.sound.named post agent is_post e) all
+  seen_more (Some agent) e all = All-cons (λ a. k.net.halted a ≡ true) agent me.seen (k.sound.named post agent is_post e).1 all
+
+  named_in : (slots : ℕ) → agents ≡ slots → (h : Option ℕ) → kept.halted ≡ h → IfSome h (IsAgentOf slots)
+  named_in slots same None e = tt
+  named_in slots same (Some agent) e = subst (λ n. IsAgentOf n agent) same (k.sound.named post agent is_post e).0
+
+  pub named : (slots : ℕ) → agents ≡ slots → IfSome kept.halted (IsAgentOf slots)
+  named slots same = named_in slots same kept.halted refl
 
   seen : SeenAreHalted agents next k.net by
   seen seat v there = ⊎_elim
@@ -202,6 +209,7 @@ takes_it agents slots post id me s k wide is at rests free =
         view = refl;
         hand = refl;
         rows = k.sound.rows post is ∙ (sym k.homes_are ∙ wide);
+        named = named agents post id me.0 s k is at rests free slots (sym k.homes_are ∙ wide);
         marks = taken_are_marked agents post id me.0 s k is at rests free;
       }),
     )

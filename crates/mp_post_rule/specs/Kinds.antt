@@ -1,5 +1,5 @@
 -- What each kind of step tells the seat that steps.
-use Rattle.std.specs.Prelude.{◌≡◌, ℕ, ◌+◌, ◌-◌, ◌/◌, ◌==◌, List, [], ◌∷◌, length, Some, MatchBool}
+use Rattle.std.specs.Prelude.{◌≡◌, ℕ, ◌+◌, ◌-◌, ◌/◌, ◌==◌, List, [], ◌∷◌, length, Some, IfSome, MatchBool}
 use Rattle.std.specs.Option.{option_map_or}
 use Rattle.atomic_table.specs.Table.{Me, Step, rest}
 use Rattle.crossbeam_utils.specs.Padded.{padded_value}
@@ -28,7 +28,7 @@ batch_in (x ∷ xs) = option_map_or (λ s. s.value) (padded_value x.1).signs []
 abbrev pub post_of : ℕ → ℕ
 post_of word = word / 2 + 1
 
--- the turn of a post is taken, and its slot is in hand
+-- the turn of a post is taken, and its slot is in hand; whom the post names as halted has a post as well
 pub record IsTaken (post slots : ℕ) (m m' : Seated) : Type 0 where
   pub home : Home
   pub kept : Kept
@@ -36,6 +36,7 @@ pub record IsTaken (post slots : ℕ) (m m' : Seated) : Type 0 where
   pub view : m'.0 ≡ after_take post kept m.0
   pub hand : m'.1 ≡ (post - 1, home) ∷ m.1
   pub rows : length kept.waiting ≡ slots
+  pub named : IfSome kept.halted (IsAgentOf slots)
   pub marks : SeenAreMarked m'.0
 
 -- 1, 2. A try for a turn: where it was held nothing changed, and else it is taken.

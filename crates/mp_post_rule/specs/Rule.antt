@@ -112,10 +112,10 @@ module _ (agents : ℕ) (net : Network) where
     pub bound : (agent : ℕ) → IsAgentOf agents agent
         → All (λ s. s.stamp ≤ greatest_stamp s.entry) (net.lists agent)
 
-  -- 6. Whom a post names as halted is marked.
+  -- 6. Whom a post names as halted is an agent of the team, and marked.
   abbrev pub NamedAreHalted : Type 0
   NamedAreHalted = (post agent : ℕ) → IsAgentOf agents post
-      → (net.posts post).halted ≡ Some agent → net.halted agent ≡ true
+      → (net.posts post).halted ≡ Some agent → IsAgentOf agents agent × (net.halted agent ≡ true)
 
   -- the points that speak of lists and posts alone; a post has a queue for each agent
   pub record IsSound : Type 0 where
