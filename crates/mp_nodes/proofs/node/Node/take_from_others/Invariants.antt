@@ -1,0 +1,6 @@
+use Rattle.std.proofs.Common.{Bool, Ok}
+use Rattle.mp_nodes.specs.Steps.{GoesOn}
+use Rattle.mp_nodes.proofs.node.Node.take_from_others.Given as goal
+
+abbrev pub invariant-loop-before : goal.invariant-loop-before
+invariant-loop-before g l = GoesOn g.H.Heuristic.value l.posts.shared.table_id l.posts.shared.key {A = Bool} l.fn.self l.fn.desk (Ok l.took) l.self l.desk

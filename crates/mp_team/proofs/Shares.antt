@@ -1,0 +1,258 @@
+-- Works that share agents.
+use Rattle.std.proofs.Common.{◌≡◌, ℕ, ◌+◌, ◌<◌, ◌&&◌, true, false, List, [], ◌∷◌, ◌++◌, length, map, get_or, set, Some, None, refl, sym, ap, ◌∙◌, subst}
+use Rattle.std.specs.Prelude.{All, Option, replicate}
+use Rattle.std.specs.Option.{option_map_or}
+use Rattle.std.proofs.lemmas.Bool.{and_parts}
+use Rattle.std.proofs.lemmas.List.{map-append}
+use Rattle.std.proofs.lemmas.List.Elements.{All-append, All-cons, All-head, All-nil, All-pop, All-tail}
+use Rattle.atomic_table.specs.Seated.{TableId}
+use Rattle.mp_sets.specs.Numbers.{Numbers}
+use Rattle.mp_task.specs.AgentTask.{AgentTask}
+use Rattle.mp_nodes.specs.Nodes.{AreServed, SeenNode, has_ended, have_ended}
+use Rattle.mp_nodes.specs.Served.{AllEnded}
+use Rattle.mp_nodes.specs.declared.served.Served.{Served}
+use Rattle.mp_nodes.specs.declared.served.Served.TheVariants as answers
+use Rattle.mp_post.specs.Desks.{IsDeskOf}
+use Rattle.mp_post.specs.Parts.{HasMerged, HasSplit}
+use Rattle.mp_team.specs.Joined.{either_node, either_nodes}
+use Rattle.mp_team.specs.Kept.{AreKept, Places}
+use Rattle.mp_team.specs.Works.{AreAnswered, AreShared, IsLeft, IsWork, is_ended, nodes_of, parts_of}
+use Rattle.mp_team.specs.declared.work.Answered.{Answered}
+use Rattle.mp_team.specs.declared.work.Work.{Work}
+use Rattle.mp_team.proofs.Changing.{either_kept}
+use Rattle.mp_team.proofs.Keeping.{both_kept, same_kept, swap_kept, then_kept}
+use Rattle.mp_team.proofs.Serving.{joined_served, left_served, right_served, split_kept}
+
+true-false : true ≡ false → ⊥
+true-false e = cc
+
+false-true : false ≡ true → ⊥
+false-true e = cc
+
+ended_one : (x y : Option SeenNode) → option_map_or has_ended x true ≡ true → option_map_or has_ended y true ≡ true
+    → option_map_or has_ended (either_node x y) true ≡ true
+ended_one (Some n) y own other = own
+ended_one None y own other = other
+
+ended_either : (ns ms : Places) → have_ended ns ≡ true → have_ended ms ≡ true → have_ended (either_nodes ns ms) ≡ true
+ended_either [] ms own other = refl
+ended_either (n ∷ ns) [] own other = own
+ended_either (n ∷ ns) (m ∷ ms) own other =
+    let first = and_parts (option_map_or has_ended n true) (have_ended ns) own in
+    let second = and_parts (option_map_or has_ended m true) (have_ended ms) other in
+    λ i. ended_one n m first.0 second.0 i && ended_either ns ms first.1 second.1 i
+
+module _ {H : Type 0} (value : AgentTask → Numbers → Numbers → Option ℕ) (table : TableId) (agents : ℕ) where
+  abbrev Fits : Work H → Type 0
+  Fits w = IsWork value table agents w
+
+  abbrev Shared : List Places → List (Work H) → Type 0
+  Shared old works = AreShared value table agents old works
+
+  -- the only one there is
+  pub only : (o : Option (Work H)) (w : Work H) → o ≡ Some w → All Fits (parts_of o) → Fits w
+  only o w e all = All-head Fits w [] (subst (λ (x : Option (Work H)). All Fits (parts_of x)) e all)
+
+  -- ---- two in one
+
+  pub same_many : (w p : Work H) → Fits w → Fits p → length p.nodes ≡ length w.nodes
+  same_many w p own other = other.served.many ∙ sym own.served.many
+
+  module _ (w p r : Work H) (own : Fits w) (other : Fits p) (desk : IsDeskOf table agents r.desk)
+      (merged : HasMerged w.desk.view p.desk.view r.desk.view) (nodes : r.nodes ≡ either_nodes w.nodes p.nodes) where
+    pub joined_fits : Fits r
+    joined_fits = record {
+      desk = desk;
+      served = subst (λ ns. AreServed value agents ns r.desk.view) (sym nodes)
+          (joined_served value agents w.nodes p.nodes w.desk.view p.desk.view r.desk.view own.served other.served merged);
+    }
+
+    pub joined_kept : AreKept (w.nodes ∷ p.nodes ∷ []) (r.nodes ∷ [])
+    joined_kept = subst (λ ns. AreKept (w.nodes ∷ p.nodes ∷ []) (ns ∷ [])) (sym nodes) (either_kept w.nodes p.nodes (same_many w p own other))
+
+    pub turned_kept : AreKept (p.nodes ∷ w.nodes ∷ []) (r.nodes ∷ [])
+    turned_kept = then_kept (p.nodes ∷ w.nodes ∷ []) (w.nodes ∷ p.nodes ∷ []) (r.nodes ∷ [])
+        (swap_kept (p.nodes ∷ []) (w.nodes ∷ [])) joined_kept
+
+  pub left_alone : (o q : Option (Work H)) (w : Work H) → o ≡ Some w → q ≡ None → All Fits (parts_of o)
+      → Shared (nodes_of (parts_of q ++ parts_of o)) (w ∷ [])
+  left_alone o q w e f all =
+      let same : parts_of q ++ parts_of o ≡ w ∷ [] = λ i. parts_of (f i) ++ parts_of (e i) in
+      record {
+        each = All-cons Fits w [] (only o w e all) (All-nil Fits);
+        kept = subst (λ (ws : List (Work H)). AreKept (nodes_of ws) (w.nodes ∷ [])) (sym same) (same_kept (w.nodes ∷ []));
+      }
+
+  pub put_together : (o q : Option (Work H)) (w p r : Work H) → o ≡ Some w → q ≡ Some p → All Fits (parts_of o) → All Fits (parts_of q)
+      → IsDeskOf table agents r.desk → HasMerged w.desk.view p.desk.view r.desk.view → r.nodes ≡ either_nodes w.nodes p.nodes
+      → Shared (nodes_of (parts_of q ++ parts_of o)) (r ∷ [])
+  put_together o q w p r e f all more desk merged nodes =
+      let own = only o w e all in
+      let other = only q p f more in
+      let same : parts_of q ++ parts_of o ≡ p ∷ w ∷ [] = λ i. parts_of (f i) ++ parts_of (e i) in
+      record {
+        each = All-cons Fits r [] (joined_fits w p r own other desk merged nodes) (All-nil Fits);
+        kept = subst (λ (ws : List (Work H)). AreKept (nodes_of ws) (r.nodes ∷ [])) (sym same) (turned_kept w p r own other desk merged nodes);
+      }
+
+  -- ---- one agent goes to a work of its own
+
+  pub parted : (old new part : Work H) (at : ℕ) (n : SeenNode) → Fits old → at < length old.nodes → Some n ≡ get_or old.nodes at None
+      → IsDeskOf table agents new.desk → IsDeskOf table agents part.desk
+      → HasSplit (at + 1) old.desk.view new.desk.view part.desk.view
+      → new.nodes ≡ set old.nodes at None → part.nodes ≡ set (replicate (length old.nodes) None) at (Some n)
+      → Shared (old.nodes ∷ []) (new ∷ part ∷ [])
+  parted old new part at n fits inside there desk part_desk split emptied alone =
+      let v = old.desk.view in
+      let left : AreServed value agents new.nodes new.desk.view =
+      subst (λ ns. AreServed value agents ns new.desk.view) (sym emptied)
+      (left_served value agents old.nodes at n v new.desk.view part.desk.view fits.served inside there split) in
+      let right : AreServed value agents part.nodes part.desk.view =
+      subst (λ ns. AreServed value agents ns part.desk.view) (sym alone)
+      (right_served value agents old.nodes at n v new.desk.view part.desk.view fits.served inside there split) in
+      let kept = split_kept value agents old.nodes at n v new.desk.view part.desk.view fits.served inside there split in
+      record {
+        each = All-cons Fits new (part ∷ []) (record { desk = desk; served = left })
+            (All-cons Fits part [] (record { desk = part_desk; served = right }) (All-nil Fits));
+        kept = subst (λ ns. AreKept (old.nodes ∷ []) (ns ∷ part.nodes ∷ [])) (sym emptied)
+            (subst (λ ns. AreKept (old.nodes ∷ []) (set old.nodes at None ∷ ns ∷ [])) (sym alone) kept);
+      }
+
+  -- ---- one after another
+
+  pub first_fits : (old : List Places) (w : Work H) (ws : List (Work H)) → Shared old (w ∷ ws) → Fits w
+  first_fits old w ws shared = All-head Fits w ws shared.each
+
+  pub others_fit : (old : List Places) (w : Work H) (ws : List (Work H)) → Shared old (w ∷ ws) → All Fits ws
+  others_fit old w ws shared = All-tail Fits w ws shared.each
+
+  -- an agent goes from a work to another
+  pub one_over : (old new : Work H) (o q more : Option (Work H)) → Shared (old.nodes ∷ []) (new ∷ parts_of q)
+      → Shared (nodes_of (parts_of q ++ parts_of o)) (parts_of more)
+      → Shared (nodes_of (old ∷ parts_of o)) (new ∷ parts_of more)
+  one_over old new o q more first second =
+      let own = nodes_of (parts_of o) in
+      let part = nodes_of (parts_of q) in
+      let last = nodes_of (parts_of more) in
+      let all : AreKept (part ++ own) last =
+      subst (λ ps. AreKept ps last) (map-append (λ (w : Work H). w.nodes) (parts_of q) (parts_of o)) second.kept in
+      record {
+        each = All-cons Fits new (parts_of more) (first_fits (old.nodes ∷ []) new (parts_of q) first) second.each;
+        kept = then_kept (old.nodes ∷ own) (new.nodes ∷ (part ++ own)) (new.nodes ∷ last)
+            (both_kept (old.nodes ∷ []) (new.nodes ∷ part) own own first.kept (same_kept own))
+            (both_kept (new.nodes ∷ []) (new.nodes ∷ []) (part ++ own) last (same_kept (new.nodes ∷ [])) all);
+      }
+
+  pub then_shared : (old : List Places) (ws us : List (Work H)) → Shared old ws → Shared (nodes_of ws) us → Shared old us
+  then_shared old ws us first second = record {
+    each = second.each;
+    kept = then_kept old (nodes_of ws) (nodes_of us) first.kept second.kept;
+  }
+
+  -- another worker has its agents
+  pub one_worker : (old : List Places) (from new : Work H) (ws us : List (Work H)) → Shared old (from ∷ ws)
+      → Shared (from.nodes ∷ []) (new ∷ us) → Shared old (new ∷ (ws ++ us))
+  one_worker old from new ws us first second =
+      let own = nodes_of ws in
+      let part = nodes_of us in
+      let turned : AreKept (new.nodes ∷ (part ++ own)) (new.nodes ∷ (own ++ part)) =
+      both_kept (new.nodes ∷ []) (new.nodes ∷ []) (part ++ own) (own ++ part) (same_kept (new.nodes ∷ [])) (swap_kept part own) in
+      let over : AreKept (from.nodes ∷ own) (new.nodes ∷ (part ++ own)) =
+      both_kept (from.nodes ∷ []) (new.nodes ∷ part) own own second.kept (same_kept own) in
+      record {
+        each = All-cons Fits new (ws ++ us) (first_fits (from.nodes ∷ []) new us second)
+            (All-append Fits ws us (others_fit old from ws first) (others_fit (from.nodes ∷ []) new us second));
+        kept = subst (λ ps. AreKept old (new.nodes ∷ ps)) (sym (map-append (λ (w : Work H). w.nodes) ws us))
+            (then_kept old (from.nodes ∷ own) (new.nodes ∷ (own ++ part)) first.kept
+            (then_kept (from.nodes ∷ own) (new.nodes ∷ (part ++ own)) (new.nodes ∷ (own ++ part)) over turned));
+      }
+
+  -- ---- what is answered
+
+  abbrev Answers : List Places → Answered H → Type 0
+  Answers old a = AreAnswered value table agents old a
+
+  -- of a work that is made of others what was answered of it is so of them
+  pub answered_before : (old mid : List Places) (a : Answered H) → AreKept old mid → Answers mid a → Answers old a
+  answered_before old mid a kept is = record { desk = is.desk; left = by a.served is.left }
+    where
+      by : (s : Served) → IsLeft value table agents mid a.work s → IsLeft value table agents old a.work s
+      by answers.Ended left = (left.0, then_kept old mid (a.work.nodes ∷ []) kept left.1)
+      by (answers.Halted agent) left = tt
+      by (answers.Bad agent) left = tt
+      by (answers.OutOfMemory agent) left = tt
+
+  -- where not all have ended nothing is said
+  pub unended : (old : List Places) (a : Answered H) → IsDeskOf table agents a.work.desk → is_ended a.served ≡ false → Answers old a
+  unended old a desk not_all = record { desk = desk; left = by a.served not_all }
+    where
+      by : (s : Served) → is_ended s ≡ false → IsLeft value table agents old a.work s
+      by answers.Ended e = absurd (true-false e)
+      by (answers.Halted agent) e = tt
+      by (answers.Bad agent) e = tt
+      by (answers.OutOfMemory agent) e = tt
+
+  pub all_ended : (old : List Places) (a : Answered H) → is_ended a.served ≡ true → Answers old a
+      → AllEnded value agents a.work.nodes a.work.desk.view × AreKept old (a.work.nodes ∷ [])
+  all_ended old a all is = by a.served all is.left
+    where
+      by : (s : Served) → is_ended s ≡ true → IsLeft value table agents old a.work s
+          → AllEnded value agents a.work.nodes a.work.desk.view × AreKept old (a.work.nodes ∷ [])
+      by answers.Ended e left = left
+      by (answers.Halted agent) e left = absurd (false-true e)
+      by (answers.Bad agent) e left = absurd (false-true e)
+      by (answers.OutOfMemory agent) e left = absurd (false-true e)
+
+  pub ended_many : (old : List Places) (a : Answered H) → is_ended a.served ≡ true → Answers old a → length a.work.nodes ≡ agents
+  ended_many old a all is = (all_ended old a all is).0.served.many
+
+  pub both_ended : (first second : List Places) (a b : Answered H) (r : Work H) → is_ended a.served ≡ true → is_ended b.served ≡ true
+      → Answers first a → Answers second b → IsDeskOf table agents r.desk
+      → HasMerged a.work.desk.view b.work.desk.view r.desk.view → r.nodes ≡ either_nodes a.work.nodes b.work.nodes
+      → Answers (first ++ second) (record { work = r; served = answers.Ended })
+  both_ended first second a b r one other is also desk merged nodes =
+      let own = all_ended first a one is in
+      let more = all_ended second b other also in
+      let w = a.work in
+      let p = b.work in
+      let fits : Fits w = record { desk = is.desk; served = own.0.served } in
+      let others : Fits p = record { desk = also.desk; served = more.0.served } in
+      let both = joined_fits w p r fits others desk merged nodes in
+      let kept = joined_kept w p r fits others desk merged nodes in
+      record {
+        desk = desk;
+        left = (
+          record {
+            served = both.served;
+            ended = ap have_ended nodes ∙ ended_either w.nodes p.nodes own.0.ended more.0.ended;
+          },
+          then_kept (first ++ second) (w.nodes ∷ p.nodes ∷ []) (r.nodes ∷ [])
+              (both_kept first (w.nodes ∷ []) second (p.nodes ∷ []) own.1 more.1) kept,
+        );
+      }
+
+  -- ---- the last of some works
+
+  pub popped : (others before : List (Work H)) (w : Work H) → others ≡ before ++ w ∷ [] → All Fits others → All Fits before × Fits w
+  popped others before w e all = All-pop Fits others before (Some w) e all
+
+  pub at_last : (work other : Work H) (before others : List (Work H)) (a : Answered H) → others ≡ before ++ other ∷ []
+      → Answers (nodes_of (work ∷ before) ++ (other.nodes ∷ [])) a → Answers (nodes_of (work ∷ others)) a
+  at_last work other before others a e is =
+      let same : nodes_of (work ∷ others) ≡ nodes_of (work ∷ before) ++ (other.nodes ∷ []) =
+      ap (λ (ws : List (Work H)). nodes_of (work ∷ ws)) e
+      ∙ ap (λ ps. work.nodes ∷ ps) (map-append (λ (w : Work H). w.nodes) before (other ∷ [])) in
+      subst (λ ps. Answers ps a) (sym same) is
+
+  pub at_joined : (work other r : Work H) (before others : List (Work H)) (a : Answered H) → others ≡ before ++ other ∷ []
+      → Fits work → Fits other → IsDeskOf table agents r.desk → HasMerged work.desk.view other.desk.view r.desk.view
+      → r.nodes ≡ either_nodes work.nodes other.nodes → Answers (nodes_of (r ∷ before)) a → Answers (nodes_of (work ∷ others)) a
+  at_joined work other r before others a e fits more desk merged nodes is =
+      let own = nodes_of before in
+      at_last work other before others a e
+      (answered_before ((work.nodes ∷ own) ++ (other.nodes ∷ [])) (r.nodes ∷ own) a
+      (then_kept ((work.nodes ∷ own) ++ (other.nodes ∷ [])) (other.nodes ∷ work.nodes ∷ own) (r.nodes ∷ own)
+      (swap_kept (work.nodes ∷ own) (other.nodes ∷ []))
+      (both_kept (other.nodes ∷ work.nodes ∷ []) (r.nodes ∷ []) own own
+      (turned_kept work other r fits more desk merged nodes) (same_kept own)))
+      is)
