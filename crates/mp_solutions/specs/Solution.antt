@@ -1,5 +1,5 @@
 -- What the agents of a team find after a legal schedule, and the text that tells it.
-use Rattle.std.specs.Prelude.{◌≡◌, ◌⊎◌, ℕ, true, false, List, [], ◌∷◌, ◌++◌, map, length, Option, Some, Ok, Err}
+use Rattle.std.specs.Prelude.{◌≡◌, ◌⊎◌, ℕ, Bool, true, false, List, [], ◌∷◌, ◌++◌, map, length, Option, Some, Ok, Err}
 use Rattle.mp_factor.specs.declared.factor.Factor.{Factor}
 use Rattle.mp_sets.specs.Numbers.{Numbers}
 use Rattle.mp_joint.specs.Fact.{Text}
@@ -81,6 +81,17 @@ module _
       pub in_turn : IsFoundInTurn schedule found
       pub round_robin :
           IsRoundRobin value (start_world value limit in_turn.is_found.tasks.tasks) schedule in_turn.is_found.last
+
+    -- this was found by some legal schedule, at the end of which all agents had ended
+    pub record IsFoundToEnd (found : Solution) : Type 0 where
+      pub schedule : List Event
+      pub is_found : IsFound schedule found
+      pub over : is_over is_found.last ≡ true
+
+    -- on one thread alone this was found by round robin, and otherwise by some schedule, until all agents had ended
+    abbrev pub IsFoundOn : Bool → Solution → Type 0
+    IsFoundOn true found = IsSolution found
+    IsFoundOn false found = IsFoundToEnd found
 
     -- this was found by the schedule that a text has
     pub record IsReplayed (text : Text) (found : Solution) : Type 0 where

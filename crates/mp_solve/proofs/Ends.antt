@@ -18,11 +18,11 @@ use Rattle.mp_solve.specs.Ended.{HasDoneAll, HasEnded}
 use Rattle.mp_solve.specs.Machines.{new_machines}
 
 module _ (value : AgentTask → Numbers → Numbers → Option ℕ) (limit : ℕ) where
-  new_tasks : (ts : List AgentTask) → tasks_of (new_machines value limit ts) ≡ ts
+  pub new_tasks : (ts : List AgentTask) → tasks_of (new_machines value limit ts) ≡ ts
   new_tasks [] = refl
   new_tasks (t ∷ ts) = ap (λ us. t ∷ us) (new_tasks ts)
 
-  new_limit : (ts : List AgentTask) → 1 ≤ length ts → limit_of (new_machines value limit ts) ≡ limit
+  pub new_limit : (ts : List AgentTask) → 1 ≤ length ts → limit_of (new_machines value limit ts) ≡ limit
   new_limit [] some = absurd (omega arith)
   new_limit (t ∷ ts) some = refl
 

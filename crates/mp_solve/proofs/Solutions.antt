@@ -1,56 +1,30 @@
--- What a team has found is right for its files.
-use Rattle.std.proofs.Common.{◌≡◌, ◌≤◌, ℕ, true, List, [], length, map, All, Option, Some}
+-- What a team has found whose events happened one after another.
+use Rattle.std.proofs.Common.{◌≡◌, ◌≤◌, ℕ, List, length, All, Option, Some}
 use Rattle.std.proofs.Common.{sym, ap, subst, ◌∙◌}
 use Rattle.std.specs.Prelude.{IfOk, Result, Ok, Err}
 use Rattle.mp_factor.specs.declared.factor.Factor.{Factor}
 use Rattle.mp_sets.specs.Numbers.{Numbers}
-use Rattle.mp_joint.specs.declared.plan.PlanStep.{PlanStep}
 use Rattle.mp_task.specs.Agree.{Agree}
 use Rattle.mp_task.specs.AgentTask.{AgentTask}
 use Rattle.mp_task.specs.Limits.{IsWithinLimits}
 use Rattle.mp_grounder.specs.Checked.{IsChecked}
-use Rattle.mp_machine.specs.AgentRecord.{AgentRecord}
-use Rattle.mp_messages.specs.declared.history.Entry.{Entry}
 use Rattle.mp_messages.specs.declared.history.Event.{Event}
 use Rattle.mp_messages.specs.History.{schedule as schedule_of}
-use Rattle.mp_world.specs.declared.answer.Answer.TheVariants.{Nothing}
 use Rattle.mp_world.specs.Answers.{answer_of, outcome_of}
 use Rattle.mp_world.specs.Events.{run}
 use Rattle.mp_world.specs.Logs.{IsLog, log_of_run}
-use Rattle.mp_world.specs.RoundRobin.{is_over}
-use Rattle.mp_world.specs.World.{AreNumbered, World}
+use Rattle.mp_world.specs.World.{AreNumbered}
 use Rattle.mp_world.proofs.Agents.{agree_numbered}
 use Rattle.mp_world.proofs.LogOfRun.{run_log_is_log, run_log_schedule}
 use Rattle.mp_schedule.specs.TeamRun.{TeamRun}
 use Rattle.mp_split.specs.Team.{AreTasksOf}
 use Rattle.mp_split.specs.declared.team.Tasks.{Tasks}
-use Rattle.mp_text.specs.Outcome.{found_lines, outcome_text}
-use Rattle.mp_text.specs.Lines.{text_of_lines}
+use Rattle.mp_text.specs.Outcome.{outcome_text}
 use Rattle.mp_outcome.specs.Names.{names_of}
 use Rattle.mp_solutions.specs.declared.solution.Solution.{Solution}
-use Rattle.mp_solutions.specs.PlanText.{answer_text}
-use Rattle.mp_solutions.specs.Right.{IsRight}
-use Rattle.mp_solutions.specs.Solution.{IsFound, IsFoundInTurn, IsRightFor, IsSolution}
+use Rattle.mp_solutions.specs.Solution.{IsFound, IsFoundInTurn, IsSolution}
 use Rattle.mp_solve.specs.Ended.{HasDoneAll, HasEnded}
-use Rattle.mp_solve.proofs.Finds.{no_answer}
-
--- the answers of a team are right for its files, as the law has it
-abbrev pub AnswersAreRight : (AgentTask → Numbers → Numbers → Option ℕ) → Type 0
-AnswersAreRight value =
-    (team : List Factor) (tasks : Tasks) (limit : ℕ) (schedule : List Event) (last : World)
-    → All IsChecked team → 1 ≤ length team → AreTasksOf team tasks
-    → All IsWithinLimits tasks.tasks → limit ≤ 10000000
-    → run value limit tasks.tasks schedule ≡ Some last → is_over last ≡ true
-    → (plan : List PlanStep)
-    × IsRight value limit team tasks.tasks schedule last (answer_of last) plan
-    × ((log : List Entry) → outcome_text (outcome_of last) (names_of team tasks.steps) log
-    ≡ answer_text (length team) (answer_of last) plan log)
-
--- before all agents have ended, there is no text
-no_text : (w : World) (names : List (List PlanStep)) (log : List Entry) → Nothing ≡ answer_of w
-    → outcome_text (outcome_of w) names log ≡ []
-no_text w names log none =
-    ap (λ a. text_of_lines (found_lines a (map (λ (x : AgentRecord). x.share) w.agents) names log)) (sym none)
+use Rattle.mp_solve.proofs.Found.{AnswersAreRight, is_found}
 
 module _ (value : AgentTask → Numbers → Numbers → Option ℕ) (limit : ℕ) (team : List Factor) (tasks : Tasks)
     (schedule : List Event) (r : TeamRun)
@@ -77,39 +51,23 @@ module _ (value : AgentTask → Numbers → Numbers → Option ℕ) (limit : ℕ
 
     module _ (s : Solution) (answer : s.answer ≡ answer_of r.world) (log : s.log ≡ r.log)
         (text : s.text ≡ outcome_text (outcome_of r.world) (names_of team tasks.steps) r.log)
+        (views : s.views ≡ tasks.views)
       where
-        right_for : is_over r.world ≡ true → IsRightFor value limit team tasks.tasks schedule r.world s
-        right_for over =
-            let found = law team tasks limit schedule r.world checked some are
-            (subst (All IsWithinLimits) done.tasks_are done.team.within) few_entries leads over in
-            record {
-              plan = found.0;
-              right = subst (λ a. IsRight value limit team tasks.tasks schedule r.world a found.0) (sym answer) found.1;
-              printed = text ∙ found.2 r.log ∙ (λ i. answer_text (length team) (sym answer i) found.0 (sym log i));
-            }
+        whole : s.log ≡ log_of_run value limit tasks.tasks schedule
+        whole = log ∙ logged
 
-        pub is_found : s.views ≡ tasks.views → IsFound value limit team schedule s
-        is_found views =
-            let whole : s.log ≡ log_of_run value limit tasks.tasks schedule = log ∙ logged in
-            record {
-              tasks = tasks;
-              are_tasks = are;
-              views = views;
-              last = r.world;
-              leads = leads;
-              logged = ap schedule_of whole ∙ run_log_schedule value tasks.tasks numbered limit schedule r.world leads;
-              is_log = subst (IsLog value limit tasks.tasks) (sym whole) is_log;
-              answer = answer;
-              told = text ∙ ap (λ l. outcome_text (outcome_of r.world) (names_of team tasks.steps) l) (sym log);
-              right = right_for;
-              goes_on = λ over.
-                  let none = no_answer r.world over in
-                  (answer ∙ sym none, text ∙ no_text r.world (names_of team tasks.steps) r.log none);
-            }
+        found : IsFound value limit team schedule s
+        found =
+            is_found value limit team tasks schedule r.world law checked some are
+            (subst (All IsWithinLimits) done.tasks_are done.team.within) few_entries leads s answer
+            (text ∙ ap (λ l. outcome_text (outcome_of r.world) (names_of team tasks.steps) l) (sym log))
+            views
+            (subst (IsLog value limit tasks.tasks) (sym whole) is_log)
+            (ap schedule_of whole ∙ run_log_schedule value tasks.tasks numbered limit schedule r.world leads)
 
-        pub found_in_turn : s.views ≡ tasks.views → IsFoundInTurn value limit team schedule s
-        unfolding is_found
-        found_in_turn views = record { is_found = is_found views; logged = log ∙ logged }
+        pub found_in_turn : IsFoundInTurn value limit team schedule s
+        unfolding is_found found
+        found_in_turn = record { is_found = found; logged = whole }
 
 -- what was found by round robin
 pub if_solution : (value : AgentTask → Numbers → Numbers → Option ℕ) (limit : ℕ) (team : List Factor) (tasks : Tasks)
@@ -120,7 +78,7 @@ pub if_solution : (value : AgentTask → Numbers → Numbers → Option ℕ) (li
     → IfOk found (λ s. s.log ≡ r.log) → IfOk found (λ s. s.answer ≡ answer_of r.world)
     → IfOk found (λ s. s.text ≡ outcome_text (outcome_of r.world) (names_of team tasks.steps) r.log)
     → IfOk found (IsSolution value limit team)
-unfolding is_found found_in_turn
+unfolding is_found found found_in_turn
 if_solution value limit team tasks r law checked some are few ended (Ok s) views log answer text =
     record {
       schedule = r.schedule;

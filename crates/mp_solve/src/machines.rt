@@ -28,8 +28,8 @@ fn machine_of<H: Heuristic>(
     Machine::new(alloc, task, heuristic, limit)
 }
 
-/// A new machine for each task.
-fn machines_of<H: Heuristic>(
+/// A new machine for each task, with this limit of entries that it may expand. Refuses only for want of memory.
+pub fn machines_of<H: Heuristic>(
     alloc: Global,
     tasks: TaskList,
     limit: u64,
@@ -53,7 +53,7 @@ fn is_within_limits(task: &Task)
 }
 
 /// All tasks are within the limits of the program.
-fn are_within_limits(tasks: &[Task])
+pub fn are_within_limits(tasks: &[Task])
     ensures { All IsWithinLimits tasks.now }
 {
     for task in tasks {

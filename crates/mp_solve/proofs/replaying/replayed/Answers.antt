@@ -8,7 +8,8 @@ use Rattle.mp_world.specs.Answers.{outcome_of}
 use Rattle.mp_outcome.specs.Names.{names_of}
 use Rattle.mp_solve.specs.Ended.{HasDoneAll}
 use Rattle.mp_solve.proofs.Ends.{done_for}
-use Rattle.mp_solve.proofs.Solutions.{AnswersAreRight, found_in_turn}
+use Rattle.mp_solve.proofs.Found.{AnswersAreRight}
+use Rattle.mp_solve.proofs.Solutions.{found_in_turn}
 use Rattle.mp_solve.proofs.replaying.replayed.Goals as goal
 
 pub begun-requires-clause-agree : goal.begun-requires-clause-agree

@@ -5,7 +5,8 @@ use Rattle.mp_world.specs.Answers.{outcome_of}
 use Rattle.mp_outcome.specs.Names.{names_of}
 use Rattle.mp_solutions.specs.declared.solution.Solution.{Solution}
 use Rattle.mp_solve.proofs.Ends.{of_itself}
-use Rattle.mp_solve.proofs.Solutions.{AnswersAreRight, if_solution}
+use Rattle.mp_solve.proofs.Found.{AnswersAreRight}
+use Rattle.mp_solve.proofs.Solutions.{if_solution}
 use Rattle.mp_solve.proofs.solving.solved.Goals as goal
 
 pub ended-requires : goal.ended-requires
