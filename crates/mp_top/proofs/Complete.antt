@@ -7,7 +7,7 @@ use Rattle.mp_files.specs.declared.refusal.FileOf.{FileOf}
 use Rattle.mp_files.specs.declared.refusal.Refusal.TheVariants as why
 use Rattle.mp_ground.specs.declared.refusal.GroundRefusal.TheVariants as sizes
 use Rattle.mp_outside.specs.Source.{Files as Held}
-use Rattle.mp_words.specs.Requests.{Wanted}
+use Rattle.mp_words.specs.Requests.{Wanted, request_of}
 use Rattle.mp_top.specs.Asked.{FirstFile, TeamRequest, Texts, team_request}
 use Rattle.mp_top.specs.Asked.Texts.{in_files, made}
 use Rattle.mp_top.specs.Call.{Call}
@@ -18,7 +18,6 @@ use Rattle.mp_top.specs.FirstText.{HasFirstText}
 use Rattle.mp_top.specs.Keeps.{IsLineFor, Keeps}
 use Rattle.mp_top.specs.Refusal.{status_of}
 use Rattle.mp_top.specs.Team.{IsTextRefused}
-use Rattle.mp_top.specs.Words.{request_of}
 use Rattle.mp_top.specs.declared.refusal.Refusal.{Refusal}
 use Rattle.mp_top.specs.declared.refusal.Refusal.TheVariants.{Files, First, Sizes}
 use Rattle.mp_top.specs.declared.refusal.FirstRefusal.TheVariants as first

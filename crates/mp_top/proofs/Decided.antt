@@ -13,7 +13,7 @@ use Rattle.mp_ground.specs.declared.refusal.GroundRefusal.TheVariants.{TooManyTr
 use Rattle.mp_grounder.specs.Checked.{IsChecked}
 use Rattle.mp_maker.specs.Delivery.{delivery}
 use Rattle.mp_outside.specs.Source.{Files as Held}
-use Rattle.mp_solutions.specs.Solution.{IsReplayed, IsSolution}
+use Rattle.mp_solutions.specs.Solution.{IsFoundOn, IsReplayed}
 use Rattle.mp_solutions.specs.declared.solution.Solution.{Solution}
 use Rattle.mp_solve.specs.Refused.{AreWithin, Refuses as ReplayRefuses}
 use Rattle.mp_solve.specs.declared.refusal.ReplayRefusal.{ReplayRefusal}
@@ -69,10 +69,10 @@ module _ (s : Solution) (text : Text) (d : Decision) (is : IsTold s text d) wher
   same_end : d.status ≡ answer_status d.answer
   same_end = is.ended ∙ ap answer_status (sym is.answer)
 
-pub solves_for : (s : Searching) (trace : Bool) (team : List Factor) (found : Solution) (d : Decision) → AreWithin team → IsSolution (values_of s.heuristic) s.limit team found → IsTold found (printed_text trace found.log found.answer found.text) d → SolvesFor s trace team d
-solves_for s trace team found d within solved is = record {
+pub solves_for : (s : Searching) (one trace : Bool) (team : List Factor) (found : Solution) (d : Decision) → AreWithin team → IsFoundOn (values_of s.heuristic) s.limit team one found → IsTold found (printed_text trace found.log found.answer found.text) d → SolvesFor s one trace team d
+solves_for s one trace team found d within solved is = record {
   outcome = found.text;
-  solved = record { within = within; found = subst (IsSolution (values_of s.heuristic) s.limit team) (sym (same_solution found _ d is)) solved };
+  solved = record { within = within; found = subst (IsFoundOn (values_of s.heuristic) s.limit team one) (sym (same_solution found _ d is)) solved };
   printed = is.printed ∙ (λ i. printed_text trace (sym is.log i) (sym is.answer i) found.text);
   ended = same_end found _ d is;
 }
@@ -85,10 +85,10 @@ replays_by s text team found d within by_schedule is = record {
   ended = same_end found _ d is;
 }
 
-pub makes_for : (s : Searching) (show : Bool) (texts : List Text) (size : ℕ) (team : List Factor) (found : Solution) (d : Decision) → AreWithin team → IsSolution (values_of s.heuristic) s.limit team found → IsTold found (told_made show texts size found.answer) d → MakesFor s show texts size team d
-makes_for s show texts size team found d within solved is = record {
+pub makes_for : (s : Searching) (one show : Bool) (texts : List Text) (size : ℕ) (team : List Factor) (found : Solution) (d : Decision) → AreWithin team → IsFoundOn (values_of s.heuristic) s.limit team one found → IsTold found (told_made show texts size found.answer) d → MakesFor s one show texts size team d
+makes_for s one show texts size team found d within solved is = record {
   outcome = found.text;
-  solved = record { within = within; found = subst (IsSolution (values_of s.heuristic) s.limit team) (sym (same_solution found _ d is)) solved };
+  solved = record { within = within; found = subst (IsFoundOn (values_of s.heuristic) s.limit team one) (sym (same_solution found _ d is)) solved };
   printed = is.printed ∙ ap (told_made show texts size) (sym is.answer);
   ended = same_end found _ d is;
 }
@@ -156,7 +156,7 @@ reading_status files.OutOfMemory h = absurd h
 
 -- ---- What is decided about each request.
 
-pub decided_solve : (held : Option Held) (w : ToSolve) (names : List Two) (team : List Factor) (d : Decision) → names ≡ agents_of w.names → IfSome held (λ files. HoldsTeam files names team) → length team ≡ length names → All IsChecked team → SolvesFor w.search w.trace team d → Decides held (solves w) d
+pub decided_solve : (held : Option Held) (w : ToSolve) (names : List Two) (team : List Factor) (d : Decision) → names ≡ agents_of w.names → IfSome held (λ files. HoldsTeam files names team) → length team ≡ length names → All IsChecked team → SolvesFor w.search w.work.one w.trace team d → Decides held (solves w) d
 decided_solve held w names team d same holds one_each all h = (
   record {
     team = team;
@@ -209,7 +209,7 @@ decided_check held w names text team d same is holds one_each all h = record {
   is_valid_text = valid_exactly (verdict team h.plan.plan) h.plan.cost d.status (told d) h.is_told.printed h.is_told.ended;
 }
 
-pub decided_make : (held : Option Held) (w : ToMake) (texts : List Text) (size : ℕ) (team : List Factor) (d : Decision) → texts ≡ delivery w.size w.number → size ≡ w.size → ReadsMade (agents_of texts) (Ok team) → length team ≡ length (names_of_texts (made_texts w.size w.number)) → All IsChecked team → MakesFor w.search w.show texts size team d → Decides held (makes w) d
+pub decided_make : (held : Option Held) (w : ToMake) (texts : List Text) (size : ℕ) (team : List Factor) (d : Decision) → texts ≡ delivery w.size w.number → size ≡ w.size → ReadsMade (agents_of texts) (Ok team) → length team ≡ length (names_of_texts (made_texts w.size w.number)) → All IsChecked team → MakesFor w.search w.work.one w.show texts size team d → Decides held (makes w) d
 decided_make held w texts size team d same same_size reads one_each all h = (
   record {
     team = team;

@@ -13,14 +13,14 @@ use Rattle.mp_outside.specs.Source.{Files as Held}
 use Rattle.mp_plan_verdict.specs.Verdict.{verdict}
 use Rattle.mp_sets.specs.Numbers.{Numbers}
 use Rattle.mp_solutions.specs.Right.{IsRight}
-use Rattle.mp_solutions.specs.Solution.{IsFound, IsReplayed, IsSolution}
+use Rattle.mp_solutions.specs.Solution.{IsFound, IsFoundOn, IsReplayed}
 use Rattle.mp_solutions.specs.declared.solution.Solution.{Solution}
+use Rattle.mp_solutions.proofs.ToEnd.{found_to_end}
 use Rattle.mp_task.specs.AgentTask.{AgentTask}
-use Rattle.mp_words.specs.Requests.{Searching, Wanted}
+use Rattle.mp_words.specs.Requests.{Searching, Wanted, request_of}
 use Rattle.mp_words.specs.Requests.Wanted.{checks, makes, replays, solves}
 use Rattle.mp_world.specs.RoundRobin.{is_over}
-use Rattle.mp_world.specs.World.{World, start_world}
-use Rattle.mp_world.proofs.Turns.{round_robin_end}
+use Rattle.mp_world.specs.World.{World}
 use Rattle.mp_world.specs.declared.answer.Answer.{Answer}
 use Rattle.mp_world.specs.declared.answer.Answer.TheVariants as answer
 use Rattle.mp_top.specs.Asked.{TeamRequest, team_request, values_of}
@@ -34,7 +34,6 @@ use Rattle.mp_top.specs.Outcome.{IsOutcome, answer_status, is_valid, reported}
 use Rattle.mp_top.specs.Printed.{Publishes, TellsRefusal, Writes}
 use Rattle.mp_top.specs.Refusal.{line_of, memory_line, status_of, words_line, write_line}
 use Rattle.mp_top.specs.Team.{IsTeam}
-use Rattle.mp_top.specs.Words.{request_of}
 use Rattle.mp_top.specs.declared.decision.Decision.{Decision}
 use Rattle.mp_top.specs.declared.refusal.Refusal.{Refusal}
 use Rattle.mp_top.specs.declared.refusal.Refusal.TheVariants.{Files, First, Sizes}
@@ -251,11 +250,11 @@ module _ (value : AgentTask → Numbers → Numbers → Option ℕ) (limit : ℕ
   found_status true is = inl (over_status is)
   found_status false is = inr (ap answer_status (found.goes_on is).0)
 
-solved_status : (s : Searching) (team : List Factor) (found : Solution) → IsSolution (values_of s.heuristic) s.limit team found → IsSolvedStatus (answer_status found.answer)
-solved_status s team found is =
+solved_status : (s : Searching) (one : Bool) (team : List Factor) (found : Solution) → IsFoundOn (values_of s.heuristic) s.limit team one found → IsSolvedStatus (answer_status found.answer)
+solved_status s one team found is =
     let value = values_of s.heuristic in
-    over_status value s.limit team is.schedule found is.in_turn.is_found
-    (round_robin_end value (start_world value s.limit is.in_turn.is_found.tasks.tasks) is.in_turn.is_found.last is.schedule is.round_robin)
+    let ended = found_to_end value s.limit team found one is in
+    over_status value s.limit team ended.schedule found ended.is_found ended.over
 
 replayed_status : (s : Searching) (team : List Factor) (text : Text) (found : Solution) → IsReplayed (values_of s.heuristic) s.limit team text found → IsSolvedStatus (answer_status found.answer) ⊎ (answer_status found.answer ≡ status.Unfinished)
 replayed_status s team text found is =
@@ -268,7 +267,7 @@ valid_status false = inr refl
 -- an outcome has a status of its request
 outcome_status : (held : Option Held) (request : Wanted) (report : Report) (ended : Status) (text : Text) → IsOutcome held request report ended text → IsOutcomeStatus request ended
 outcome_status held (solves w) report ended text (o, is) =
-    subst IsSolvedStatus (sym is) (solved_status w.search o.team (reported report o.outcome) o.solved.found)
+    subst IsSolvedStatus (sym is) (solved_status w.search w.work.one o.team (reported report o.outcome) o.solved.found)
 outcome_status held (replays w) report ended text (o, is) =
     subst (λ e. IsSolvedStatus e ⊎ (e ≡ status.Unfinished)) (sym is)
     (replayed_status w.search o.team o.schedule (reported report o.outcome) o.replayed.found)
@@ -276,7 +275,7 @@ outcome_status held (checks w) report ended text o =
     subst (λ e. (e ≡ status.Solved) ⊎ (e ≡ status.No)) (sym o.is_ended)
     (valid_status (is_valid (verdict o.team o.plan.plan) o.plan.cost))
 outcome_status held (makes w) report ended text (o, is) =
-    subst IsSolvedStatus (sym is) (solved_status w.search o.team (reported report o.outcome) o.solved.found)
+    subst IsSolvedStatus (sym is) (solved_status w.search w.work.one o.team (reported report o.outcome) o.solved.found)
 
 -- nothing is refused of what an outcome is for
 pub record IsFine (held : Option Held) (request : TeamRequest) : Type 0 where

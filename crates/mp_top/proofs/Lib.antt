@@ -6,6 +6,8 @@ pub mod Checked
 pub mod Made
 -- the status of a valid plan comes exactly with its text
 pub mod Valid
+-- what workers have found
+pub mod Workers
 -- what was fetched of the first file is what it holds
 pub mod FirstFile
 -- the texts of a request have one first refusal

@@ -1,5 +1,5 @@
 -- What is printed for two requests.
-use Rattle.std.proofs.Common.{◌≡◌, ◌≤◌, ℕ, true, List, ◌∷◌, ◌++◌, length, map, All, Option, Some, None, refl, sym, ap, subst, ◌∙◌}
+use Rattle.std.proofs.Common.{◌≡◌, ◌≤◌, ℕ, Bool, true, List, ◌∷◌, ◌++◌, length, map, All, Option, Some, None, refl, sym, ap, subst, ◌∙◌}
 use Rattle.std.proofs.lemmas.Option.{same_Some}
 use Rattle.mp_factor.specs.declared.factor.Factor.{Factor}
 use Rattle.mp_grounder.specs.Checked.{IsChecked}
@@ -13,7 +13,8 @@ use Rattle.mp_renaming.specs.Team.{IsRenamedTeam}
 use Rattle.mp_replays.specs.Same.{AreSameSearches, IsFoundAgain}
 use Rattle.mp_replays.specs.Traces.{IsTraceOf}
 use Rattle.mp_sets.specs.Numbers.{Numbers}
-use Rattle.mp_solutions.specs.Solution.{IsFound, IsFoundInTurn, IsReplayed}
+use Rattle.mp_solutions.specs.Solution.{IsFound, IsFoundInTurn, IsFoundOn, IsRefusedLine, IsReplayed, IsSolution}
+use Rattle.mp_solutions.proofs.ToEnd.{found_to_end}
 use Rattle.mp_solutions.specs.declared.solution.Solution.{Solution}
 use Rattle.mp_split.specs.Team.{AreTasksOf}
 use Rattle.mp_split.specs.declared.team.Tasks.{Tasks}
@@ -27,21 +28,40 @@ use Rattle.mp_solve.specs.Refused.{AreWithin}
 use Rattle.mp_world.specs.Logs.{IsLog}
 use Rattle.mp_world.specs.declared.answer.Answer.{Answer}
 use Rattle.mp_world.specs.declared.answer.Answer.TheVariants as answer
+use Rattle.mp_top.specs.Asked.Work.{searched}
 use Rattle.mp_top.specs.Asked.{FirstFile, KeepsLimits, TeamRequest, Texts, agents_of, longest_schedule, team_request, texts_of, values_of}
 use Rattle.mp_top.specs.First.{IsAccepted, IsFirst}
 use Rattle.mp_top.specs.FirstText.{IsFirstText, IsHeld}
-use Rattle.mp_top.specs.Outcome.{AreSameRuns, HasTrace, IsOutcome, IsPrintedAgain, Printed, Searches, answer_status, behind_trace, printed_text, reported, team_in}
+use Rattle.mp_top.specs.Outcome.{AreSameRuns, HasTrace, IsInTurn, IsOutcome, IsPrintedAgain, IsSolved, Printed, Searches, answer_status, behind_trace, printed_text, reported, team_in}
 use Rattle.mp_top.specs.Team.{IsFoundForBoth, IsTeam}
 use Rattle.mp_top.specs.declared.refusal.Refusal.{Refusal}
+use Rattle.mp_top.specs.declared.refusal.Refusal.TheVariants.{Files as FilesRefused, First, Sizes}
+use Rattle.mp_top.specs.declared.refusal.FirstRefusal.TheVariants as of_first
 use Rattle.mp_top.specs.declared.report.Report.{Report}
 use Rattle.mp_top.specs.declared.status.Status.{Status}
 use Rattle.mp_top.proofs.Checked.{checked_team}
 use Rattle.mp_top.proofs.OneTeam.{TeamLaw, one_team, team_held, team_of_both}
 
--- what was found was found for a team by the events of some schedule, one after another, and has a text
+-- what was found was found for a team by the events of some schedule, and has a text
 abbrev FoundBy : Searching → List Factor → Report → Text → Type 0
 FoundBy s team report outcome =
+    (events : List Event) × IsFound (values_of s.heuristic) s.limit team events (reported report outcome)
+
+-- the events happened one after another
+abbrev FoundInTurn : Searching → List Factor → Report → Text → Type 0
+FoundInTurn s team report outcome =
     (events : List Event) × IsFoundInTurn (values_of s.heuristic) s.limit team events (reported report outcome)
+
+solved_by : (s : Searching) (one : Bool) (team : List Factor) (report : Report) (outcome : Text) → IsSolved s one team report outcome → FoundBy s team report outcome
+solved_by s one team report outcome solved =
+    let ended = found_to_end (values_of s.heuristic) s.limit team (reported report outcome) one solved.found in
+    (ended.schedule, ended.is_found)
+
+solved_in_turn : (s : Searching) (one : Bool) (team : List Factor) (report : Report) (outcome : Text) → one ≡ true → IsSolved s one team report outcome → FoundInTurn s team report outcome
+solved_in_turn s one team report outcome alone solved =
+    let found : IsSolution (values_of s.heuristic) s.limit team (reported report outcome) =
+    subst (λ o. IsFoundOn (values_of s.heuristic) s.limit team o (reported report outcome)) alone solved.found in
+    (found.schedule, found.in_turn)
 
 abbrev outcome_text : (held : Option Files) (request : Wanted) (s : Searching) (report : Report) (ended : Status) (text : Text) → Searches request s → IsOutcome held request report ended text → Text
 outcome_text held (solves w) s report ended text is (o, end) = o.outcome
@@ -51,12 +71,21 @@ outcome_text held (makes w) s report ended text is (o, end) = o.outcome
 
 outcome_found : (held : Option Files) (request : Wanted) (s : Searching) (report : Report) (ended : Status) (text : Text) (is : Searches request s) (o : IsOutcome held request report ended text) → FoundBy s (team_in held request report ended text o) report (outcome_text held request s report ended text is o)
 outcome_found held (solves w) s report ended text is (o, end) =
-    subst (λ how. FoundBy how o.team report o.outcome) is (o.solved.found.schedule, o.solved.found.in_turn)
+    subst (λ how. FoundBy how o.team report o.outcome) is (solved_by w.search w.work.one o.team report o.outcome o.solved)
 outcome_found held (replays w) s report ended text is (o, end) =
-    subst (λ how. FoundBy how o.team report o.outcome) is (map (λ line. line.event) o.replayed.found.lines, o.replayed.found.in_turn)
+    subst (λ how. FoundBy how o.team report o.outcome) is (map (λ line. line.event) o.replayed.found.lines, o.replayed.found.in_turn.is_found)
 outcome_found held (checks w) s report ended text is o = absurd is
 outcome_found held (makes w) s report ended text is (o, end) =
-    subst (λ how. FoundBy how o.team report o.outcome) is (o.solved.found.schedule, o.solved.found.in_turn)
+    subst (λ how. FoundBy how o.team report o.outcome) is (solved_by w.search w.work.one o.team report o.outcome o.solved)
+
+outcome_in_turn : (held : Option Files) (request : Wanted) (s : Searching) (report : Report) (ended : Status) (text : Text) (is : Searches request s) → IsInTurn request → (o : IsOutcome held request report ended text) → FoundInTurn s (team_in held request report ended text o) report (outcome_text held request s report ended text is o)
+outcome_in_turn held (solves w) s report ended text is turn (o, end) =
+    subst (λ how. FoundInTurn how o.team report o.outcome) is (solved_in_turn w.search w.work.one o.team report o.outcome turn o.solved)
+outcome_in_turn held (replays w) s report ended text is turn (o, end) =
+    subst (λ how. FoundInTurn how o.team report o.outcome) is (map (λ line. line.event) o.replayed.found.lines, o.replayed.found.in_turn)
+outcome_in_turn held (checks w) s report ended text is turn o = absurd is
+outcome_in_turn held (makes w) s report ended text is turn (o, end) =
+    subst (λ how. FoundInTurn how o.team report o.outcome) is (solved_in_turn w.search w.work.one o.team report o.outcome turn o.solved)
 
 outcome_checked : (held : Option Files) (request : Wanted) (report : Report) (ended : Status) (text : Text) (o : IsOutcome held request report ended text) → All IsChecked (team_in held request report ended text o)
 outcome_checked held (solves w) report ended text (o, end) = o.is_team.checked
@@ -117,14 +146,14 @@ is_trace report text outcome printed = record {
   text_is = printed;
 }
 
--- the law of mp_replays: the text of a trace leads to what was found
-abbrev pub LeadsBack : Type 0
-LeadsBack =
+-- the law of mp_replays: no line of a trace is refused
+abbrev pub NoLineRefused : Type 0
+NoLineRefused =
     (value : AgentTask → Numbers → Numbers → Option ℕ) (limit : ℕ) (team : List Factor) (schedule : List Event)
-    (found : Solution) (text : Text)
+    (found : Solution) (text : Text) (n : ℕ)
     → All IsChecked team → length team ≤ 16
-    → IsFoundInTurn value limit team schedule found → IsTraceOf found.log text
-    → IsReplayed value limit team text found
+    → IsFound value limit team schedule found → IsTraceOf found.log text
+    → IsRefusedLine value limit team text n → ⊥
 
 -- where nothing is refused of what the texts lead to, there is no first refusal
 abbrev pub NoneFirst : Type 0
@@ -134,22 +163,50 @@ NoneFirst =
     → IsTeam (Some files) request.texts team → IsAccepted request.work team text
     → IsFirst files request r → ⊥
 
-pub trace_accepted : LeadsBack → TeamLaw → NoneFirst → (held : Option Files) (files : Files) (request : Wanted) (replay : ToReplay) (first : Printed held request) (r : Refusal) → KeepsLimits request → Searches request replay.search → HasTrace request → IsFoundForBoth held (Some files) (texts_of request) (texts_of (replays replay)) → files replay.schedule ≡ Some first.text → length first.text ≤ longest_schedule → IsFirst files (team_request (replays replay)) r → ⊥
-trace_accepted back law none held files request replay first r keeps is trace both there short refused =
+-- the same texts for a search
+abbrev to_search : ToReplay → TeamRequest
+to_search replay = record {
+  first = (team_request (replays replay)).first;
+  texts = texts_of (replays replay);
+  work = searched replay.search;
+}
+
+-- Texts lead to a team whose sizes keep the limits, and no line of the first file is refused: then nothing is.
+module _ (law : TeamLaw) (none : NoneFirst) (files : Files) (replay : ToReplay) (text : Text) (team : List Factor)
+    (is_text : IsFirstText (Some files) (team_request (replays replay)).first (Some text))
+    (is_team : IsTeam (Some files) (texts_of (replays replay)) team) (within : AreWithin team)
+    (no_line : (n : ℕ) → IsRefusedLine (values_of replay.search.heuristic) replay.search.limit team text n → ⊥) where
+  none_else : (r : Refusal) → IsFirst files (to_search replay) r → ⊥
+  none_else r comes = none files (to_search replay) (Some text) team r is_text is_team within comes
+
+  none_refused : (r : Refusal) → IsFirst files (team_request (replays replay)) r → ⊥
+  none_refused (FilesRefused r) h = none_else (FilesRefused r) (record { first_text = h.first_text; first = h.first })
+  none_refused (Sizes r) h =
+      none_else (Sizes r) (record { first_text = h.first_text; team = h.team; is_team = h.is_team; refused = h.refused })
+  none_refused (First of_first.Read) h = none_else (First of_first.Read) (record { file = h.file; asked = h.asked; absent = h.absent })
+  none_refused (First of_first.TooLarge) h = none_else (First of_first.TooLarge) (record { file = h.file; asked = h.asked; long = h.long })
+  none_refused (First (of_first.Line n)) h =
+      let same : h.team ≡ team = one_team law files (texts_of (replays replay)) team h.team is_team h.is_team in
+      let read : h.text ≡ text = same_Some h.text text (sym h.is_text.0 ∙ is_text.0) in
+      no_line n
+      (subst (λ t. IsRefusedLine (values_of replay.search.heuristic) replay.search.limit team t n) read
+      (subst (λ t. IsRefusedLine (values_of replay.search.heuristic) replay.search.limit t h.text n) same h.refused.1))
+
+pub trace_accepted : NoLineRefused → TeamLaw → NoneFirst → (held : Option Files) (files : Files) (request : Wanted) (replay : ToReplay) (first : Printed held request) (r : Refusal) → KeepsLimits request → Searches request replay.search → HasTrace request → IsFoundForBoth held (Some files) (texts_of request) (texts_of (replays replay)) → files replay.schedule ≡ Some first.text → length first.text ≤ longest_schedule → IsFirst files (team_request (replays replay)) r → ⊥
+trace_accepted accepted law none held files request replay first r keeps is trace both there short refused =
     let s = replay.search in
     let team = team_in held request first.report first.ended first.text first.outcome in
     let found = outcome_found held request s first.report first.ended first.text is first.outcome in
     let outcome = outcome_text held request s first.report first.ended first.text is first.outcome in
-    let again : IsReplayed (values_of s.heuristic) s.limit team first.text (reported first.report outcome) =
-    back (values_of s.heuristic) s.limit team found.0 (reported first.report outcome) first.text
-    (outcome_checked held request first.report first.ended first.text first.outcome)
-    (few_agents held request first.report first.ended first.text keeps first.outcome) found.1
-    (is_trace first.report first.text outcome (traced held request s first.report first.ended first.text is trace first.outcome)) in
-    none files (team_request (replays replay)) (Some first.text) team r
+    none_refused law none files replay first.text team
     (there, short)
     (team_held law held files (texts_of request) (agents_of replay.names) team both (outcome_team held request first.report first.ended first.text first.outcome))
-    (outcome_within held request s first.report first.ended first.text is first.outcome, (reported first.report outcome, again))
-    refused
+    (outcome_within held request s first.report first.ended first.text is first.outcome)
+    (λ n. accepted (values_of s.heuristic) s.limit team found.0 (reported first.report outcome) first.text n
+    (outcome_checked held request first.report first.ended first.text first.outcome)
+    (few_agents held request first.report first.ended first.text keeps first.outcome) found.1
+    (is_trace first.report first.text outcome (traced held request s first.report first.ended first.text is trace first.outcome)))
+    r refused
 
 -- and it is replayed as it was
 abbrev pub Replays : Type 0
@@ -189,7 +246,7 @@ module _ (held other : Option Files) (request : Wanted) (replay : ToReplay) (rep
       let told = traced held request s report ended text is trace first in
       let same =
       law (values_of s.heuristic) s.limit (team_in held request report ended text first) found.0 (reported report outcome) (reported again second.0.outcome) text
-      (outcome_checked held request report ended text first) (few_agents held request report ended text keeps first) found.1.is_found
+      (outcome_checked held request report ended text first) (few_agents held request report ended text keeps first) found.1
       (is_trace report text outcome told) (replayed_same team text_is) in (
         same_printed outcome told same.search.told.traces same.search.answer same.text,
         same.search.alike,
@@ -198,10 +255,10 @@ module _ (held other : Option Files) (request : Wanted) (replay : ToReplay) (rep
         same.views,
       )
 
-  pub log_again : ReplaysInTurn → KeepsLimits request → Searches request replay.search → HasTrace request → second.0.team ≡ team_in held request report ended text first → second.0.schedule ≡ text → again.log ≡ report.log
-  log_again law keeps is trace team text_is =
+  pub log_again : ReplaysInTurn → KeepsLimits request → Searches request replay.search → HasTrace request → second.0.team ≡ team_in held request report ended text first → second.0.schedule ≡ text → IsInTurn request → again.log ≡ report.log
+  log_again law keeps is trace team text_is turn =
       let s = replay.search in
-      let found = outcome_found held request s report ended text is first in
+      let found = outcome_in_turn held request s report ended text is turn first in
       let outcome = outcome_text held request s report ended text is first in
       law (values_of s.heuristic) s.limit (team_in held request report ended text first) found.0 (reported report outcome) (reported again second.0.outcome) text
       (outcome_checked held request report ended text first) (few_agents held request report ended text keeps first) found.1
@@ -290,12 +347,12 @@ module _ (law : TeamLaw) (files others : Files) (request : Wanted) (s : Searchin
     pub views_kept : KeepsViews → tasks.views ≡ first.report.views
     views_kept keeps =
         keeps (values_of s.heuristic) s.limit place r own other own_found.0 (reported first.report own_text) tasks
-        own_checked (checked_team others texts other of_others) own_renames own_found.1.is_found are
+        own_checked (checked_team others texts other of_others) own_renames own_found.1 are
 
     pub log_kept : KeepsLog → IsLog (values_of s.heuristic) s.limit tasks.tasks first.report.log
     log_kept keeps =
         keeps (values_of s.heuristic) s.limit place r own other own_found.0 (reported first.report own_text) tasks
-        own_checked (checked_team others texts other of_others) own_renames own_found.1.is_found are
+        own_checked (checked_team others texts other of_others) own_renames own_found.1 are
 
   module _ (its : Wanted) (second : Printed (Some others) its) (also : Searches its s)
       (of_others : IsTeam (Some others) (texts_of its) other)
@@ -318,20 +375,24 @@ module _ (law : TeamLaw) (files others : Files) (request : Wanted) (s : Searchin
     theirs_checked = outcome_checked (Some others) its second.report second.ended second.text second.outcome
 
     -- the second by the events that the first was found by
-    found_by_same : IsFoundInTurn (values_of s.heuristic) s.limit theirs own_found.0 (reported second.report their_text)
+    found_by_same : IsFound (values_of s.heuristic) s.limit theirs own_found.0 (reported second.report their_text)
     found_by_same =
         let too = outcome_found (Some others) its s second.report second.ended second.text also second.outcome in
-        let same : too.0 ≡ own_found.0 = sym too.1.is_found.logged ∙ events ∙ own_found.1.is_found.logged in
-        subst (λ es. IsFoundInTurn (values_of s.heuristic) s.limit theirs es (reported second.report their_text)) same too.1
+        let same : too.0 ≡ own_found.0 = sym too.1.logged ∙ events ∙ own_found.1.logged in
+        subst (λ es. IsFound (values_of s.heuristic) s.limit theirs es (reported second.report their_text)) same too.1
 
     pub messages_kept : KeepsMessages → AreSameRuns first.report second.report
     messages_kept keeps =
         let search =
         keeps (values_of s.heuristic) s.limit place r own theirs own_found.0 (reported first.report own_text) (reported second.report their_text)
-        own_checked theirs_checked they_rename own_found.1.is_found found_by_same.is_found in
+        own_checked theirs_checked they_rename own_found.1 found_by_same in
         record { alike = search.alike; told = search.told; answer = search.answer }
 
-    pub logs_kept : KeepsLogs → second.report.log ≡ first.report.log
-    logs_kept keeps =
-        keeps (values_of s.heuristic) s.limit place r own theirs own_found.0 (reported first.report own_text) (reported second.report their_text)
-        own_checked theirs_checked they_rename own_found.1 found_by_same
+    pub logs_kept : KeepsLogs → IsInTurn request → IsInTurn its → second.report.log ≡ first.report.log
+    logs_kept keeps turn their_turn =
+        let mine = outcome_in_turn (Some files) request s first.report first.ended first.text is turn first.outcome in
+        let too = outcome_in_turn (Some others) its s second.report second.ended second.text also their_turn second.outcome in
+        let same : too.0 ≡ mine.0 = sym too.1.is_found.logged ∙ events ∙ mine.1.is_found.logged in
+        keeps (values_of s.heuristic) s.limit place r own theirs mine.0 (reported first.report own_text) (reported second.report their_text)
+        own_checked theirs_checked they_rename mine.1
+        (subst (λ es. IsFoundInTurn (values_of s.heuristic) s.limit theirs es (reported second.report their_text)) same too.1)

@@ -51,10 +51,10 @@ pub record IsTold (s : Solution) (text : Text) (d : Decision) : Type 0 where
   pub printed : told d ≡ text
   pub ended : d.status ≡ answer_status s.answer
 
--- a team solves for a plan, and is told with the trace where that is asked for
-pub record SolvesFor (s : Searching) (trace : Bool) (team : List Factor) (d : Decision) : Type 0 where
+-- a team solves for a plan, on one thread alone or not, and is told with the trace where that is asked for
+pub record SolvesFor (s : Searching) (one trace : Bool) (team : List Factor) (d : Decision) : Type 0 where
   pub outcome : Text
-  pub solved : IsSolved s team (report_of d) outcome
+  pub solved : IsSolved s one team (report_of d) outcome
   pub printed : told d ≡ printed_text trace d.log d.answer outcome
   pub ended : d.status ≡ answer_status d.answer
 
@@ -68,14 +68,14 @@ pub record ReplaysBy (s : Searching) (text : Text) (team : List Factor) (d : Dec
 -- a made team of this size, with these files, solves for a plan, and is told in summary
 pub record MakesFor
     (s : Searching)
-    (show : Bool)
+    (one show : Bool)
     (texts : List Text)
     (size : ℕ)
     (team : List Factor)
     (d : Decision)
     : Type 0 where
   pub outcome : Text
-  pub solved : IsSolved s team (report_of d) outcome
+  pub solved : IsSolved s one team (report_of d) outcome
   pub printed : told d ≡ told_made show texts size d.answer
   pub ended : d.status ≡ answer_status d.answer
 

@@ -4,7 +4,7 @@ use Rattle.std.specs.Io.KnownBytes.{Appends}
 use Rattle.mp_joint.specs.Fact.{Text}
 use Rattle.mp_outside.specs.Sink.{AppendsBeginning}
 use Rattle.mp_files.specs.declared.refusal.FileOf.{FileOf}
-use Rattle.mp_words.specs.Requests.{Wanted}
+use Rattle.mp_words.specs.Requests.{Wanted, request_of}
 use Rattle.mp_words.specs.Requests.Wanted.{checks, makes, replays, solves}
 use Rattle.mp_top.specs.Asked.{FirstFile, TeamRequest, names_of_texts, team_request}
 use Rattle.mp_top.specs.Call.{Call, Says}
@@ -12,7 +12,6 @@ use Rattle.mp_top.specs.Cause.{CannotReadFactor, CannotReadFirst, Rests}
 use Rattle.mp_top.specs.First.{IsFirst}
 use Rattle.mp_top.specs.Outcome.{IsOutcome}
 use Rattle.mp_top.specs.Refusal.{status_of, line_of, memory_line, words_line, write_line}
-use Rattle.mp_top.specs.Words.{request_of}
 use Rattle.mp_top.specs.declared.refusal.Refusal.{Refusal}
 use Rattle.mp_top.specs.declared.status.Status.{Status}
 use Rattle.mp_top.specs.declared.status.Status.TheVariants as status

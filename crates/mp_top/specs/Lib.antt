@@ -1,5 +1,3 @@
--- which words are accepted
-pub mod Words
 -- what is asked of a team: where its texts are, and what is done with it
 pub mod Asked
 -- the text of the file that stands before those of the agents
@@ -20,6 +18,8 @@ pub mod Call
 pub mod Cause
 -- what is printed for a request, and the report
 pub mod Outcome
+-- what is asked of whoever lets a team search
+pub mod Finding
 -- the outcome of a request, before it is printed
 pub mod Decided
 -- what each call keeps

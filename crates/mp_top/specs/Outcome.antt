@@ -20,7 +20,7 @@ use Rattle.mp_words.specs.Requests.Wanted.{checks, makes, replays, solves}
 use Rattle.mp_maker.specs.Delivery.{delivery}
 use Rattle.mp_world.specs.declared.answer.Answer.{Answer}
 use Rattle.mp_world.specs.declared.answer.Answer.TheVariants.{Nothing, Solved, Unsolvable, Undecided}
-use Rattle.mp_solutions.specs.Solution.{IsReplayed, IsSolution}
+use Rattle.mp_solutions.specs.Solution.{IsFoundOn, IsReplayed}
 use Rattle.mp_solutions.specs.declared.solution.Solution.{Solution}
 use Rattle.mp_solve.specs.Refused.{AreWithin}
 use Rattle.mp_top.specs.Asked.{TeamRequest, team_request, values_of, names_of_texts}
@@ -56,10 +56,11 @@ abbrev pub reported : Report → Text → Solution
 reported report outcome =
     record { views = report.views; log = report.log; answer = report.answer; text = outcome }
 
--- it was found by round robin for a team whose sizes keep the limits, and has this text
-pub record IsSolved (s : Searching) (team : List Factor) (report : Report) (outcome : Text) : Type 0 where
+-- it was found for a team whose sizes keep the limits, and has this text: by round robin on one thread alone, and otherwise
+-- by some schedule until all agents had ended
+pub record IsSolved (s : Searching) (one : Bool) (team : List Factor) (report : Report) (outcome : Text) : Type 0 where
   pub within : AreWithin team
-  pub found : IsSolution (values_of s.heuristic) s.limit team (reported report outcome)
+  pub found : IsFoundOn (values_of s.heuristic) s.limit team one (reported report outcome)
 
 -- it was found by the schedule that this text has
 pub record IsReplayedBy
@@ -72,20 +73,20 @@ pub record IsReplayedBy
   pub within : AreWithin team
   pub found : IsReplayed (values_of s.heuristic) s.limit team schedule (reported report outcome)
 
--- a plan that is solved for: the report is that of its outcome, whose text is printed, after the trace where that is
--- asked for
+-- a plan that is solved for, on one thread alone or not: the report is that of its outcome, whose text is printed, after the
+-- trace where that is asked for
 pub record IsOutcomeOfSolve
     (held : Option Files)
     (request : TeamRequest)
     (s : Searching)
-    (trace : Bool)
+    (one trace : Bool)
     (report : Report)
     (text : Text)
     : Type 0 where
   pub team : List Factor
   pub is_team : IsTeamOf held request None team
   pub outcome : Text
-  pub solved : IsSolved s team report outcome
+  pub solved : IsSolved s one team report outcome
   pub printed : text ≡ printed_text trace report.log report.answer outcome
 
 -- the same for a schedule that is replayed, with the trace
@@ -112,7 +113,7 @@ pub record IsOutcomeOfMake
     (held : Option Files)
     (request : TeamRequest)
     (s : Searching)
-    (show : Bool)
+    (one show : Bool)
     (size number : ℕ)
     (report : Report)
     (text : Text)
@@ -120,7 +121,7 @@ pub record IsOutcomeOfMake
   pub team : List Factor
   pub is_team : IsTeamOf held request None team
   pub outcome : Text
-  pub solved : IsSolved s team report outcome
+  pub solved : IsSolved s one team report outcome
   pub printed : text ≡ told_made show (delivery size number) size report.answer
 
 -- the status of a call that printed an answer
@@ -165,7 +166,7 @@ pub record IsOutcomeOfCheck
 -- what is printed for a request, with the report and the status of its outcome
 abbrev pub IsOutcome : Option Files → Wanted → Report → Status → Text → Type 0
 IsOutcome held (solves w) report ended text =
-    IsOutcomeOfSolve held (team_request (solves w)) w.search w.trace report text
+    IsOutcomeOfSolve held (team_request (solves w)) w.search w.work.one w.trace report text
     × (ended ≡ answer_status report.answer)
 IsOutcome held (replays w) report ended text =
     IsOutcomeOfReplay held (team_request (replays w)) w.search report text
@@ -173,7 +174,7 @@ IsOutcome held (replays w) report ended text =
 IsOutcome held (checks w) report ended text =
     IsOutcomeOfCheck held (team_request (checks w)) report ended text
 IsOutcome held (makes w) report ended text =
-    IsOutcomeOfMake held (team_request (makes w)) w.search w.show w.size w.number report text
+    IsOutcomeOfMake held (team_request (makes w)) w.search w.work.one w.show w.size w.number report text
     × (ended ≡ answer_status report.answer)
 
 -- ---- For what is said of two outcomes.
@@ -208,13 +209,21 @@ HasTrace (replays w) = Unit {0}
 HasTrace (checks w) = ⊥
 HasTrace (makes w) = ⊥
 
+-- the events of a request happen one after another: those of a schedule that is replayed, or of a search on one thread alone
+abbrev pub IsInTurn : Wanted → Type 0
+IsInTurn (solves w) = w.work.one ≡ true
+IsInTurn (replays w) = Unit {0}
+IsInTurn (checks w) = ⊥
+IsInTurn (makes w) = w.work.one ≡ true
+
 -- One schedule, the same messages between each two agents in the same order, one trace and the same counts, and one answer.
 pub record AreSameRuns (report other : Report) : Type 0 where
   pub alike : AreAlike report.log other.log
   pub told : TellTheSame report.log other.log
   pub answer : other.answer ≡ report.answer
 
--- The same was printed again, with the same status, and the same was found, and shown.
+-- The same was printed again, with the same status, and the same was found, and shown. The logs are equal where the events of
+-- the first happened one after another.
 pub record IsPrintedAgain
     (held other : Option Files)
     (request its : Wanted)
@@ -225,4 +234,4 @@ pub record IsPrintedAgain
   pub ended : second.ended ≡ first.ended
   pub runs : AreSameRuns first.report second.report
   pub views : second.report.views ≡ first.report.views
-  pub log : second.report.log ≡ first.report.log
+  pub log : IsInTurn request → second.report.log ≡ first.report.log

@@ -3,41 +3,22 @@
 ghost use Rattle.std.specs.Prelude.{◌≡◌, map, string_bytes, IfOk, IfSome, MatchOption, None, Some};
 ghost use Rattle.mp_files.specs.Fetched.{names_of};
 ghost use Rattle.mp_top.specs.Asked.{KeepsLimits, agents_of};
-ghost use Rattle.mp_top.specs.Words.{is_on_one_thread as is_on_one_thread_of, request_of};
 ghost use Rattle.mp_words.specs.Reads.{wanted_by};
+ghost use Rattle.mp_words.specs.Requests.{request_of};
 
 use mp_files::AgentFiles;
 use mp_list::OutOfMemory;
 use mp_words::{Request, read_request};
 use std::alloc::Global;
 
-/// Whether a request is answered on one thread.
-fn is_on_one_thread(request: &Request<'_>) -> bool
-    ensures { result ≡ is_on_one_thread_of (wanted_by request.now) }
-{
-    match request {
-        Request::Solve(solve) => solve.one,
-        Request::Replay(_) => true,
-        Request::Check(_) => true,
-        Request::Make(make) => make.one,
-    }
-}
-
-/// What the words ask for: none exactly where they are not accepted. Words that ask for more than one thread are not
-/// accepted yet. Refuses only for want of memory.
+/// What the words ask for: none exactly where they are not accepted. Refuses only for want of memory.
 pub(crate) fn asked(alloc: Global, words: &[String]) -> Result<Option<Request<'_>>, OutOfMemory>
     ensures request { IfOk result (λ r. MatchOption r
         (request_of (map string_bytes words.now) ≡ None)
         (λ r. request_of (map string_bytes words.now) ≡ Some (wanted_by r))) }
     ensures limits { IfOk result (λ r. IfSome r (λ r. KeepsLimits (wanted_by r))) }
 {
-    let Some(request) = read_request(alloc, words)? else {
-        return Ok(None);
-    };
-    if is_on_one_thread(&request) {
-        return Ok(Some(request));
-    }
-    Ok(None)
+    Ok(read_request(alloc, words)?)
 }
 
 /// The names of the agents' files: an agent's domain and then its problem, one agent after another.

@@ -7,33 +7,44 @@ ghost use Rattle.mp_outside.specs.Source.{Files as Held};
 ghost use Rattle.mp_top.specs.Asked.{KeepsLimits, agents_of, team_request};
 ghost use Rattle.mp_top.specs.Cause.{Rests};
 ghost use Rattle.mp_top.specs.Decided.{Decides};
+ghost use Rattle.mp_top.specs.Finding.{ComesOfSearch, WhereItMaySearch};
 ghost use Rattle.mp_top.specs.Refusal.{status_of};
 ghost use Rattle.mp_words.specs.Reads.{check_by, make_by, replay_by as replay_asked, solve_by};
 ghost use Rattle.mp_words.specs.Requests.Wanted.{checks, makes, replays, solves};
 
 use crate::checking::check_for;
 use crate::decision::{Decision, Search};
+use crate::finding::Workers;
 use crate::first_file::{LONGEST_PLAN, LONGEST_SCHEDULE, first_text};
 use crate::making::{made_team, make_for};
 use crate::refusal::Refusal;
 use crate::searching::{replay_by, solve_for};
 use crate::status::Status;
 use mp_files::{AgentFiles, read_team};
+use mp_ground::GroundRefusal;
 use mp_grounder::laws::checked_factors_are_checked;
 use mp_maker::delivery;
 use mp_outside::Source;
+use mp_solve::Solution;
+use mp_typing::CheckedFactor;
 use mp_words::{Check, Make, Replay, Solve};
 use std::alloc::Global;
 
 /// A cheapest plan for the agents with these files.
-pub(crate) fn decide_solve<S: Source>(
+pub(crate) fn decide_solve<
+    S: Source,
+    F: Fn(&[CheckedFactor], Search, Workers) -> Result<Solution, GroundRefusal>,
+>(
     alloc: Global,
     source: &mut S,
     request: &Solve<'_>,
     files: &[AgentFiles<'_>],
+    find: &F,
 ) -> Result<Decision, Refusal>
     requires keeps { KeepsLimits (solves (solve_by request.now)) }
     requires names { map names_of files.now ≡ agents_of (solve_by request.now).names }
+    requires callable { (t : _) (s : _) (w : _) → WhereItMaySearch t.now s (F.pre find.now t s w) }
+    requires finds { (t : _) (s : _) (w : _) (r : _) → F.post find.now t s w r → ComesOfSearch t.now s w r }
     ensures outcome { IfOk result (Decides (S.held source.old) (solves (solve_by request.now))) }
     ensures cause { IfErr result (Rests (seen_source S.held S.faults S.fault_at source.old source.new)
         (team_request (solves (solve_by request.now)))) }
@@ -48,8 +59,12 @@ pub(crate) fn decide_solve<S: Source>(
         heuristic: request.heuristic,
         limit: request.limit,
     };
+    let workers = Workers {
+        count: request.workers,
+        one: request.one,
+    };
     checked_factors_are_checked(team.as_slice());
-    match solve_for(alloc, team.as_slice(), search, request.trace) {
+    match solve_for(alloc, team.as_slice(), find, search, workers, request.trace) {
         Ok(decision) => Ok(decision),
         Err(refusal) => Err(Refusal::Sizes(refusal)),
     }
@@ -123,9 +138,23 @@ fn number_of(request: Make) -> u32
     request.number as u32
 }
 
+/// Who searches for a plan of a team that is made.
+fn workers_of_make(make: Make) -> Workers
+    ensures { result.one ≡ make.one }
+{
+    Workers {
+        count: make.workers,
+        one: make.one,
+    }
+}
+
 /// A summary of a cheapest plan for a team that is made.
-pub(crate) fn decide_make(alloc: Global, request: Make) -> Result<Decision, Refusal>
+pub(crate) fn decide_make<
+    F: Fn(&[CheckedFactor], Search, Workers) -> Result<Solution, GroundRefusal>,
+>(alloc: Global, request: Make, find: &F) -> Result<Decision, Refusal>
     requires keeps { KeepsLimits (makes (make_by request)) }
+    requires callable { (t : _) (s : _) (w : _) → WhereItMaySearch t.now s (F.pre find.now t s w) }
+    requires finds { (t : _) (s : _) (w : _) (r : _) → F.post find.now t s w r → ComesOfSearch t.now s w r }
     ensures outcome { (held : Option Held) → IfOk result (Decides held (makes (make_by request))) }
     ensures cause { (source : SeenSource) → IfErr result (Rests source (team_request (makes (make_by request)))) }
 {
@@ -143,7 +172,9 @@ pub(crate) fn decide_make(alloc: Global, request: Make) -> Result<Decision, Refu
     match make_for(
         alloc,
         team.as_slice(),
+        find,
         search,
+        workers_of_make(request),
         request.show,
         texts.as_slice(),
         size,

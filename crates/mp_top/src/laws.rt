@@ -15,11 +15,10 @@ ghost use Rattle.mp_top.specs.Complete.{HadNoFault, IsAnswered, IsNotRefused};
 ghost use Rattle.mp_top.specs.First.{IsFirst};
 ghost use Rattle.mp_top.specs.FirstText.{IsHeld};
 ghost use Rattle.mp_top.specs.Keeps.{Keeps};
-ghost use Rattle.mp_top.specs.Outcome.{AreSameRuns, HasTrace, IsPrintedAgain, Printed, Searches};
+ghost use Rattle.mp_top.specs.Outcome.{AreSameRuns, HasTrace, IsInTurn, IsPrintedAgain, Printed, Searches};
 ghost use Rattle.mp_top.specs.Team.{IsFoundForBoth, IsTeam};
-ghost use Rattle.mp_top.specs.Words.{request_of};
 ghost use Rattle.mp_top.specs.declared.refusal.Refusal.{Refusal};
-ghost use Rattle.mp_words.specs.Requests.{Searching, ToReplay, Wanted};
+ghost use Rattle.mp_words.specs.Requests.{Searching, ToReplay, Wanted, request_of};
 ghost use Rattle.mp_words.specs.Requests.Wanted.{replays};
 ghost use Rattle.mp_world.specs.Logs.{IsLog};
 
@@ -27,9 +26,11 @@ use crate::first::one_first;
 use mp_files::one_team;
 use mp_replays::{renaming_changes_no_message, traces_are_replayed};
 
-/// What is printed with a trace is a schedule. Where files hold it under a name, and the same as was found for the agents, nothing
-/// of a request that replays it, with the same heuristic and limit, is refused, as long as it is no longer than a schedule may
-/// be, 67,108,864 bytes; and that request prints the same text, with the same status and the same report.
+/// What is printed with a trace is a schedule, whether the agents took turns or workers served them. Where files hold it
+/// under a name, and the same as was found for the agents, nothing of a request that replays it, with the same heuristic and
+/// limit, is refused, as long as it is no longer than a schedule may be, 67,108,864 bytes; and that request prints the same
+/// text, with the same status, answer and views, after the same messages between each two agents. The log is the same, too,
+/// where the agents took turns.
 pub fn traces_are_printed_again()
     ensures accepted { (held : Option Files) (files : Files) (request : Wanted) (replay : ToReplay)
         (first : Printed held request) (r : Refusal)
@@ -52,8 +53,8 @@ pub fn traces_are_printed_again()
 /// Where one agent of the team that files make renames its private names, and the heuristic and the limit are the same, all
 /// agents show the same bytes, and what they did and sent is a log of the other team too: of the tasks that its files make. Where
 /// both teams did the same events, the same messages were sent between each two agents, byte for byte and in the same
-/// order, one trace and the same counts tell it, and the same answer was found. The logs are equal then, since in each of
-/// them the events happened one after another.
+/// order, one trace and the same counts tell it, and the same answer was found. The logs are equal then where in each of
+/// them the events happened one after another: where no workers served the agents.
 pub fn renaming_changes_no_outcome()
     ensures views { (files others : Files) (request : Wanted) (texts : Texts) (s : Searching)
         (first : Printed (Some files) request) (team other : List Factor) (place : ℕ) (r : Renaming) (tasks : Tasks)
@@ -80,7 +81,7 @@ pub fn renaming_changes_no_outcome()
         (team other : List Factor) (place : ℕ) (r : Renaming)
         → Searches request s → Searches its s
         → IsTeam (Some files) (texts_of request) team → IsTeam (Some others) (texts_of its) other
-        → IsRenamedTeam place r team other
+        → IsRenamedTeam place r team other → IsInTurn request → IsInTurn its
         → schedule second.report.log ≡ schedule first.report.log
         → second.report.log ≡ first.report.log }
 {

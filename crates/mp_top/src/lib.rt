@@ -1,11 +1,14 @@
 //! The top call: words in, files read, a team's plan searched or checked, a text printed.
 #![tactic(auto)]
 
+mod answering;
 mod asked;
+mod by_workers;
 mod checking;
 mod command;
 mod deciding;
 mod decision;
+mod finding;
 mod first;
 mod first_file;
 mod laws;

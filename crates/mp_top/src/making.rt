@@ -9,10 +9,11 @@ ghost use Rattle.mp_plans.specs.Made.{shown_text as shown_text_of};
 ghost use Rattle.mp_split.specs.Team.{IsFirstRefusal};
 ghost use Rattle.mp_top.specs.Asked.{agents_of, made_name};
 ghost use Rattle.mp_top.specs.Decided.{IsTold, MakesFor, searching_by};
+ghost use Rattle.mp_top.specs.Finding.{ComesOfSearch, WhereItMaySearch};
 ghost use Rattle.mp_top.specs.Outcome.{told_made};
 
 use crate::decision::{Decision, Search, status_of_answer};
-use crate::searching::searched;
+use crate::finding::{Workers, found};
 use mp_files::{AgentFiles, AgentTexts, Refusal as FilesRefusal, read_texts};
 use mp_ground::GroundRefusal;
 use mp_list::{List, OutOfMemory};
@@ -157,10 +158,12 @@ fn summed(
 
 /// The decision for a team that is made and searches.
 #[tactic(auto, using(mp_split::proofs::FirstAgents::no_memory))]
-pub(crate) fn make_for(
+pub(crate) fn make_for<F: Fn(&[CheckedFactor], Search, Workers) -> Result<Solution, GroundRefusal>>(
     alloc: Global,
     team: &[CheckedFactor],
+    find: &F,
     search: Search,
+    workers: Workers,
     show: bool,
     texts: &[Name],
     size: u16,
@@ -169,9 +172,11 @@ pub(crate) fn make_for(
     requires limit { search.limit ≤ 10000000 }
     requires some { 1 ≤ length team.now }
     requires at_most { length team.now ≤ 16 }
-    ensures outcome { IfOk result (MakesFor (searching_by search) show texts.now size team.now) }
+    requires callable { (t : _) (s : _) (w : _) → WhereItMaySearch t.now s (F.pre find.now t s w) }
+    requires finds { (t : _) (s : _) (w : _) (r : _) → F.post find.now t s w r → ComesOfSearch t.now s w r }
+    ensures outcome { IfOk result (MakesFor (searching_by search) workers.one show texts.now size team.now) }
     ensures refused { IfErr result (IsFirstRefusal team.now) }
 {
-    let solution = searched(alloc, team, search)?;
+    let solution = found(find, team, search, workers)?;
     Ok(summed(alloc, solution, show, texts, size)?)
 }

@@ -7,9 +7,11 @@ ghost use Rattle.mp_split.specs.Team.{IsFirstRefusal};
 ghost use Rattle.mp_top.specs.Asked.{values_of};
 ghost use Rattle.mp_top.specs.Asked.Work.{replayed as replayed_work};
 ghost use Rattle.mp_top.specs.Decided.{IsRefusedTeam, IsTold, ReplaysBy, SolvesFor, refusal_of, searching_by};
+ghost use Rattle.mp_top.specs.Finding.{ComesOfSearch, WhereItMaySearch};
 ghost use Rattle.mp_top.specs.Outcome.{printed_text};
 
 use crate::decision::{Decision, Search, status_of_answer, trace_before};
+use crate::finding::{Workers, found};
 use crate::refusal::{FirstRefusal, Refusal};
 use mp_ground::GroundRefusal;
 use mp_hmax::Hmax;
@@ -90,20 +92,26 @@ fn traced(alloc: Global, solution: Solution, trace: bool) -> Result<Decision, Ou
 
 /// The decision for a team that searches.
 #[tactic(auto, using(mp_split::proofs::FirstAgents::no_memory))]
-pub(crate) fn solve_for(
+pub(crate) fn solve_for<
+    F: Fn(&[CheckedFactor], Search, Workers) -> Result<Solution, GroundRefusal>,
+>(
     alloc: Global,
     team: &[CheckedFactor],
+    find: &F,
     search: Search,
+    workers: Workers,
     trace: bool,
 ) -> Result<Decision, GroundRefusal>
     requires from_1 { 1 ≤ search.limit }
     requires limit { search.limit ≤ 10000000 }
     requires some { 1 ≤ length team.now }
     requires at_most { length team.now ≤ 16 }
-    ensures outcome { IfOk result (SolvesFor (searching_by search) trace team.now) }
+    requires callable { (t : _) (s : _) (w : _) → WhereItMaySearch t.now s (F.pre find.now t s w) }
+    requires finds { (t : _) (s : _) (w : _) (r : _) → F.post find.now t s w r → ComesOfSearch t.now s w r }
+    ensures outcome { IfOk result (SolvesFor (searching_by search) workers.one trace team.now) }
     ensures refused { IfErr result (IsFirstRefusal team.now) }
 {
-    let solution = searched(alloc, team, search)?;
+    let solution = found(find, team, search, workers)?;
     Ok(traced(alloc, solution, trace)?)
 }
 

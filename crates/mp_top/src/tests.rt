@@ -7,7 +7,9 @@ use super::*;
 use mp_list::List;
 use mp_outside::{FileSource, MemSink, MemSource, NamedText, NoGate};
 use std::alloc::Global;
+use std::sync::Wait;
 use std::test::Fail;
+use std::thread::Threads;
 
 const FILES: [(&str, &[u8]); 9] = [
     (
@@ -44,6 +46,33 @@ const TRACE: [&str; 7] = [
 
 const TIDY: [&str; 8] = [
     "solve", "--one", "--h", "blind", "tidy-d", "tidy-p", "tidy-d", "tidy-p",
+];
+
+/// The same team, served by workers: as many as agents, by one, and by more than there are agents.
+const TIDY_BY_WORKERS: [&str; 7] = [
+    "solve", "--h", "blind", "tidy-d", "tidy-p", "tidy-d", "tidy-p",
+];
+
+const TIDY_BY_ONE_WORKER: [&str; 8] = [
+    "solve",
+    "--workers=1",
+    "--h",
+    "blind",
+    "tidy-d",
+    "tidy-p",
+    "tidy-d",
+    "tidy-p",
+];
+
+const TIDY_BY_MORE: [&str; 8] = [
+    "solve",
+    "--workers=9",
+    "--h",
+    "blind",
+    "tidy-d",
+    "tidy-p",
+    "tidy-d",
+    "tidy-p",
 ];
 
 const DARK: [&str; 6] = ["solve", "--one", "--h", "blind", "dark-d", "lamp-p"];
@@ -224,6 +253,40 @@ fn calls(rt: HostRuntime) -> Result<(), Fail> {
     for (row, trial) in TRIALS.iter().enumerate() {
         assert!(rt; comes_out(rt.alloc(), trial)?, "row {row}");
     }
+    Ok(())
+}
+
+/// Whether workers find a plan that costs 2 for these words.
+fn is_solved_by_workers<R: Threads + Wait + Sync>(
+    rt: &R,
+    alloc: Global,
+    words: &[&str],
+) -> Result<bool, Fail> {
+    let words = owned(alloc, words)?;
+    let mut files = source(alloc, 0)?;
+    let mut out = sink(alloc, 1000, 0)?;
+    let mut err = sink(alloc, 1000, 0)?;
+    let mut report = Report::new(alloc);
+    let status = run(
+        rt,
+        alloc,
+        words.as_slice(),
+        &mut files,
+        &mut out,
+        &mut err,
+        &NoGate,
+        &mut report,
+    );
+    let is_cheapest = out.bytes().starts_with(b"cost 2\nlength 2\nagent 1\n");
+    Ok(status == Status::Solved && is_cheapest && err.bytes().is_empty())
+}
+
+#[test]
+fn workers_find_a_cheapest_plan(rt: HostRuntime) -> Result<(), Fail> {
+    let alloc = rt.alloc();
+    assert!(rt; is_solved_by_workers(&rt, alloc, &TIDY_BY_WORKERS)?);
+    assert!(rt; is_solved_by_workers(&rt, alloc, &TIDY_BY_ONE_WORKER)?);
+    assert!(rt; is_solved_by_workers(&rt, alloc, &TIDY_BY_MORE)?);
     Ok(())
 }
 

@@ -20,7 +20,7 @@ returns-clause-messages c = λ files others request its s first second team othe
     c.renaming_changes_no_message.ensures.messages
 
 pub returns-clause-in_turn : goal.returns-clause-in_turn
-returns-clause-in_turn c = λ files others request its s first second team other place r is also of_files of_others renames events.
+returns-clause-in_turn c = λ files others request its s first second team other place r is also of_files of_others renames turn their_turn events.
     logs_kept (record { one = c.one_team.ensures.one; held = c.one_team.ensures.held; holds = c.one_team.ensures.holds; made = c.one_team.ensures.made })
     files others request s first team other place r is of_files renames its second also of_others events
-    c.renaming_changes_no_message.ensures.in_turn
+    c.renaming_changes_no_message.ensures.in_turn turn their_turn

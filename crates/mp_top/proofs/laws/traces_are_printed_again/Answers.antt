@@ -3,7 +3,7 @@ use Rattle.mp_top.proofs.laws.traces_are_printed_again.Goals as goal
 
 pub returns-clause-accepted : goal.returns-clause-accepted
 returns-clause-accepted c =
-    trace_accepted c.traces_are_replayed.ensures.replayed
+    trace_accepted c.traces_are_replayed.ensures.accepted
     (record { one = c.one_team.ensures.one; held = c.one_team.ensures.held; holds = c.one_team.ensures.holds; made = c.one_team.ensures.made })
     c.one_first.ensures.none
 

@@ -7,7 +7,7 @@ use Rattle.mp_top.proofs.Decided.{always_err, always_ok}
 use Rattle.mp_top.proofs.Kept.{kept, kept_memory}
 use Rattle.mp_words.specs.Reads.{make_by}
 use Rattle.mp_words.specs.Requests.Wanted.{makes}
-use Rattle.mp_top.proofs.on_one_thread.answer_make.Goals as goal
+use Rattle.mp_top.proofs.answering.answer_make.Goals as goal
 
 pub returns-in_default : goal.returns-in_default
 returns-in_default g c ws asks = kept_memory _ refl refl (record { out = refl; no_fault = refl; report = refl }) c.tell_memory.ensures

@@ -5,7 +5,7 @@ use Rattle.mp_top.specs.Refusal.{line_of}
 use Rattle.mp_top.proofs.Kept.{kept, kept_memory}
 use Rattle.mp_words.specs.Reads.{replay_by}
 use Rattle.mp_words.specs.Requests.Wanted.{replays}
-use Rattle.mp_top.proofs.on_one_thread.answer_replay.Goals as goal
+use Rattle.mp_top.proofs.answering.answer_replay.Goals as goal
 
 pub returns-in_default : goal.returns-in_default
 returns-in_default g c ws asks = kept_memory _ refl refl (record { out = refl; no_fault = refl; report = refl }) c.tell_memory.ensures
