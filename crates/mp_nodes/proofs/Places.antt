@@ -112,6 +112,7 @@ module _ (value : AgentTask → Numbers → Numbers → Option ℕ) (table : Tab
         let bad = goes.leaves in
         let here : node_at (set nodes at new) agent ≡ Some bad.1.0 = set_here nodes at agent new is inside ∙ bad.1.1 in
         subst (IsAnswer value agents (set nodes at new) after.view) (ap Bad (sym bad.0)) (record {
+          many = length-set nodes at new ∙ served.many;
           others = λ k differs. others_stay (Err (Bad other)) goes k differs;
           node = bad.1.0;
           there = here;

@@ -1,5 +1,5 @@
 -- What a worker answers, and what is so then.
-use Rattle.std.specs.Prelude.{◌≡◌, ◌≢◌, ℕ, Bool, true, List, Option, Some, None, Result, Ok, Err, Contains}
+use Rattle.std.specs.Prelude.{◌≡◌, ◌≢◌, ℕ, Bool, true, List, length, Option, Some, None, Result, Ok, Err, Contains}
 use Rattle.std.specs.Option.{option_map}
 use Rattle.atomic_table.specs.Seated.{TableId}
 use Rattle.mp_sets.specs.Numbers.{Numbers}
@@ -36,6 +36,7 @@ module _ (value : AgentTask → Numbers → Numbers → Option ℕ) (agents : �
 
   -- an agent of the worker found a message to be a bad one, and was halted; the others go on
   pub record OneBad (agent : ℕ) : Type 0 where
+    pub many : length nodes ≡ agents
     pub others : (other : ℕ) → other ≢ agent → IsPlaceAt value agents other v (node_at nodes other)
     pub node : SeenNode
     pub there : node_at nodes agent ≡ Some node

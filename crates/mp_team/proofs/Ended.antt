@@ -18,9 +18,7 @@ use Rattle.mp_logs.specs.Parts.{IsLogOfParts, IsOwned, IsTeamHistory}
 use Rattle.mp_nodes.specs.Nodes.{AreSameAgents, AreServed, IsNodeAt, IsPlaceAt, Orders, SeenNode, has_ended, have_ended, node_at, orders}
 use Rattle.mp_nodes.specs.Served.{AllEnded}
 use Rattle.mp_post.specs.Desks.{IsDeskOf, SeenDesk}
-use Rattle.mp_post_rule.specs.Kinds.{HoldsAll}
-use Rattle.mp_post_rule.specs.Views.{list_at, list_in, party_at}
-use Rattle.mp_post_rule.specs.declared.view.Party.{Party}
+use Rattle.mp_post_rule.specs.Views.{list_at, list_in}
 use Rattle.mp_post_rule.specs.declared.view.View.{View}
 use Rattle.mp_schedule.specs.Machines.{AreNew, limit_of, tasks_of}
 use Rattle.mp_stamps.specs.Lists.{IsAgentOf, entries}
@@ -95,7 +93,7 @@ nothing_left nodes k n ended here =
     nil_from_length n.batch (eqb-true (length n.batch) 0 both.1)
 
 module _ (value : AgentTask → Numbers → Numbers → Option ℕ) where
-  moved : (t u : AgentTask) (l m : ℕ) (g h : List Entry) (r s : AgentRecord) → t ≡ u → l ≡ m → g ≡ h → r ≡ s
+  pub moved : (t u : AgentTask) (l m : ℕ) (g h : List Entry) (r s : AgentRecord) → t ≡ u → l ≡ m → g ≡ h → r ≡ s
       → HasDone (value t) (new_record t (value t) l) g r → HasDone (value u) (new_record u (value u) m) h s
   moved t u l m g h r s task limits logs last done =
       subst (λ (x : AgentTask). HasDone (value x) (new_record x (value x) m) h s) task
@@ -119,21 +117,46 @@ module _ (value : AgentTask → Numbers → Numbers → Option ℕ) where
         let found = mapped (get_or nodes k None) (orders (first_node m.0)) e in
         (found.0, record { there = found.1; machine = m.0; here = m.1; orders_are = found.2 })
 
-    module _ (view : View) (served : AreServed value agents nodes view) where
-      node_of : (k : ℕ) (n : SeenNode) → IsMember k n → IsNodeAt value agents (suc k) view n
-      node_of k n is = subst (IsPlaceAt value agents (suc k) view) is.there (served.each (suc k))
+    -- the node of the agent of a task
+    pub record IsNodeFor (t : AgentTask) : Type 0 where
+      pub place : ℕ
+      pub inside : place < length ms
+      pub node : SeenNode
+      pub member : IsMember place node
+      pub me : t.me ≡ suc place
+      pub own : node.machine.done.task ≡ t
+      pub limits : node.machine.done.limit ≡ limit_of ms
 
-      -- all parties are held
-      pub holds_all : length view.parties ≡ agents → HoldsAll agents view
-      holds_all many = record { many = many; each = each }
-        where
-          each : (agent : ℕ) → IsAgentOf agents agent → (p : Party) × (party_at view agent ≡ Some p)
-          each zero of = let low = of.from_1 in absurd (omega arith)
-          each (suc k) of =
-              let high = of.at_most in
-              let n = member k (omega arith) in
-              let node = node_of k n.0 n.1 in
-              (node.party, node.held)
+    pub node_for : (t : AgentTask) → Contains (tasks_of ms) t → IsNodeFor t
+    node_for t (k, inside, here) =
+        let many = many_tasks value ms new in
+        let low : k < length ms = omega arith in
+        let found = member k low in
+        let is = found.1 in
+        let task : is.machine.done.task ≡ t =
+        sym (get_or-map (λ (m : AgentMachine). m.done.task) ms k is.machine t low ∙ ap (λ (m : AgentMachine). m.done.task) is.here) ∙ here in
+        record {
+          place = k;
+          inside = low;
+          node = found.0;
+          member = is;
+          me = number_at (tasks_of ms) new.agree k t inside here;
+          own = ap (λ (o : Orders). o.task) is.orders_are ∙ task;
+          limits = ap (λ (o : Orders). o.limit) is.orders_are ∙ limit value ms new k low is.machine is.here;
+        }
+
+    -- the node of a place goes on, and fits its party
+    pub node_of : (view : View) → AreServed value agents nodes view → (k : ℕ) (n : SeenNode) → IsMember k n
+        → IsNodeAt value agents (suc k) view n
+    node_of view served k n is = subst (IsPlaceAt value agents (suc k) view) is.there (served.each (suc k))
+
+    module _ (log : List Entry) (legal : IsHistory log) (owned : All (λ e. IsAgentOf agents (agent_of e)) log) where
+      pub history : IsTeamHistory (tasks_of ms) log
+      history = record {
+        history = legal;
+        owned = All-weaker (λ e. IsAgentOf agents (agent_of e)) (IsOwned (length (tasks_of ms)))
+            (λ e of. let many = many_tasks value ms new in let high = of.at_most in (of.from_1, omega arith)) log owned;
+      }
 
     module _ (view : View) (all : AllEnded value agents nodes view) (log : List Entry) (legal : IsHistory log)
         (parts : (agent : ℕ) → IsAgentOf agents agent → part log agent ≡ entries (list_at view agent))
@@ -151,37 +174,23 @@ module _ (value : AgentTask → Numbers → Numbers → Option ℕ) where
       pub numbered : AreNumbered tasks
       numbered = agree_numbered tasks new.agree
 
-      pub history : IsTeamHistory tasks log
-      history = record {
-        history = legal;
-        owned = All-weaker (λ e. IsAgentOf agents (agent_of e)) (IsOwned (length tasks))
-            (λ e of. let many = many_tasks value ms new in let high = of.at_most in (of.from_1, omega arith)) log owned;
-      }
-
       record_is : (k : ℕ) (n : SeenNode) → IsMember k n → (t : AgentTask) → t.me ≡ suc k → record_of t ≡ n.machine.done
       record_is k n is t me =
           ap (λ x. option_map_or (λ (y : SeenNode). y.machine.done) x (new_record t (value t) limit_is)) (ap (node_at nodes) me ∙ is.there)
 
       pub done_all : (t : AgentTask) → Contains tasks t → HasDone (value t) (new_record t (value t) limit_is) (part log t.me) (record_of t)
-      done_all t (k, inside, here) =
-          let many = many_tasks value ms new in
-          let low : k < length ms = omega arith in
-          let found = member k low in
-          let n = found.0 in
-          let is = found.1 in
-          let node = node_of view all.served k n is in
-          let task : is.machine.done.task ≡ t =
-          sym (get_or-map (λ (m : AgentMachine). m.done.task) ms k is.machine t low ∙ ap (λ (m : AgentMachine). m.done.task) is.here) ∙ here in
-          let me : t.me ≡ suc k = number_at tasks new.agree k t inside here in
-          let own : n.machine.done.task ≡ t = ap (λ (o : Orders). o.task) is.orders_are ∙ task in
-          let limits : n.machine.done.limit ≡ limit_is = ap (λ (o : Orders). o.limit) is.orders_are ∙ limit value ms new k low is.machine is.here in
-          let batch = nothing_left nodes k n all.ended is.there in
+      done_all t contains =
+          let found = node_for t contains in
+          let n = found.node in
+          let there = found.inside in
+          let node = node_of view all.served found.place n found.member in
+          let batch = nothing_left nodes found.place n all.ended found.member.there in
           let signed : part log t.me ≡ entries node.party.list =
-          ap (part log) me
-          ∙ (parts (suc k) (record { from_1 = omega arith; at_most = omega arith }) ∙ ap (λ p. entries (list_in p)) node.held) in
+          ap (part log) found.me
+          ∙ (parts (suc found.place) (record { from_1 = omega arith; at_most = omega arith }) ∙ ap (λ p. entries (list_in p)) node.held) in
           moved n.machine.done.task t n.machine.done.limit limit_is (entries node.party.list ++ n.batch) (part log t.me) n.machine.done (record_of t)
-          own limits (ap (λ b. entries node.party.list ++ b) batch ∙ (append-nil (entries node.party.list) ∙ sym signed))
-          (sym (record_is k n is t me)) node.fits.done
+          found.own found.limits (ap (λ b. entries node.party.list ++ b) batch ∙ (append-nil (entries node.party.list) ∙ sym signed))
+          (sym (record_is found.place n found.member t found.me)) node.fits.done
 
       module _ {H : Type 0} (f : Finished H) (machines : f.machines.items ≡ machines_in nodes) (log_is : f.log ≡ log)
           (made : IsLogOfParts value limit_is tasks log record_of) where

@@ -4,13 +4,15 @@ pub mod Keeping
 pub mod Changing
 -- works that are split and joined
 pub mod Serving
--- works that share agents, and what is answered of them
+-- works that were served
+pub mod Answering
+-- works that share agents
 pub mod Shares
 -- a team at the start
 pub mod First
 -- a team at the end
 pub mod Ended
--- where all workers have answered that their agents have ended
-pub mod Solved
+-- no message is a bad one, so nobody was halted, and all have ended
+pub mod NoneBad
 -- desks that go to other threads
 pub mod Crossing

@@ -46,40 +46,42 @@ module _ (value : AgentTask → Numbers → Numbers → Option ℕ) (agents : �
 
   -- ---- two works in one
 
-  module _ (ns ms : Places) (v u w : View) (own : AreServed value agents ns v) (other : AreServed value agents ms u) (merged : HasMerged v u w) where
-    neither : (agent : ℕ) → party_at v agent ≡ None → party_at u agent ≡ None → party_at w agent ≡ None
+  module _ (v u w : View) (merged : HasMerged v u w) where
+    parties_are : (agent : ℕ) → party_at w agent ≡ party_in (either_each v.parties u.parties) agent
+    parties_are agent = ap (λ x. party_at x agent) merged.view
+
+    -- the party of the first, that of the other where the first has none, or none
+    pub first_held : (agent : ℕ) (p : Party) → party_at v agent ≡ Some p → party_at w agent ≡ Some p
+    first_held agent p held = parties_are agent ∙ first_at v.parties u.parties agent p held
+
+    pub second_held : (agent : ℕ) (p : Party) → party_at v agent ≡ None → party_at u agent ≡ Some p → party_at w agent ≡ Some p
+    second_held agent p none held = parties_are agent ∙ second_at v.parties u.parties agent p none held
+
+    pub neither : (agent : ℕ) → party_at v agent ≡ None → party_at u agent ≡ None → party_at w agent ≡ None
     neither agent none nor = by (party_at w agent) refl
       where
-        parties : party_at w agent ≡ party_in (either_each v.parties u.parties) agent
-        parties = ap (λ x. party_at x agent) merged.view
-
         not_both : (p : Party) → (party_at v agent ≡ Some p) ⊎ (party_at u agent ≡ Some p) → ⊥
         not_both p (inl e) = none-some p (sym none ∙ e)
         not_both p (inr e) = none-some p (sym nor ∙ e)
 
         by : (q : Option Party) → party_at w agent ≡ q → party_at w agent ≡ None
         by None e = e
-        by (Some p) e = absurd (not_both p (either_at v.parties u.parties agent p (sym parties ∙ e)))
+        by (Some p) e = absurd (not_both p (either_at v.parties u.parties agent p (sym (parties_are agent) ∙ e)))
 
     both_at : (agent : ℕ) (x y : Option SeenNode) → IsPlaceAt value agents agent v x → IsPlaceAt value agents agent u y
         → IsPlaceAt value agents agent w (either_node x y)
-    both_at agent (Some n) y here there = record {
-      party = here.party;
-      held = ap (λ x. party_at x agent) merged.view ∙ first_at v.parties u.parties agent here.party here.held;
-      fits = here.fits;
-    }
-    both_at agent None (Some n) here there = record {
-      party = there.party;
-      held = ap (λ x. party_at x agent) merged.view ∙ second_at v.parties u.parties agent there.party here there.held;
-      fits = there.fits;
-    }
+    both_at agent (Some n) y here there =
+        record { party = here.party; held = first_held agent here.party here.held; fits = here.fits }
+    both_at agent None (Some n) here there =
+        record { party = there.party; held = second_held agent there.party here there.held; fits = there.fits }
     both_at agent None None here there = neither agent here there
 
+  module _ (ns ms : Places) (v u w : View) (own : AreServed value agents ns v) (other : AreServed value agents ms u) (merged : HasMerged v u w) where
     pub joined_served : AreServed value agents (either_nodes ns ms) w
     joined_served = record {
       many = either_length ns ms ∙ own.many;
       each = λ agent. subst (IsPlaceAt value agents agent w) (sym (node_either_at ns ms (other.many ∙ sym own.many) agent))
-          (both_at agent (node_at ns agent) (node_at ms agent) (own.each agent) (other.each agent));
+          (both_at v u w merged agent (node_at ns agent) (node_at ms agent) (own.each agent) (other.each agent));
     }
 
   -- a node has its party

@@ -1,46 +1,23 @@
 -- Works that share agents.
-use Rattle.std.proofs.Common.{◌≡◌, ℕ, ◌+◌, ◌<◌, ◌&&◌, true, false, List, [], ◌∷◌, ◌++◌, length, map, get_or, set, Some, None, refl, sym, ap, ◌∙◌, subst}
+use Rattle.std.proofs.Common.{◌≡◌, ℕ, ◌+◌, ◌<◌, List, [], ◌∷◌, ◌++◌, length, map, get_or, set, Some, None, refl, sym, ap, ◌∙◌, subst}
 use Rattle.std.specs.Prelude.{All, Option, replicate}
-use Rattle.std.specs.Option.{option_map_or}
-use Rattle.std.proofs.lemmas.Bool.{and_parts}
 use Rattle.std.proofs.lemmas.List.{map-append}
 use Rattle.std.proofs.lemmas.List.Elements.{All-append, All-cons, All-head, All-nil, All-pop, All-tail}
 use Rattle.atomic_table.specs.Seated.{TableId}
 use Rattle.mp_sets.specs.Numbers.{Numbers}
 use Rattle.mp_task.specs.AgentTask.{AgentTask}
-use Rattle.mp_nodes.specs.Nodes.{AreServed, SeenNode, has_ended, have_ended}
-use Rattle.mp_nodes.specs.Served.{AllEnded}
-use Rattle.mp_nodes.specs.declared.served.Served.{Served}
-use Rattle.mp_nodes.specs.declared.served.Served.TheVariants as answers
+use Rattle.mp_nodes.specs.Nodes.{AreServed, SeenNode}
 use Rattle.mp_post.specs.Desks.{IsDeskOf}
 use Rattle.mp_post.specs.Parts.{HasMerged, HasSplit}
-use Rattle.mp_team.specs.Joined.{either_node, either_nodes}
+use Rattle.mp_team.specs.Joined.{either_nodes}
 use Rattle.mp_team.specs.Kept.{AreKept, Places}
-use Rattle.mp_team.specs.Works.{AreAnswered, AreShared, IsLeft, IsWork, is_ended, nodes_of, parts_of}
+use Rattle.mp_team.specs.Works.{AreAnswered, AreShared, IsWork, nodes_of, parts_of}
 use Rattle.mp_team.specs.declared.work.Answered.{Answered}
 use Rattle.mp_team.specs.declared.work.Work.{Work}
+use Rattle.mp_team.proofs.Answering.{answered_before}
 use Rattle.mp_team.proofs.Changing.{either_kept}
 use Rattle.mp_team.proofs.Keeping.{both_kept, same_kept, swap_kept, then_kept}
 use Rattle.mp_team.proofs.Serving.{joined_served, left_served, right_served, split_kept}
-
-true-false : true ≡ false → ⊥
-true-false e = cc
-
-false-true : false ≡ true → ⊥
-false-true e = cc
-
-ended_one : (x y : Option SeenNode) → option_map_or has_ended x true ≡ true → option_map_or has_ended y true ≡ true
-    → option_map_or has_ended (either_node x y) true ≡ true
-ended_one (Some n) y own other = own
-ended_one None y own other = other
-
-ended_either : (ns ms : Places) → have_ended ns ≡ true → have_ended ms ≡ true → have_ended (either_nodes ns ms) ≡ true
-ended_either [] ms own other = refl
-ended_either (n ∷ ns) [] own other = own
-ended_either (n ∷ ns) (m ∷ ms) own other =
-    let first = and_parts (option_map_or has_ended n true) (have_ended ns) own in
-    let second = and_parts (option_map_or has_ended m true) (have_ended ms) other in
-    λ i. ended_one n m first.0 second.0 i && ended_either ns ms first.1 second.1 i
 
 module _ {H : Type 0} (value : AgentTask → Numbers → Numbers → Option ℕ) (table : TableId) (agents : ℕ) where
   abbrev Fits : Work H → Type 0
@@ -172,65 +149,6 @@ module _ {H : Type 0} (value : AgentTask → Numbers → Numbers → Option ℕ)
   abbrev Answers : List Places → Answered H → Type 0
   Answers old a = AreAnswered value table agents old a
 
-  -- of a work that is made of others what was answered of it is so of them
-  pub answered_before : (old mid : List Places) (a : Answered H) → AreKept old mid → Answers mid a → Answers old a
-  answered_before old mid a kept is = record { desk = is.desk; left = by a.served is.left }
-    where
-      by : (s : Served) → IsLeft value table agents mid a.work s → IsLeft value table agents old a.work s
-      by answers.Ended left = (left.0, then_kept old mid (a.work.nodes ∷ []) kept left.1)
-      by (answers.Halted agent) left = tt
-      by (answers.Bad agent) left = tt
-      by (answers.OutOfMemory agent) left = tt
-
-  -- where not all have ended nothing is said
-  pub unended : (old : List Places) (a : Answered H) → IsDeskOf table agents a.work.desk → is_ended a.served ≡ false → Answers old a
-  unended old a desk not_all = record { desk = desk; left = by a.served not_all }
-    where
-      by : (s : Served) → is_ended s ≡ false → IsLeft value table agents old a.work s
-      by answers.Ended e = absurd (true-false e)
-      by (answers.Halted agent) e = tt
-      by (answers.Bad agent) e = tt
-      by (answers.OutOfMemory agent) e = tt
-
-  pub all_ended : (old : List Places) (a : Answered H) → is_ended a.served ≡ true → Answers old a
-      → AllEnded value agents a.work.nodes a.work.desk.view × AreKept old (a.work.nodes ∷ [])
-  all_ended old a all is = by a.served all is.left
-    where
-      by : (s : Served) → is_ended s ≡ true → IsLeft value table agents old a.work s
-          → AllEnded value agents a.work.nodes a.work.desk.view × AreKept old (a.work.nodes ∷ [])
-      by answers.Ended e left = left
-      by (answers.Halted agent) e left = absurd (false-true e)
-      by (answers.Bad agent) e left = absurd (false-true e)
-      by (answers.OutOfMemory agent) e left = absurd (false-true e)
-
-  pub ended_many : (old : List Places) (a : Answered H) → is_ended a.served ≡ true → Answers old a → length a.work.nodes ≡ agents
-  ended_many old a all is = (all_ended old a all is).0.served.many
-
-  pub both_ended : (first second : List Places) (a b : Answered H) (r : Work H) → is_ended a.served ≡ true → is_ended b.served ≡ true
-      → Answers first a → Answers second b → IsDeskOf table agents r.desk
-      → HasMerged a.work.desk.view b.work.desk.view r.desk.view → r.nodes ≡ either_nodes a.work.nodes b.work.nodes
-      → Answers (first ++ second) (record { work = r; served = answers.Ended })
-  both_ended first second a b r one other is also desk merged nodes =
-      let own = all_ended first a one is in
-      let more = all_ended second b other also in
-      let w = a.work in
-      let p = b.work in
-      let fits : Fits w = record { desk = is.desk; served = own.0.served } in
-      let others : Fits p = record { desk = also.desk; served = more.0.served } in
-      let both = joined_fits w p r fits others desk merged nodes in
-      let kept = joined_kept w p r fits others desk merged nodes in
-      record {
-        desk = desk;
-        left = (
-          record {
-            served = both.served;
-            ended = ap have_ended nodes ∙ ended_either w.nodes p.nodes own.0.ended more.0.ended;
-          },
-          then_kept (first ++ second) (w.nodes ∷ p.nodes ∷ []) (r.nodes ∷ [])
-              (both_kept first (w.nodes ∷ []) second (p.nodes ∷ []) own.1 more.1) kept,
-        );
-      }
-
   -- ---- the last of some works
 
   pub popped : (others before : List (Work H)) (w : Work H) → others ≡ before ++ w ∷ [] → All Fits others → All Fits before × Fits w
@@ -250,7 +168,7 @@ module _ {H : Type 0} (value : AgentTask → Numbers → Numbers → Option ℕ)
   at_joined work other r before others a e fits more desk merged nodes is =
       let own = nodes_of before in
       at_last work other before others a e
-      (answered_before ((work.nodes ∷ own) ++ (other.nodes ∷ [])) (r.nodes ∷ own) a
+      (answered_before value table agents ((work.nodes ∷ own) ++ (other.nodes ∷ [])) (r.nodes ∷ own) a
       (then_kept ((work.nodes ∷ own) ++ (other.nodes ∷ [])) (other.nodes ∷ work.nodes ∷ own) (r.nodes ∷ own)
       (swap_kept (work.nodes ∷ own) (other.nodes ∷ []))
       (both_kept (other.nodes ∷ work.nodes ∷ []) (r.nodes ∷ []) own own

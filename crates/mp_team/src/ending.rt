@@ -1,17 +1,14 @@
 //! A team whose agents have all ended.
 
-ghost use Rattle.std.specs.Prelude.{◌≡◌, ◌++◌, List, [], ◌∷◌, length, IfOk, OnOk};
+ghost use Rattle.std.specs.Prelude.{◌≡◌, ◌++◌, List, [], ◌∷◌, IfOk, OnOk, false};
 ghost use Rattle.mp_machine.specs.Machine.{AgentMachine};
-ghost use Rattle.mp_nodes.specs.Nodes.{AreSameAgents};
-ghost use Rattle.mp_nodes.specs.Served.{AllEnded};
-ghost use Rattle.mp_post.specs.Desks.{IsDeskOf};
-ghost use Rattle.mp_post_rule.specs.Kinds.{HoldsAll};
 ghost use Rattle.mp_post_rule.specs.Table.{ArePosts};
-ghost use Rattle.mp_schedule.specs.Machines.{AreNew, limit_of, tasks_of};
+ghost use Rattle.mp_schedule.specs.Machines.{limit_of, tasks_of};
 ghost use Rattle.mp_team.specs.Finished.{HasFinished};
-ghost use Rattle.mp_team.specs.Machines.{first_places, machines_in};
+ghost use Rattle.mp_team.specs.Machines.{machines_in};
+ghost use Rattle.mp_team.specs.Works.{AreAllAnswered, lacks_memory};
 
-use crate::work::Work;
+use crate::work::{Answered, Work, is_ended};
 use mp_list::OutOfMemory;
 use mp_logs::parts_make_a_log;
 use mp_machine::Machine;
@@ -19,6 +16,7 @@ use mp_messages::Log;
 use mp_nodes::{Node, Nodes};
 use mp_post::Posts;
 use mp_task::Heuristic;
+use mp_team_messages::no_receipt_is_bad;
 use std::alloc::Global;
 
 /// The machines of a team whose agents have all ended, that of agent 1 first, and the log of what they did.
@@ -59,26 +57,31 @@ fn machines_of<H: Heuristic>(
     Ok(machines)
 }
 
-/// The machines and the log of a team whose agents are those of one work, and have all ended.
+/// The machines and the log of a team whose agents were all served, and for none of whom memory ran out. They have all ended: no
+/// message is a bad one, and so nobody was halted.
 pub(crate) fn closed<H: Heuristic>(
     alloc: Global,
     posts: Posts,
-    work: Work<H>,
+    answered: Answered<H>,
 ) -> Result<Finished<H>, OutOfMemory>
     requires posts { ArePosts posts.shared.table_id posts.shared.key }
-    requires desk { IsDeskOf posts.shared.table_id posts.shared.key work.desk }
-    requires all { HoldsAll posts.shared.key work.desk.view }
-    ensures { IfOk result (λ f. (machines : List AgentMachine) → AreNew H.value machines
-        → posts.shared.key ≡ length machines
-        → AreSameAgents (first_places machines) work.nodes
-        → AllEnded H.value posts.shared.key work.nodes work.desk.view
+    requires all { (machines : List AgentMachine)
+        × AreAllAnswered H.value posts.shared.table_id posts.shared.key machines answered }
+    requires enough { lacks_memory answered.served ≡ false }
+    ensures { IfOk result (λ f. (machines : List AgentMachine)
+        → AreAllAnswered H.value posts.shared.table_id posts.shared.key machines answered
         → HasFinished H.value (limit_of machines) (tasks_of machines) f) }
 {
     parts_make_a_log();
+    no_receipt_is_bad();
+    let Answered { work, served } = answered;
     let Work { nodes, desk } = work;
     let machines = machines_of(alloc, nodes)?;
-    match desk.close(posts) {
-        Ok((log, _)) => Ok(Finished { machines, log }),
-        Err(_) => Err(OutOfMemory),
+    let Ok((log, _)) = desk.close(posts) else {
+        return Err(OutOfMemory);
+    };
+    if !is_ended(served) {
+        unreachable!()
     }
+    Ok(Finished { machines, log })
 }

@@ -9,7 +9,7 @@ ghost use Rattle.mp_team.specs.Works.{AreAnswered, IsWork, nodes_of};
 use crate::beginning::begun;
 use crate::ending::{Finished, closed};
 use crate::sharing::shared_out;
-use crate::work::{Answered, Work, is_ended};
+use crate::work::{Answered, Work, lacks_memory};
 use crate::workers::all_served;
 use mp_list::OutOfMemory;
 use mp_machine::Machine;
@@ -81,8 +81,8 @@ pub fn solve<R: Threads + Wait + Sync, H: Heuristic + Send, G: Gate + Sync>(
     let others = shared_out(rt, alloc, &posts, &mut work, usize::from(workers))?;
     let unstarted = flags(alloc, others.len())?;
     let answered = in_threads(rt, &posts, work, others, gate, unstarted.as_slice());
-    if !is_ended(answered.served) {
+    if lacks_memory(answered.served) {
         return Err(OutOfMemory);
     }
-    closed(alloc, posts, answered.work)
+    closed(alloc, posts, answered)
 }

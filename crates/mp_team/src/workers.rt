@@ -1,15 +1,14 @@
 //! All workers of a team.
 
-ghost use Rattle.std.specs.Prelude.{◌≡◌, ◌≤◌, ◌++◌, List, [], ◌∷◌, All, length};
+ghost use Rattle.std.specs.Prelude.{◌≡◌, ◌≤◌, ◌++◌, List, [], ◌∷◌, All, false, length, true};
 ghost use Rattle.mp_post.specs.Desks.{IsDeskOf};
 ghost use Rattle.mp_post_rule.specs.Table.{ArePosts};
 ghost use Rattle.mp_team.specs.Kept.{Places};
-ghost use Rattle.mp_team.specs.Works.{AreAnswered, IsWork, nodes_of};
+ghost use Rattle.mp_team.specs.Works.{AreAnswered, IsWork, is_bad, lacks_memory, nodes_of};
 
 use crate::joining::joined;
-use crate::work::{Answered, Work, is_ended};
+use crate::work::{Answered, Work, first_unended, is_bad, lacks_memory};
 use crate::worker::{Handed, ended, served, started};
-use mp_nodes::Served;
 use mp_outside::Gate;
 use mp_post::Posts;
 use mp_task::Heuristic;
@@ -17,7 +16,32 @@ use std::sync::Wait;
 use std::sync::atomic::AtomicBool;
 use std::thread::{PromisedHandle, Scope, Threads};
 
-/// What two workers answered, in one: that all have ended where both say so, and otherwise what one says that does not.
+/// What two workers answered, in one: the works joined, and of the answers the first, unless that says that all have ended.
+fn in_one<R: Wait, H: Heuristic>(
+    rt: &R,
+    posts: &Posts,
+    one: Answered<H>,
+    other: Answered<H>,
+) -> Answered<H>
+    requires posts { ArePosts posts.now.shared.table_id posts.now.shared.key }
+    requires one { (first : List Places) × AreAnswered H.value posts.now.shared.table_id posts.now.shared.key first one }
+    requires other { (second : List Places) × AreAnswered H.value posts.now.shared.table_id posts.now.shared.key second other }
+    requires enough { (lacks_memory one.served ≡ false) × (lacks_memory other.served ≡ false) }
+    requires bad { is_bad other.served ≡ true → is_bad one.served ≡ true }
+    ensures { (first second : List Places)
+        → AreAnswered H.value posts.now.shared.table_id posts.now.shared.key first one
+        → AreAnswered H.value posts.now.shared.table_id posts.now.shared.key second other
+        → AreAnswered H.value posts.now.shared.table_id posts.now.shared.key (first ++ second) result }
+{
+    let served = first_unended(one.served, other.served);
+    Answered {
+        work: joined(rt, posts, one.work, other.work),
+        served,
+    }
+}
+
+/// What two workers answered, in one: want of memory where one met it, else a bad message where one met it, else that an agent
+/// was seen halted where one saw it. So the node that found a message to be a bad one is kept.
 fn both<R: Wait, H: Heuristic>(
     rt: &R,
     posts: &Posts,
@@ -32,16 +56,16 @@ fn both<R: Wait, H: Heuristic>(
         → AreAnswered H.value posts.now.shared.table_id posts.now.shared.key second other
         → AreAnswered H.value posts.now.shared.table_id posts.now.shared.key (first ++ second) result }
 {
-    if !is_ended(one.served) {
+    if lacks_memory(one.served) {
         return one;
     }
-    if !is_ended(other.served) {
+    if lacks_memory(other.served) {
         return other;
     }
-    Answered {
-        work: joined(rt, posts, one.work, other.work),
-        served: Served::Ended,
+    if is_bad(other.served) {
+        return in_one(rt, posts, other, one);
     }
+    in_one(rt, posts, one, other)
 }
 
 /// Ends a worker that runs.

@@ -1,7 +1,7 @@
-use Rattle.std.proofs.Common.{[], ◌∷◌, sym}
+use Rattle.std.proofs.Common.{[], ◌∷◌}
 use Rattle.std.proofs.lemmas.Result.{IfOk-weaker}
+use Rattle.mp_team.proofs.Answering.{all_answered}
 use Rattle.mp_team.proofs.Shares.{first_fits, others_fit}
-use Rattle.mp_team.proofs.Solved.{all, holds, same}
 use Rattle.mp_team.proofs.team.solve.Goals as goal
 
 pub in_threads-answered-requires-clause-work : goal.in_threads-answered-requires-clause-work
@@ -20,22 +20,19 @@ pub closed-requires-clause-all : goal.closed-requires-clause-all
 closed-requires-clause-all g c =
     let shared = c.in_ok-posts.posts.shared in
     let begun = c.in_ok-posts.ensures in
-    let answered = c.in_threads-answered in
-    holds g.H.Heuristic.value shared.table_id shared.key c.args.machines.items c.requires.machines begun.posts.1 c.in_ok-posts.work.nodes
-    begun.nodes (c.shared_out.new.from ∷ c.in_ok-others.others.items) c.in_ok-others.ensures answered.result answered.ensures
-    (sym c.if-not-is_ended.ensures)
+    let answered = c.in_threads-answered in (
+      c.args.machines.items,
+      all_answered g.H.Heuristic.value shared.table_id shared.key c.args.machines.items c.requires.machines begun.posts.1 c.in_ok-posts.work.nodes
+          begun.nodes (c.shared_out.new.from ∷ c.in_ok-others.others.items) c.in_ok-others.ensures.kept answered.result answered.ensures,
+    )
 
 pub returns : goal.returns
 returns g c =
     let shared = c.in_ok-posts.posts.shared in
     let begun = c.in_ok-posts.ensures in
     let answered = c.in_threads-answered in
-    let ms = c.args.machines.items in
-    let works = c.shared_out.new.from ∷ c.in_ok-others.others.items in
     IfOk-weaker c.closed.result _ _
-    (λ f finished. finished ms c.requires.machines begun.posts.1
-    (same g.H.Heuristic.value shared.table_id shared.key ms c.requires.machines begun.posts.1 c.in_ok-posts.work.nodes
-    begun.nodes works c.in_ok-others.ensures answered.result answered.ensures (sym c.if-not-is_ended.ensures))
-    (all g.H.Heuristic.value shared.table_id shared.key ms c.requires.machines begun.posts.1 c.in_ok-posts.work.nodes
-    begun.nodes works c.in_ok-others.ensures answered.result answered.ensures (sym c.if-not-is_ended.ensures)))
+    (λ f finished. finished c.args.machines.items
+    (all_answered g.H.Heuristic.value shared.table_id shared.key c.args.machines.items c.requires.machines begun.posts.1 c.in_ok-posts.work.nodes
+    begun.nodes (c.shared_out.new.from ∷ c.in_ok-others.others.items) c.in_ok-others.ensures.kept answered.result answered.ensures))
     c.closed.ensures
