@@ -31,4 +31,8 @@ pub use report::Report;
 pub use status::Status;
 
 #[cfg(test)]
+mod gates;
+#[cfg(test)]
 mod tests;
+#[cfg(test)]
+mod texts;

@@ -4,39 +4,13 @@
 ghost use Rattle.std.specs.Prelude.{◌<◌};
 
 use super::*;
+use crate::texts::FILES;
 use mp_list::List;
-use mp_outside::{FileSource, MemSink, MemSource, NamedText, NoGate};
+use mp_outside::{FileSource, Gate, MemSink, MemSource, NamedText, NoGate};
 use std::alloc::Global;
 use std::sync::Wait;
 use std::test::Fail;
 use std::thread::Threads;
-
-const FILES: [(&str, &[u8]); 9] = [
-    (
-        "lamp-d",
-        b"(define (domain lamp) (:predicates (on)) (:action press :parameters () :precondition () :effect (on)))",
-    ),
-    (
-        "lamp-p",
-        b"(define (problem one) (:domain lamp) (:init) (:goal (on)))",
-    ),
-    ("dark-d", b"(define (domain lamp) (:predicates (on)))"),
-    (
-        "or-d",
-        b"(define (domain x) (:predicates (p)) (:action a :parameters () :precondition (or (p)) :effect (p)))",
-    ),
-    (
-        "tidy-d",
-        b"(define (domain t) (:predicates (:private (done)))  (:action tidy :parameters () :effect (done)))",
-    ),
-    (
-        "tidy-p",
-        b"(define (problem q) (:domain t) (:init) (:goal (done)))",
-    ),
-    ("whole-s", b"expand 1\nstart\n"),
-    ("short-s", b"expand 1\n"),
-    ("twice-s", b"expand 1\nexpand 1\n"),
-];
 
 const LAMP: [&str; 6] = ["solve", "--one", "--h", "blind", "lamp-d", "lamp-p"];
 
@@ -105,6 +79,9 @@ const TRACED: &[u8] =
 /// The outcome of two agents that tidy.
 const TIDIED: &[u8] =
     b"cost 2\nlength 2\nagent 1\n2: (tidy)\nagent 2\n1: (tidy)\nevents 18 messages 10 bytes 214\n";
+
+/// The beginning of that, which is the same whoever serves them.
+const TIDIED_BY_ANY: &[u8] = b"cost 2\nlength 2\nagent 1\n";
 
 /// A schedule that ends before there is an answer.
 const UNFINISHED: &[u8] = b"expand 1\nunfinished\n";
@@ -194,7 +171,7 @@ const TRIALS: [Trial; 20] = [
 
 fn source(alloc: Global, failing: u64) -> Result<MemSource, Fail> {
     let mut files = List::new(alloc);
-    for (name, text) in FILES {
+    for (name, text) in &FILES {
         files.push(NamedText {
             name: String::from_str(alloc, name)?,
             text: text.to_vec(alloc)?,
@@ -256,11 +233,13 @@ fn calls(rt: HostRuntime) -> Result<(), Fail> {
     Ok(())
 }
 
-/// Whether workers find a plan that costs 2 for these words.
-fn is_solved_by_workers<R: Threads + Wait + Sync>(
+/// Whether workers find a plan for these words whose text begins so, while their agents pass a gate.
+pub(crate) fn is_solved_by_workers<R: Threads + Wait + Sync, G: Gate + Sync>(
     rt: &R,
     alloc: Global,
     words: &[&str],
+    gate: &G,
+    beginning: &[u8],
 ) -> Result<bool, Fail> {
     let words = owned(alloc, words)?;
     let mut files = source(alloc, 0)?;
@@ -274,19 +253,19 @@ fn is_solved_by_workers<R: Threads + Wait + Sync>(
         &mut files,
         &mut out,
         &mut err,
-        &NoGate,
+        gate,
         &mut report,
     );
-    let is_cheapest = out.bytes().starts_with(b"cost 2\nlength 2\nagent 1\n");
+    let is_cheapest = out.bytes().starts_with(beginning);
     Ok(status == Status::Solved && is_cheapest && err.bytes().is_empty())
 }
 
 #[test]
 fn workers_find_a_cheapest_plan(rt: HostRuntime) -> Result<(), Fail> {
     let alloc = rt.alloc();
-    assert!(rt; is_solved_by_workers(&rt, alloc, &TIDY_BY_WORKERS)?);
-    assert!(rt; is_solved_by_workers(&rt, alloc, &TIDY_BY_ONE_WORKER)?);
-    assert!(rt; is_solved_by_workers(&rt, alloc, &TIDY_BY_MORE)?);
+    assert!(rt; is_solved_by_workers(&rt, alloc, &TIDY_BY_WORKERS, &NoGate, TIDIED_BY_ANY)?);
+    assert!(rt; is_solved_by_workers(&rt, alloc, &TIDY_BY_ONE_WORKER, &NoGate, TIDIED_BY_ANY)?);
+    assert!(rt; is_solved_by_workers(&rt, alloc, &TIDY_BY_MORE, &NoGate, TIDIED_BY_ANY)?);
     Ok(())
 }
 
