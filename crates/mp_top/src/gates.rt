@@ -15,7 +15,7 @@ use std::thread::Threads;
 const TURNS: u64 = 10_000_000;
 
 /// The same where no other can come.
-const FEW_TURNS: u64 = 1_000;
+const FEW_TURNS: u64 = 200;
 
 /// A hand-over: agent 1 makes true what agent 2 needs.
 const HAND_OVER: [&str; 6] = [
