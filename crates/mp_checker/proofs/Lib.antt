@@ -22,3 +22,7 @@ pub mod StartLemmas
 pub mod ChangeLemmas
 -- one step of one agent
 pub mod TakenLemmas
+-- places in a list of facts that grows
+pub mod PlaceLemmas
+-- steps in numbers
+pub mod StepLemmas

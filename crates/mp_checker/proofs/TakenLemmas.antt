@@ -127,11 +127,9 @@ named_some name (s ∷ ss) n place h =
           record { behind = suc r.behind; schema = r.schema; is = omega (arith, e); at = r.at; first = next }
     ]
 
-pub no_action : (agent : ℕ) (factor : Factor) (action_names : List Text) (step : PlanStep) → action_names ≡ map (λ (s : Schema). s.word.name) factor.domain.schemas
-    → place_in action_names step.action ≡ None → instance_at agent factor step.action step.args ≡ None
-no_action agent factor action_names step are h =
-    ap (option_and_then (instance_of_schema agent factor step.args))
-    (named_none step.action factor.domain.schemas 0 (ap (λ ns. place_in ns step.action) (sym are) ∙ h))
+pub no_such_action : (factor : Factor) (action_names : List Text) (name : Text) → action_names ≡ map (λ (s : Schema). s.word.name) factor.domain.schemas
+    → place_in action_names name ≡ None → find (λ (s : Schema). bytes_eq s.word.name name) factor.domain.schemas ≡ None
+no_such_action factor action_names name are h = named_none name factor.domain.schemas 0 (ap (λ ns. place_in ns name) (sym are) ∙ h)
 
 pub an_action : (factor : Factor) (action_names : List Text) (name : Text) (place : ℕ) → action_names ≡ map (λ (s : Schema). s.word.name) factor.domain.schemas
     → place_in action_names name ≡ Some place → IsNamed name factor.domain.schemas 0 place

@@ -9,4 +9,8 @@ pub mod Standing
 pub mod AgentView
 pub mod AgentFields
 pub mod Taken
+pub mod Found
 pub mod Team
+pub mod Places
+pub mod Steps
+pub mod Stepped

@@ -53,7 +53,7 @@ fn has_private(args: &[ObjectNumber], terms: &[TermNumber]) -> bool
 }
 
 /// The agent, where the predicate or an object is private.
-fn owner_at(agent: Agent, args: &[ObjectNumber], atom: &NumberedAtom) -> Option<u16>
+pub fn owner_at(agent: Agent, args: &[ObjectNumber], atom: &NumberedAtom) -> Option<u16>
     ensures { result ≡ owner_of agent args.now atom.now }
 {
     if atom.private || has_private(args, atom.terms.as_slice()) {
@@ -194,7 +194,7 @@ pub fn clear_all(
 }
 
 /// Numbers in a list of their own.
-fn list_of(alloc: Global, numbers: &[u32]) -> Result<List<u32>, OutOfMemory>
+pub fn list_of(alloc: Global, numbers: &[u32]) -> Result<List<u32>, OutOfMemory>
     ensures { IfOk result (λ list. list ≡ numbers.now) }
 {
     let mut list = List::with_capacity(alloc, numbers.len())?;

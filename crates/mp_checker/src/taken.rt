@@ -18,6 +18,7 @@ use crate::at::{clear_all, first_failing, set_all};
 use crate::cost::cost_at;
 use crate::fact::FactNumbers;
 use crate::factor::AgentFactor;
+use crate::found::found_action;
 use crate::numbered::{NumberedAction, NumberedLiteral, ObjectNumber};
 use crate::standing::add_standing;
 use crate::told::signed_fact;
@@ -122,8 +123,8 @@ fn change(
 }
 
 /// What an action costs with the objects of a step: none where it is no instance with them. The objects are left in
-/// numbers.
-fn instance_cost(
+/// numbers. Refuses only for want of memory.
+pub fn instance_cost(
     factor: &AgentFactor<'_, '_>,
     room: &mut Room,
     schema: &Schema,
@@ -206,16 +207,8 @@ pub fn take(
     ensures { IfOk result (IsTaken (agent_of factor.now) (factor_of factor.now)
         (named_state (names_of factor.now) facts.old.keys) (named_state (names_of factor.now) facts.new.keys) step.now) }
 {
-    let domain = &factor.checked.factor().domain;
-    domain.comes_from_a_file();
-    let Some(place) = factor.action_names.find(step.action.as_slice()) else {
+    let Some(found) = found_action(factor, &step.action) else {
         return Ok(Taken::NoAction);
     };
-    let Some(schema) = domain.schemas.get(place) else {
-        return Ok(Taken::NoAction);
-    };
-    let Some(action) = factor.actions.get(place) else {
-        return Ok(Taken::NoAction);
-    };
-    take_action(alloc, factor, facts, room, schema, action, step)
+    take_action(alloc, factor, facts, room, found.schema, found.action, step)
 }

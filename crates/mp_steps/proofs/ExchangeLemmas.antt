@@ -19,7 +19,7 @@ neither : (a b : Bool) → (a || b) ≡ false → (a ≡ false) × (b ≡ false)
 neither true b h = absurd (true≢false h)
 neither false b h = (refl, h)
 
-either_side : (xs ys : List NamedFact) (f : NamedFact) → is_among f (xs ++ ys) ≡ (is_among f xs || is_among f ys)
+pub either_side : (xs ys : List NamedFact) (f : NamedFact) → is_among f (xs ++ ys) ≡ (is_among f xs || is_among f ys)
 either_side [] ys f = refl
 either_side (x ∷ xs) ys f = ap (λ b. same_fact f x || b) (either_side xs ys f) ∙ regrouped (same_fact f x) (is_among f xs) (is_among f ys)
   where
@@ -29,7 +29,7 @@ either_side (x ∷ xs) ys f = ap (λ b. same_fact f x || b) (either_side xs ys f
 
 -- ---- facts that are not shared
 
-among : (f : NamedFact) (fs : List NamedFact) → Contains fs f → is_among f fs ≡ true
+pub among : (f : NamedFact) (fs : List NamedFact) → Contains fs f → is_among f fs ≡ true
 among f fs c = any_from (λ g. same_fact f g) fs f c ((Decides-fact f f).1 refl)
 
 -- no fact is in both

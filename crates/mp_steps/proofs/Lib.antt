@@ -10,3 +10,5 @@ pub mod GroupLemmas
 pub mod LinkLemmas
 pub mod MarkLemmas
 pub mod NumberedLemmas
+-- numbered steps clash as the actions of their plan interfere
+pub mod StandLemmas

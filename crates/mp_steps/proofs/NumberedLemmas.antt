@@ -7,9 +7,9 @@ use Rattle.std.proofs.lemmas.List.{take_more, map_push, length-map, length_push}
 use Rattle.std.proofs.lemmas.Option.{none-some, same_Some, slice_get-map, slice_get_within, get_or_from_slice_get}
 use Rattle.mp_steps.specs.declared.facts.FactMarks.{FactMarks}
 use Rattle.mp_steps.specs.declared.mark.Mark.{Mark}
-use Rattle.mp_steps.specs.declared.numbered.NumberedStep.{NumberedStep}
-use Rattle.mp_steps.specs.declared.numbered.Role.{Role}
-use Rattle.mp_steps.specs.declared.numbered.Role.TheVariants.{Needed, Added, Deleted}
+use Rattle.mp_checker.specs.declared.step.NumberedStep.{NumberedStep}
+use Rattle.mp_steps.specs.declared.role.Role.{Role}
+use Rattle.mp_steps.specs.declared.role.Role.TheVariants.{Needed, Added, Deleted}
 use Rattle.mp_steps.specs.Levels.{level_at}
 use Rattle.mp_steps.specs.Marks.{no_mark, better, IsBest, AreMet, levels_after}
 use Rattle.mp_steps.specs.Numbered.{is_in, facts_in, has, has_against, meets, clashes, step_at, clash_at, marks_at, mark_in, mark_against, with_mark, best_against, marked_in, marked_by, met_by}

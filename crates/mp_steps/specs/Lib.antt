@@ -5,4 +5,5 @@ pub mod Interference
 pub mod PlanSteps
 pub mod Marks
 pub mod Numbered
+pub mod Packed
 pub mod Examples

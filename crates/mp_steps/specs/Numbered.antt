@@ -3,9 +3,9 @@ use Rattle.std.specs.Prelude.{ℕ, zero, suc, ◌==◌, Bool, false, ◌||◌, L
 use Rattle.std.specs.List.{list_any}
 use Rattle.std.specs.Option.{option_map_or}
 use Rattle.mp_steps.specs.declared.mark.Mark.{Mark}
-use Rattle.mp_steps.specs.declared.numbered.NumberedStep.{NumberedStep}
-use Rattle.mp_steps.specs.declared.numbered.Role.{Role}
-use Rattle.mp_steps.specs.declared.numbered.Role.TheVariants.{Needed, Added, Deleted}
+use Rattle.mp_checker.specs.declared.step.NumberedStep.{NumberedStep}
+use Rattle.mp_steps.specs.declared.role.Role.{Role}
+use Rattle.mp_steps.specs.declared.role.Role.TheVariants.{Needed, Added, Deleted}
 use Rattle.mp_steps.specs.declared.facts.FactMarks.{FactMarks}
 use Rattle.mp_steps.specs.Levels.{Test}
 use Rattle.mp_steps.specs.Marks.{no_mark, better}

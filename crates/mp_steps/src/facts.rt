@@ -4,8 +4,8 @@ ghost use Rattle.std.specs.Prelude.{◌≡◌, ℕ, OnOk, if◌then◌else◌};
 ghost use Rattle.mp_steps.specs.Numbered.{best_against, is_in, marks_at as marks_of, mark_against as against_in, with_mark as with};
 
 use crate::mark::{Mark, NO_MARK, better};
-use crate::numbered::Role;
 use crate::put::put;
+use crate::role::Role;
 use mp_list::OutOfMemory;
 
 /// The greatest levels of the actions that ask for a fact or against it, add it and delete it.

@@ -6,8 +6,9 @@ ghost use Rattle.mp_steps.specs.Numbered.{clash_at, marked_by, marks_at as marks
 
 use crate::facts::{FactMarks, best_of, note};
 use crate::mark::{Mark, NO_MARK, better};
-use crate::numbered::{NumberedStep, Role};
 use crate::put::put;
+use crate::role::Role;
+use mp_checker::NumberedStep;
 use mp_list::OutOfMemory;
 use std::alloc::Global;
 

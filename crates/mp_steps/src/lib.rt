@@ -8,9 +8,10 @@ mod laws;
 mod level;
 mod link;
 mod mark;
-mod numbered;
 mod packed;
+mod plan;
 mod put;
+mod role;
 mod worked;
 
 pub use group::{StepLists, Times};
@@ -18,6 +19,6 @@ pub use laws::{
     chains_keep_steps_apart, numbered_actions_stand_for_plans, orders_of_steps_solve,
     steps_are_a_packing,
 };
-pub use numbered::NumberedStep;
 pub use packed::{NumberedPacking, pack_numbered};
+pub use plan::{PackRefusal, Packed, pack};
 pub use worked::{worked_chains, worked_steps};

@@ -8,7 +8,7 @@ ghost use Rattle.mp_steps.specs.Steps.{steps as steps_of, chain as chain_of};
 use crate::group::{StepLists, Times, grouped};
 use crate::level::levelled;
 use crate::link::linked;
-use crate::numbered::NumberedStep;
+use mp_checker::NumberedStep;
 use mp_list::OutOfMemory;
 use std::alloc::Global;
 

@@ -1,4 +1,4 @@
-//! Actions of a plan whose facts are numbers.
+//! Actions of a plan in numbers.
 
 use mp_list::List;
 
@@ -9,12 +9,4 @@ pub struct NumberedStep {
     pub needs: List<u32>,
     pub adds: List<u32>,
     pub dels: List<u32>,
-}
-
-/// What a fact is to an action.
-#[derive(Clone, Copy)]
-pub enum Role {
-    Needed,
-    Added,
-    Deleted,
 }

@@ -1,0 +1,109 @@
+//! The steps and the chain of a plan.
+
+ghost use Rattle.std.specs.Prelude.{◌≡◌, ◌≤◌, length, IfOk, IfErr, MatchOption};
+ghost use Rattle.mp_joint.specs.FactorContribution.{team_of};
+ghost use Rattle.mp_plan_verdict.specs.declared.verdict.CheckVerdict.TheVariants.{Valid};
+ghost use Rattle.mp_steps.specs.Packed.{IsNotValid, IsPacked, IsRefused};
+ghost use Rattle.mp_steps.specs.PlanSteps.{plan_chain, plan_steps};
+
+use crate::group::{StepLists, Times};
+use crate::packed::{NumberedPacking, pack_numbered};
+use mp_checker::{CheckVerdict, check, numbered_steps};
+use mp_joint::JointPlan;
+use mp_list::OutOfMemory;
+use mp_typing::CheckedFactor;
+use std::alloc::Global;
+
+/// What a plan costs, the times of its actions that may be done at the same time, step by step, and a chain through the
+/// steps.
+#[derive(Drop)]
+pub struct Packed {
+    pub cost: u64,
+    pub steps: StepLists,
+    pub chain: Times,
+}
+
+/// Why a plan has no steps.
+#[derive(Drop)]
+pub enum PackRefusal {
+    /// It does not solve; this is found of it.
+    Invalid(CheckVerdict),
+    /// No memory was left.
+    OutOfMemory,
+}
+
+impl From<OutOfMemory> for PackRefusal {
+    ghost use Rattle.std.specs.Prelude.{◌≡◌};
+    ghost use Rattle.mp_steps.specs.declared.plan.PackRefusal.TheVariants as refusals;
+
+    ghost from_gives = { λ _ e. e ≡ refusals.OutOfMemory };
+
+    fn from(_e: OutOfMemory) -> PackRefusal {
+        PackRefusal::OutOfMemory
+    }
+}
+
+/// What a plan costs that solves: none where it does not.
+fn cost_of(found: &CheckVerdict) -> Option<u64>
+    ensures { MatchOption result (IsNotValid found.now) (λ cost. found.now ≡ Valid cost) }
+{
+    match found {
+        CheckVerdict::Valid(cost) => Some(*cost),
+        CheckVerdict::NoAction(_) => None,
+        CheckVerdict::Missing(_, _) => None,
+        CheckVerdict::Forbidden(_, _) => None,
+        CheckVerdict::GoalMissing(_) => None,
+        CheckVerdict::GoalForbidden(_) => None,
+    }
+}
+
+/// The steps and the chain of a plan, whatever is found of it.
+fn packing(
+    alloc: Global,
+    factors: &[CheckedFactor],
+    plan: &JointPlan,
+) -> Result<NumberedPacking, OutOfMemory>
+    requires few { length factors.now ≤ 16 }
+    ensures steps { IfOk result (λ packed. packed.steps ≡ plan_steps (team_of factors.now) plan.now) }
+    ensures chain { IfOk result (λ packed. packed.chain ≡ plan_chain (team_of factors.now) plan.now) }
+{
+    let steps = numbered_steps(alloc, factors, plan)?;
+    pack_numbered(alloc, steps.as_slice())
+}
+
+/// The steps and the chain of a plan that solves at this cost.
+fn packed_at(
+    alloc: Global,
+    factors: &[CheckedFactor],
+    plan: &JointPlan,
+    cost: u64,
+) -> Result<Packed, OutOfMemory>
+    requires few { length factors.now ≤ 16 }
+    ensures cost { IfOk result (λ packed. packed.cost ≡ cost) }
+    ensures steps { IfOk result (λ packed. packed.steps ≡ plan_steps (team_of factors.now) plan.now) }
+    ensures chain { IfOk result (λ packed. packed.chain ≡ plan_chain (team_of factors.now) plan.now) }
+{
+    let NumberedPacking { steps, chain } = packing(alloc, factors, plan)?;
+    Ok(Packed { cost, steps, chain })
+}
+
+/// Which actions of a plan of a team, whose first factor is that of agent 1, may be done at the same time, and a chain that
+/// shows that no packing of the plan has fewer steps. The time grows with the facts of the actions, and not with the
+/// square of their number. A plan that does not solve is refused with what is found of it.
+pub fn pack(
+    alloc: Global,
+    factors: &[CheckedFactor],
+    plan: &JointPlan,
+) -> Result<Packed, PackRefusal>
+    requires team { 1 ≤ length factors.now }
+    requires few { length factors.now ≤ 16 }
+    requires short { length plan.now ≤ 4194304 }
+    ensures packed { IfOk result (IsPacked factors.now plan.now) }
+    ensures refused { IfErr result (IsRefused factors.now plan.now) }
+{
+    let found = check(alloc, factors, plan)?;
+    match cost_of(&found) {
+        Some(cost) => Ok(packed_at(alloc, factors, plan, cost)?),
+        None => Err(PackRefusal::Invalid(found)),
+    }
+}
