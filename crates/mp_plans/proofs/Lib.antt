@@ -20,3 +20,5 @@ mod WrittenSteps
 mod WrittenAgents
 mod WrittenOrder
 mod WrittenPlans
+-- the lines of concurrent steps
+pub mod PackedLemmas

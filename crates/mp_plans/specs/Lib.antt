@@ -14,3 +14,5 @@ pub mod Slots
 pub mod Verdict
 -- what is told of a made problem
 pub mod Made
+-- what is told of concurrent steps
+pub mod Packed

@@ -1,5 +1,5 @@
 -- What is told of a plan that was checked.
-use Rattle.std.specs.Prelude.{ℕ, ◌==◌, [], ◌∷◌, ◌++◌, codes, decimal, if◌then◌else◌}
+use Rattle.std.specs.Prelude.{ℕ, ◌==◌, List, [], ◌∷◌, ◌++◌, codes, decimal, if◌then◌else◌}
 use Rattle.std.specs.List.{flat_map}
 use Rattle.mp_joint.specs.declared.fact.NamedFact.{NamedFact}
 use Rattle.mp_plan_verdict.specs.declared.verdict.CheckVerdict.{CheckVerdict}
@@ -7,8 +7,11 @@ use Rattle.mp_plan_verdict.specs.declared.verdict.CheckVerdict.TheVariants.{Vali
 use Rattle.mp_text.specs.Lines.{Text}
 
 -- `(NAME ARG ..)`
+abbrev pub named_text : Text → List Text → Text
+named_text name args = codes "(" ++ (name ++ (flat_map (λ arg. 32 ∷ arg) args ++ codes ")"))
+
 abbrev pub fact_text : NamedFact → Text
-fact_text fact = codes "(" ++ (fact.predicate ++ (flat_map (λ arg. 32 ∷ arg) fact.args ++ codes ")"))
+fact_text fact = named_text fact.predicate fact.args
 
 -- where something is wrong: `invalid at T`
 abbrev pub at_time : ℕ → Text

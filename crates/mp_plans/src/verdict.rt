@@ -2,7 +2,7 @@
 
 ghost use Rattle.std.specs.Prelude.{◌≡◌, ◌++◌, ◌∷◌, IfOk, OnOk};
 ghost use Rattle.std.specs.List.{flat_map};
-ghost use Rattle.mp_plans.specs.Verdict.{at_time, cost_line, fact_text, verdict_line, verdict_text as verdict_text_of};
+ghost use Rattle.mp_plans.specs.Verdict.{at_time, cost_line, fact_text, named_text, verdict_line, verdict_text as verdict_text_of};
 
 use crate::write::push_labelled;
 use mp_joint::NamedFact;
@@ -23,14 +23,21 @@ fn push_arguments(text: &mut Bytes, args: &[Name]) -> Result<(), OutOfMemory>
     Ok(())
 }
 
+/// Appends a name and its arguments between parentheses.
+pub(crate) fn push_named(text: &mut Bytes, name: &Name, args: &[Name]) -> Result<(), OutOfMemory>
+    ensures { OnOk result (text.new ≡ text.old ++ named_text name.now args.now) }
+{
+    text.extend_from_slice(b"(")?;
+    text.extend_from_slice(name.as_slice())?;
+    push_arguments(text, args)?;
+    text.extend_from_slice(b")")
+}
+
 /// Appends a fact.
 fn push_fact(text: &mut Bytes, fact: &NamedFact) -> Result<(), OutOfMemory>
     ensures { OnOk result (text.new ≡ text.old ++ fact_text fact.now) }
 {
-    text.extend_from_slice(b"(")?;
-    text.extend_from_slice(fact.predicate.as_slice())?;
-    push_arguments(text, fact.args.as_slice())?;
-    text.extend_from_slice(b")")
+    push_named(text, &fact.predicate, fact.args.as_slice())
 }
 
 /// Appends a label and a fact.
