@@ -34,7 +34,7 @@ use Rattle.mp_top.specs.declared.refusal.Refusal.TheVariants.{Files, First, Size
 use Rattle.mp_top.specs.declared.refusal.FirstRefusal.TheVariants as first
 use Rattle.mp_top.specs.declared.status.Status.TheVariants as status
 use Rattle.mp_top.proofs.Made.{never_read}
-use Rattle.mp_top.proofs.Valid.{valid_exactly}
+use Rattle.mp_top.proofs.Valid.{told_exactly}
 use Rattle.mp_plan_verdict.specs.Verdict.{verdict}
 use Rattle.mp_words.specs.Requests.{Searching, ToCheck, ToMake, ToReplay, ToSolve}
 use Rattle.mp_words.specs.Requests.Wanted.{checks, makes, replays, solves}
@@ -191,7 +191,7 @@ decided_replay held w names text team d same is holds one_each all h = (
   h.ended,
 )
 
-pub decided_check : (held : Option Held) (w : ToCheck) (names : List Two) (text : Text) (team : List Factor) (d : Decision) → names ≡ agents_of w.names → IsFirstText held (Some (record { name = w.plan; longest = longest_plan })) (Some text) → IfSome held (λ files. HoldsTeam files names team) → length team ≡ length names → All IsChecked team → ChecksFor text team d → Decides held (checks w) d
+pub decided_check : (held : Option Held) (w : ToCheck) (names : List Two) (text : Text) (team : List Factor) (d : Decision) → names ≡ agents_of w.names → IsFirstText held (Some (record { name = w.plan; longest = longest_plan })) (Some text) → IfSome held (λ files. HoldsTeam files names team) → length team ≡ length names → All IsChecked team → ChecksFor w.steps text team d → Decides held (checks w) d
 decided_check held w names text team d same is holds one_each all h = record {
   first = text;
   team = team;
@@ -206,7 +206,7 @@ decided_check held w names text team d same is holds one_each all h = record {
   empty = h.is_told.empty;
   printed = h.is_told.printed;
   is_ended = h.is_told.ended;
-  is_valid_text = valid_exactly (verdict team h.plan.plan) h.plan.cost d.status (told d) h.is_told.printed h.is_told.ended;
+  is_valid_text = told_exactly w.steps team h.plan d.status (told d) h.is_told.printed h.is_told.ended;
 }
 
 pub decided_make : (held : Option Held) (w : ToMake) (texts : List Text) (size : ℕ) (team : List Factor) (d : Decision) → texts ≡ delivery w.size w.number → size ≡ w.size → ReadsMade (agents_of texts) (Ok team) → length team ≡ length (names_of_texts (made_texts w.size w.number)) → All IsChecked team → MakesFor w.search w.work.one w.show texts size team d → Decides held (makes w) d

@@ -1,5 +1,5 @@
 -- What holds of all accepted words: they keep the limits of the program.
-use Rattle.std.proofs.Common.{◌≡◌, ℕ, ◌*◌, ◌≤◌, true, ◌&&◌, ◌||◌, not, List, [], ◌∷◌, length, map, Option, Some, None, IfSome, MatchOption, arith}
+use Rattle.std.proofs.Common.{◌≡◌, ℕ, ◌*◌, ◌≤◌, true, ◌&&◌, ◌||◌, not, List, [], ◌∷◌, length, map, Option, Some, None, IfSome, MatchOption, arith, Bool, false}
 use Rattle.std.proofs.lemmas.Bool.{and_parts, leb-true}
 use Rattle.std.proofs.lemmas.List.FromFn.{length-map-range_with_len}
 use Rattle.std.specs.List.{range_with_len}
@@ -106,17 +106,17 @@ replay_keeps a fits =
     either (is_none a.awaited && (has_no_work a && not (a.trace || a.show))) _ None KeepsLimits
     (λ is. replay_with_keeps a a.plain fits) (λ is. tt)
 
-check_with_keeps : (names : List (List ℕ)) → IfSome (check_with names) KeepsLimits
-check_with_keeps [] = tt
-check_with_keeps (plan ∷ names) =
+check_with_keeps : (steps : Bool) (names : List (List ℕ)) → IfSome (check_with steps names) KeepsLimits
+check_with_keeps steps [] = tt
+check_with_keeps steps (plan ∷ names) =
     either (is_team names) _ None KeepsLimits
     (λ is. let h = few names is in record { work = tt; made = tt; some = h.0; at_most = h.1 })
     (λ is. tt)
 
-check_keeps : (a : Asked) → Fits a → IfSome (check_of a) KeepsLimits
-check_keeps a fits =
+check_keeps : (steps : Bool) (a : Asked) → Fits a → IfSome (check_of steps a) KeepsLimits
+check_keeps steps a fits =
     either (is_none a.awaited && (has_no_search a && (has_no_work a && not (a.trace || a.show)))) _ None KeepsLimits
-    (λ is. check_with_keeps a.plain) (λ is. tt)
+    (λ is. check_with_keeps steps a.plain) (λ is. tt)
 
 made_size : (size : ℕ) → length (map made_name (range_with_len 1 size)) ≡ size
 made_size size = length-map-range_with_len made_name 1 size
@@ -163,8 +163,9 @@ by_command : (command : List ℕ) (a : Asked) → Fits a → IfSome (command_of 
 by_command command a fits =
     either (bytes_eq command (codes "solve")) _ _ KeepsLimits (λ is. solve_keeps a fits)
     (λ _. either (bytes_eq command (codes "replay")) _ _ KeepsLimits (λ is. replay_keeps a fits)
-    (λ _. either (bytes_eq command (codes "check")) _ _ KeepsLimits (λ is. check_keeps a fits)
-    (λ _. either (bytes_eq command (codes "make")) _ None KeepsLimits (λ is. make_keeps a fits) (λ is. tt))))
+    (λ _. either (bytes_eq command (codes "check")) _ _ KeepsLimits (λ is. check_keeps false a fits)
+    (λ _. either (bytes_eq command (codes "steps")) _ _ KeepsLimits (λ is. check_keeps true a fits)
+    (λ _. either (bytes_eq command (codes "make")) _ None KeepsLimits (λ is. make_keeps a fits) (λ is. tt)))))
 
 wanted_keeps : (words : List (List ℕ)) → IfSome (request_of words) KeepsLimits
 wanted_keeps [] = tt

@@ -1,14 +1,17 @@
 -- The outcome of a request, before it is printed.
-use Rattle.std.specs.Prelude.{◌≡◌, ◌++◌, ℕ, Bool, true, List, length, Ok, Option}
+use Rattle.std.specs.Prelude.{◌≡◌, ◌==◌, ◌++◌, ℕ, Bool, true, List, length, Ok, Option, if◌then◌else◌}
 use Rattle.mp_factor.specs.declared.factor.Factor.{Factor}
 use Rattle.mp_joint.specs.Fact.{Text}
 use Rattle.mp_ground.specs.declared.refusal.GroundRefusal.{GroundRefusal}
 use Rattle.mp_outside.specs.Source.{Files as Held}
 use Rattle.mp_plan_verdict.specs.Verdict.{verdict}
 use Rattle.mp_plan_verdict.specs.declared.verdict.CheckVerdict.{CheckVerdict}
+use Rattle.mp_plan_verdict.specs.declared.verdict.CheckVerdict.TheVariants.{Valid}
+use Rattle.mp_plans.specs.Packed.{steps_text}
 use Rattle.mp_plans.specs.Plan.{plan_in}
 use Rattle.mp_plans.specs.Verdict.{verdict_text}
 use Rattle.mp_plans.specs.declared.plan.PlanText.{PlanText}
+use Rattle.mp_steps.specs.declared.plan.Packed.{Packed}
 use Rattle.mp_solutions.specs.declared.solution.Solution.{Solution}
 use Rattle.mp_solve.specs.declared.refusal.ReplayRefusal.{ReplayRefusal}
 use Rattle.mp_solve.specs.declared.refusal.ReplayRefusal.TheVariants as replay
@@ -16,7 +19,7 @@ use Rattle.mp_split.specs.Team.{IsFirstRefusal}
 use Rattle.mp_top.specs.Asked.{Work}
 use Rattle.mp_top.specs.Asked.Work.{checked, replayed, searched}
 use Rattle.mp_top.specs.First.{IsTextLineRefused}
-use Rattle.mp_top.specs.Outcome.{IsOutcome, IsReplayedBy, IsSolved, answer_status, plan_status, printed_text, told_made}
+use Rattle.mp_top.specs.Outcome.{IsOutcome, IsReplayedBy, IsSolved, answer_status, plan_status, printed_text, told_made, told_plan}
 use Rattle.mp_top.specs.Report.{IsEmptyReport}
 use Rattle.mp_top.specs.declared.decision.Decision.{Decision}
 use Rattle.mp_top.specs.declared.decision.Search.{Search}
@@ -79,6 +82,20 @@ pub record MakesFor
   pub printed : told d ≡ told_made show texts size d.answer
   pub ended : d.status ≡ answer_status d.answer
 
+-- the steps of a plan that solves at this cost are told, where its text states the cost, and else the cost
+pub record IsToldOfSteps (packed : Packed) (plan : PlanText) (d : Decision) : Type 0 where
+  pub empty : IsEmptyReport (report_of d)
+  pub printed :
+      told d ≡ (if packed.cost == plan.cost then steps_text plan.plan packed
+      else verdict_text (Valid packed.cost) plan.cost)
+  pub ended : d.status ≡ plan_status (Valid packed.cost) plan.cost
+
+-- what is told of a plan of a team, with its steps where they are asked for
+pub record IsToldByTeam (steps : Bool) (team : List Factor) (plan : PlanText) (d : Decision) : Type 0 where
+  pub empty : IsEmptyReport (report_of d)
+  pub printed : told d ≡ told_plan steps team plan
+  pub ended : d.status ≡ plan_status (verdict team plan.plan) plan.cost
+
 -- what is found of a plan is told, with an empty report
 pub record IsToldOfPlan (found : CheckVerdict) (stated : ℕ) (d : Decision) : Type 0 where
   pub empty : IsEmptyReport (report_of d)
@@ -86,10 +103,10 @@ pub record IsToldOfPlan (found : CheckVerdict) (stated : ℕ) (d : Decision) : T
   pub ended : d.status ≡ plan_status found stated
 
 -- what is found of the plan of a text
-pub record ChecksFor (text : Text) (team : List Factor) (d : Decision) : Type 0 where
+pub record ChecksFor (steps : Bool) (text : Text) (team : List Factor) (d : Decision) : Type 0 where
   pub plan : PlanText
   pub is_plan : plan_in (length team) text ≡ Ok plan
-  pub is_told : IsToldOfPlan (verdict team plan.plan) plan.cost d
+  pub is_told : IsToldByTeam steps team plan d
 
 -- what is said of a schedule that is not replayed
 abbrev pub refusal_of : ReplayRefusal → Refusal

@@ -1,7 +1,9 @@
 -- What is printed for a request, and the report.
-use Rattle.std.specs.Prelude.{◌≡◌, ◌↔◌, decimal, ℕ, ◌==◌, List, [], ◌∷◌, ◌++◌, length, codes, Bool, true, false, Option, Some, None, Ok, All, if◌then◌else◌}
+use Rattle.std.specs.Prelude.{◌≡◌, ◌↔◌, decimal, ℕ, ◌==◌, ◌&&◌, List, [], ◌∷◌, ◌++◌, length, codes, Bool, true, false, Option, Some, None, Ok, All, if◌then◌else◌}
 use Rattle.mp_factor.specs.declared.factor.Factor.{Factor}
 use Rattle.mp_joint.specs.Fact.{Text}
+use Rattle.mp_joint.specs.FactorContribution.{team_of}
+use Rattle.mp_joint.specs.declared.plan.PlanStep.{PlanStep}
 use Rattle.mp_logs.specs.Alike.{AreAlike}
 use Rattle.mp_outside.specs.Source.{Files}
 use Rattle.mp_messages.specs.declared.history.Entry.{Entry}
@@ -10,9 +12,12 @@ use Rattle.mp_plan_verdict.specs.Verdict.{verdict}
 use Rattle.mp_plan_verdict.specs.declared.verdict.CheckVerdict.{CheckVerdict}
 use Rattle.mp_plan_verdict.specs.declared.verdict.CheckVerdict.TheVariants.{Valid}
 use Rattle.mp_plans.specs.Made.{made_text, shown_text}
+use Rattle.mp_plans.specs.Packed.{steps_text}
 use Rattle.mp_plans.specs.Plan.{plan_in}
 use Rattle.mp_plans.specs.Verdict.{verdict_text}
 use Rattle.mp_plans.specs.declared.plan.PlanText.{PlanText}
+use Rattle.mp_steps.specs.PlanSteps.{plan_chain, plan_steps}
+use Rattle.mp_steps.specs.declared.plan.Packed.{Packed}
 use Rattle.mp_text.specs.Alike.{TellTheSame}
 use Rattle.mp_text.specs.Trace.{trace_text}
 use Rattle.mp_words.specs.Requests.{Searching, Wanted}
@@ -144,11 +149,30 @@ plan_status found stated = if is_valid found stated then status.Solved else stat
 abbrev pub valid_text : ℕ → Text
 valid_text cost = (codes "valid cost " ++ decimal cost) ++ 10 ∷ []
 
--- A plan that is checked: what is found of it is printed, the status is that of a valid plan exactly where the text is, and
--- the report is empty.
+-- the steps and the chain of a plan of a team, with this cost
+abbrev pub packing_of : List Factor → List PlanStep → ℕ → Packed
+packing_of team plan cost =
+    record { cost = cost; steps = plan_steps (team_of team) plan; chain = plan_chain (team_of team) plan }
+
+-- what is told of a plan: its steps, where they are asked for and it solves at the cost that its text states, and else what
+-- is found of it
+abbrev pub told_plan : Bool → List Factor → PlanText → Text
+told_plan steps team plan =
+    if steps && is_valid (verdict team plan.plan) plan.cost
+    then steps_text plan.plan (packing_of team plan.plan plan.cost)
+    else verdict_text (verdict team plan.plan) plan.cost
+
+-- the text says that a plan solves at the cost that its text states
+abbrev pub TellsValid : Bool → List Factor → PlanText → Text → Type 0
+TellsValid false team plan text = (cost : ℕ) × (text ≡ valid_text cost)
+TellsValid true team plan text = text ≡ steps_text plan.plan (packing_of team plan.plan plan.cost)
+
+-- A plan that is checked: what is found of it is printed, or its steps, the status is that of a valid plan exactly where the
+-- text says so, and the report is empty.
 pub record IsOutcomeOfCheck
     (held : Option Files)
     (request : TeamRequest)
+    (steps : Bool)
     (report : Report)
     (ended : Status)
     (text : Text)
@@ -159,9 +183,9 @@ pub record IsOutcomeOfCheck
   pub plan : PlanText
   pub is_plan : plan_in (length team) first ≡ Ok plan
   pub empty : IsEmptyReport report
-  pub printed : text ≡ verdict_text (verdict team plan.plan) plan.cost
+  pub printed : text ≡ told_plan steps team plan
   pub is_ended : ended ≡ plan_status (verdict team plan.plan) plan.cost
-  pub is_valid_text : (ended ≡ status.Solved) ↔ ((cost : ℕ) × (text ≡ valid_text cost))
+  pub is_valid_text : (ended ≡ status.Solved) ↔ TellsValid steps team plan text
 
 -- what is printed for a request, with the report and the status of its outcome
 abbrev pub IsOutcome : Option Files → Wanted → Report → Status → Text → Type 0
@@ -172,7 +196,7 @@ IsOutcome held (replays w) report ended text =
     IsOutcomeOfReplay held (team_request (replays w)) w.search report text
     × (ended ≡ answer_status report.answer)
 IsOutcome held (checks w) report ended text =
-    IsOutcomeOfCheck held (team_request (checks w)) report ended text
+    IsOutcomeOfCheck held (team_request (checks w)) w.steps report ended text
 IsOutcome held (makes w) report ended text =
     IsOutcomeOfMake held (team_request (makes w)) w.search w.work.one w.show w.size w.number report text
     × (ended ≡ answer_status report.answer)

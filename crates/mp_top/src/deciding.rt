@@ -119,7 +119,7 @@ pub(crate) fn decide_check<S: Source>(
         Err(refusal) => return Err(Refusal::Files(refusal)),
     };
     checked_factors_are_checked(team.as_slice());
-    check_for(alloc, team.as_slice(), text.as_slice())
+    check_for(alloc, team.as_slice(), text.as_slice(), request.steps)
 }
 
 /// The size of a team that is made.

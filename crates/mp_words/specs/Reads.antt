@@ -40,7 +40,7 @@ replay_by r = record {
 }
 
 abbrev pub check_by : Check → ToCheck
-check_by c = record { plan = c.plan.now; names = map (λ name. name.now) c.names.items }
+check_by c = record { steps = c.steps; plan = c.plan.now; names = map (λ name. name.now) c.names.items }
 
 abbrev pub make_by : Make → ToMake
 make_by m = record {

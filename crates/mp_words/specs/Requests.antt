@@ -1,5 +1,5 @@
 -- Which requests are accepted.
-use Rattle.std.specs.Prelude.{ℕ, ◌==◌, ◌%◌, ◌&&◌, nat_le, Bool, List, [], ◌∷◌, Option, Some, None, option_and_then, option_map, unwrap_or, codes, length, take_while, not, ◌||◌, true, if◌then◌else◌}
+use Rattle.std.specs.Prelude.{ℕ, ◌==◌, ◌%◌, ◌&&◌, nat_le, Bool, List, [], ◌∷◌, Option, Some, None, option_and_then, option_map, unwrap_or, codes, length, take_while, not, ◌||◌, true, false, if◌then◌else◌}
 use Rattle.std.specs.List.{list_any}
 use Rattle.std.specs.Option.{is_none, is_some}
 use Rattle.std.specs.Str.{bytes_eq}
@@ -35,6 +35,8 @@ pub record ToReplay : Type 0 where
 
 -- whether the plan in a file solves the united problem of these files at the cost that it states
 pub record ToCheck : Type 0 where
+  -- the steps of a plan that does are printed, of actions that may be done at the same time
+  pub steps : Bool
   pub plan : List ℕ
   pub names : List (List ℕ)
 
@@ -103,14 +105,15 @@ abbrev pub has_no_search : Asked → Bool
 has_no_search a = not (is_some a.limit || is_some a.heuristic)
 
 -- the names of the agents' files behind that of the plan
-abbrev pub check_with : List (List ℕ) → Option Wanted
-check_with [] = None
-check_with (plan ∷ names) = if is_team names then Some (checks (record { plan = plan; names = names })) else None
+abbrev pub check_with : Bool → List (List ℕ) → Option Wanted
+check_with steps [] = None
+check_with steps (plan ∷ names) =
+    if is_team names then Some (checks (record { steps = steps; plan = plan; names = names })) else None
 
--- `check PLAN D1 P1 D2 P2 ..`
-abbrev pub check_of : Asked → Option Wanted
-check_of a =
-    if is_none a.awaited && (has_no_search a && (has_no_work a && not (a.trace || a.show))) then check_with a.plain
+-- `check PLAN D1 P1 D2 P2 ..`, and the same for `steps`
+abbrev pub check_of : Bool → Asked → Option Wanted
+check_of steps a =
+    if is_none a.awaited && (has_no_search a && (has_no_work a && not (a.trace || a.show))) then check_with steps a.plain
     else None
 
 -- a size is 1 to 8, and a number up to 999,999
@@ -137,7 +140,8 @@ abbrev pub command_of : List ℕ → Asked → Option Wanted
 command_of command a =
     if bytes_eq command (codes "solve") then solve_of a
     else if bytes_eq command (codes "replay") then replay_of a
-    else if bytes_eq command (codes "check") then check_of a
+    else if bytes_eq command (codes "check") then check_of false a
+    else if bytes_eq command (codes "steps") then check_of true a
     else if bytes_eq command (codes "make") then make_of a else None
 
 -- A command, and behind it its options, anywhere, and its plain words.

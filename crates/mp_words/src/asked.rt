@@ -51,6 +51,8 @@ pub struct Replay<'a> {
 
 /// Whether a plan solves the united problem of these files at the cost that it states.
 pub struct Check<'a> {
+    /// Whether the steps of a plan that does are printed, of actions that may be done at the same time.
+    pub steps: bool,
     /// The name of the file with the plan.
     pub plan: &'a str,
     /// The names of the agents' files, an agent's domain and then its problem.
@@ -111,6 +113,10 @@ impl<'a> Drop for Replay<'a> {
 
 impl<'a> Drop for Check<'a> {
     fn drop(self) {
-        let Check { plan: _, names: _ } = self;
+        let Check {
+            steps: _,
+            plan: _,
+            names: _,
+        } = self;
     }
 }

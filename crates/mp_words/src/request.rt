@@ -73,10 +73,10 @@ fn replay_in(mut read: Read<'_>) -> Option<Request<'_>>
     }))
 }
 
-/// What `check` asks for with this.
-fn check_in(mut read: Read<'_>) -> Option<Request<'_>>
-    ensures { MatchOption result (check_of (asked_by read.entry) ≡ None)
-        (λ r. check_of (asked_by read.entry) ≡ Some (wanted_by r)) }
+/// What `check` asks for with this, or `steps`.
+fn check_in(steps: bool, mut read: Read<'_>) -> Option<Request<'_>>
+    ensures { MatchOption result (check_of steps (asked_by read.entry) ≡ None)
+        (λ r. check_of steps (asked_by read.entry) ≡ Some (wanted_by r)) }
 {
     if read.awaited.is_some() || !has_no_options(&read) || !has_no_workers(&read) {
         return None;
@@ -86,6 +86,7 @@ fn check_in(mut read: Read<'_>) -> Option<Request<'_>>
     }
     let plan = read.plain.remove(0);
     Some(Request::Check(Check {
+        steps,
         plan,
         names: read.plain,
     }))
@@ -130,7 +131,10 @@ fn command_in<'a>(command: &str, read: Read<'a>) -> Option<Request<'a>>
         return replay_in(read);
     }
     if command == "check" {
-        return check_in(read);
+        return check_in(false, read);
+    }
+    if command == "steps" {
+        return check_in(true, read);
     }
     if command == "make" {
         return make_in(read);

@@ -39,9 +39,9 @@ returns-clause-outcome g c =
     let holds : IfSome held (λ files. HoldsTeam files (map names_of c.args.files.now) c.in-Ok.team) =
     subst (λ o. IfSome o (λ files. HoldsTeam files (map names_of c.args.files.now) c.in-Ok.team)) c.in_ok-text.ensures.held c.in-Ok.ensures.team in
     let all : All IsChecked c.in-Ok.team = subst (All IsChecked) c.as_slice.ensures c.checked_factors_are_checked.ensures in
-    weaker c.check_for.result (ChecksFor c.as_slice-3.result.now c.as_slice-2.result.now) (Decides held (checks w))
+    weaker c.check_for.result (ChecksFor w.steps c.as_slice-3.result.now c.as_slice-2.result.now) (Decides held (checks w))
     (λ d h. decided_check held w (map names_of c.args.files.now) c.in_ok-text.text.items c.in-Ok.team d c.requires.names c.in_ok-text.ensures.text
     holds (as_many names_of c.args.files.now (map names_of c.args.files.now) (length c.in-Ok.team) refl c.in-Ok.ensures.number) all
-    (subst (λ t. ChecksFor t c.in-Ok.team d) c.as_slice-3.ensures.value
-    (subst (λ t. ChecksFor c.as_slice-3.result.now t d) c.as_slice-2.ensures h)))
+    (subst (λ t. ChecksFor w.steps t c.in-Ok.team d) c.as_slice-3.ensures.value
+    (subst (λ t. ChecksFor w.steps c.as_slice-3.result.now t d) c.as_slice-2.ensures h)))
     c.check_for.ensures.outcome
