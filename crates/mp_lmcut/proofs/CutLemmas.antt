@@ -1,13 +1,17 @@
--- The cut by marks: its least cost, and operators that get cheaper one after another.
-use Rattle.std.proofs.Common.{◌≡◌, ℕ, zero, suc, ◌+◌, ◌-◌, ◌<◌, ◌≤◌, Bool, true, false, cond, min, Option, Some, None, List, [], ◌∷◌, length, map, drop, refl, sym, ap, ◌∙◌, ⊎_elim, arith}
-use Rattle.std.proofs.lemmas.Bool.{cases_Bool}
+-- The costs of a cut: the least of them, and operators that get cheaper one after another.
+use Rattle.std.proofs.Common.{◌≡◌, ◌≢◌, ℕ, zero, suc, ◌+◌, ◌-◌, ◌<◌, ◌≤◌, Bool, true, false, cond, eqb, ◌||◌, min, Option, Some, None, List, [], ◌∷◌, length, get_or, take, drop, All, refl, sym, ap, ◌∙◌, arith}
+use Rattle.std.proofs.lemmas.Bool.{eq-eqb, ne_eqb, or_right}
 use Rattle.std.proofs.lemmas.List.{drop_more}
-use Rattle.std.specs.List.{filter}
+use Rattle.std.proofs.lemmas.List.Elements.{All-cons, All-head, All-nil, All-tail}
+use Rattle.std.proofs.lemmas.List.Folds.{list_any_more}
+use Rattle.std.specs.List.{list_any}
+use Rattle.std.specs.Option.{unwrap_or}
 use Rattle.mp_task.specs.Strips.{Operator}
-use Rattle.mp_estimates.specs.Estimates.{lesser}
+use Rattle.mp_estimates.specs.Estimates.{AtMost, lesser}
+use Rattle.mp_estimates.specs.Laws.Order.{AtMost-trans, lesser_both, lesser_left, lesser_right}
 use Rattle.mp_relaxed.specs.Relaxed.{RelaxedProblem, operator_at, with_cheaper}
 use Rattle.mp_lmcut.specs.Cut.{cheaper_where, least}
-use Rattle.mp_lmcut.specs.Sides.{least_where}
+use Rattle.mp_lmcut.specs.Sides.{lowered_at}
 
 -- the least cost
 
@@ -21,75 +25,83 @@ pub lesser-none : (a : Option ℕ) → lesser a None ≡ a
 lesser-none None = refl
 lesser-none (Some m) = refl
 
-module _ (cut : Operator → Bool) where
-  with_head : (o : Operator) (os : List Operator) (known : Option ℕ) → lesser (cond (cut o) (lesser known (Some o.cost)) known) (least_where cut os) ≡ lesser known (least_where cut (o ∷ os))
-  with_head o os known = by (cut o)
-    where
-      by : (b : Bool) → lesser (cond b (lesser known (Some o.cost)) known) (least_where cut os) ≡ lesser known (least (map (λ q. q.cost) (cond b (o ∷ filter cut os) (filter cut os))))
-      by true = lesser-assoc known (Some o.cost) (least_where cut os)
-      by false = refl
+pub least_more : (costs : List ℕ) (i d : ℕ) (known : Option ℕ) → i < length costs → lesser (lesser known (Some (get_or costs i d))) (least (drop (i + 1) costs)) ≡ lesser known (least (drop i costs))
+least_more costs i d known lt =
+    lesser-assoc known (Some (get_or costs i d)) (least (drop (i + 1) costs))
+    ∙ ap (λ l. lesser known (least l)) (sym (drop_more costs i d lt))
 
-  pub least_more : (os : List Operator) (k : ℕ) (known : Option ℕ) → k < length os → lesser (cond (cut (operator_at os k)) (lesser known (Some (operator_at os k).cost)) known) (least_where cut (drop (k + 1) os)) ≡ lesser known (least_where cut (drop k os))
-  least_more os k known lt =
-      with_head (operator_at os k) (drop (k + 1) os) known
-      ∙ ap (λ l. lesser known (least_where cut l)) (sym (drop_more os k _ lt))
+-- it is at most each, and at least what each is at least
 
-  -- operators of which the first ones are cheaper where they are in the cut
+pub least_low : (costs : List ℕ) → All (λ c. AtMost (least costs) (Some c)) costs
+least_low [] = All-nil (λ c. AtMost None (Some c))
+least_low (d ∷ costs) =
+    All-cons (λ c. AtMost (lesser (Some d) (least costs)) (Some c)) d costs (lesser_left (Some d) (least costs))
+    (λ k e lt. AtMost-trans (lesser (Some d) (least costs)) (least costs) (Some (get_or costs k e)) (lesser_right (Some d) (least costs)) (least_low costs k e lt))
 
-  module _ (by : ℕ) where
-    abbrev pub lowered_first : ℕ → List Operator → List Operator
-    lowered_first zero os = os
-    lowered_first (suc k) [] = []
-    lowered_first (suc k) (o ∷ os) = record o { cost = cond (cut o) (o.cost - by) o.cost } ∷ lowered_first k os
+pub least_high : (c : Option ℕ) (costs : List ℕ) → All (λ n. AtMost c (Some n)) costs → AtMost c (least costs)
+least_high c [] h = tt
+least_high c (d ∷ costs) h =
+    lesser_both c (Some d) (least costs) (All-head (λ n. AtMost c (Some n)) d costs h) (least_high c costs (All-tail (λ n. AtMost c (Some n)) d costs h))
 
-    pub length-lowered_first : (k : ℕ) (os : List Operator) → length (lowered_first k os) ≡ length os
-    length-lowered_first zero os = refl
-    length-lowered_first (suc k) [] = refl
-    length-lowered_first (suc k) (o ∷ os) = ap suc (length-lowered_first k os)
+or_none : (a : Option ℕ) (c : ℕ) → AtMost a (Some c) → unwrap_or a 0 ≤ c
+or_none None c h = absurd h
+or_none (Some n) c h = h
 
-    -- the next one is as it was
-    pub next_same : (k : ℕ) (os : List Operator) → operator_at (lowered_first k os) k ≡ operator_at os k
-    next_same zero os = refl
-    next_same (suc k) [] = refl
-    next_same (suc k) (o ∷ os) = next_same k os
+pub least_enough : (costs : List ℕ) → All (λ c. unwrap_or (least costs) 0 ≤ c) costs
+least_enough costs = λ k d lt. or_none (least costs) (get_or costs k d) (least_low costs k d lt)
 
-    inside_next : (k : ℕ) (os : List Operator) → k < length os → cut (operator_at os k) ≡ true → with_cheaper k by (lowered_first k os) ≡ lowered_first (suc k) os
-    inside_next k [] lt e = absurd (omega (arith, lt))
-    inside_next zero (o ∷ os) lt e = ap (λ b. record o { cost = cond b (o.cost - by) o.cost } ∷ os) (sym e)
-    inside_next (suc k) (o ∷ os) lt e = ap (λ l. record o { cost = cond (cut o) (o.cost - by) o.cost } ∷ l) (inside_next k os (omega (arith, lt)) e)
+-- operators of which some are cheaper
 
-    outside_next : (k : ℕ) (os : List Operator) → cut (operator_at os k) ≡ false → lowered_first k os ≡ lowered_first (suc k) os
-    outside_next zero [] e = refl
-    outside_next (suc k) [] e = refl
-    outside_next zero (o ∷ os) e = ap (λ b. record o { cost = cond b (o.cost - by) o.cost } ∷ os) (sym e)
-    outside_next (suc k) (o ∷ os) e = ap (λ l. record o { cost = cond (cut o) (o.cost - by) o.cost } ∷ l) (outside_next k os e)
+pub length-lowered_at : (chosen : ℕ → Bool) (by : ℕ) (os : List Operator) → length (lowered_at chosen by os) ≡ length os
+length-lowered_at chosen by [] = refl
+length-lowered_at chosen by (o ∷ os) = ap suc (length-lowered_at (λ k. chosen (suc k)) by os)
 
-    one_more : (k : ℕ) → suc k ≡ k + 1
-    one_more k = omega arith
+pub cost_lowered : (chosen : ℕ → Bool) (by : ℕ) (os : List Operator) (k : ℕ) → (operator_at os k).cost - by ≤ (operator_at (lowered_at chosen by os) k).cost
+cost_lowered chosen by [] k = omega arith
+cost_lowered chosen by (o ∷ os) zero = at (chosen 0)
+  where
+    at : (b : Bool) → o.cost - by ≤ cond b (o.cost - by) o.cost
+    at true = omega arith
+    at false = omega arith
+cost_lowered chosen by (o ∷ os) (suc k) = cost_lowered (λ j. chosen (suc j)) by os k
 
-    pub lowered_inside : (k : ℕ) (os : List Operator) → k < length os → cut (operator_at os k) ≡ true → with_cheaper k by (lowered_first k os) ≡ lowered_first (k + 1) os
-    lowered_inside k os lt e = inside_next k os lt e ∙ ap (λ n. lowered_first n os) (one_more k)
+pub lowered_none : (by : ℕ) (os : List Operator) → lowered_at (λ _. false) by os ≡ os
+lowered_none by [] = refl
+lowered_none by (o ∷ os) = ap (λ l. o ∷ l) (lowered_none by os)
 
-    pub lowered_outside : (k : ℕ) (os : List Operator) → cut (operator_at os k) ≡ false → lowered_first k os ≡ lowered_first (k + 1) os
-    lowered_outside k os e = outside_next k os e ∙ ap (λ n. lowered_first n os) (one_more k)
+-- one more of them gets its new cost, whether it had it already or not
+pub lowered_one : (chosen later : ℕ → Bool) (by : ℕ) (os : List Operator) (k : ℕ) → k < length os → by ≤ (operator_at os k).cost → later k ≡ true → ((j : ℕ) → j ≢ k → later j ≡ chosen j) → with_cheaper k ((operator_at (lowered_at chosen by os) k).cost - ((operator_at os k).cost - by)) (lowered_at chosen by os) ≡ lowered_at later by os
+lowered_one chosen later by [] k lt le one others = absurd (omega (arith, lt))
+lowered_one chosen later by (o ∷ os) zero lt le one others = λ i.
+    record o { cost = (here (chosen 0) ∙ ap (λ b. cond b (o.cost - by) o.cost) (sym one)) i }
+    ∷ lowered_at (λ j. sym (others (suc j) (λ e. absurd (omega (arith, e)))) i) by os
+  where
+    here : (b : Bool) → cond b (o.cost - by) o.cost - (cond b (o.cost - by) o.cost - (o.cost - by)) ≡ o.cost - by
+    here true = omega arith
+    here false = omega (arith, le)
+lowered_one chosen later by (o ∷ os) (suc k) lt le one others = λ i.
+    record o { cost = cond (sym (others 0 (λ e. absurd (omega (arith, e)))) i) (o.cost - by) o.cost }
+    ∷ lowered_one (λ j. chosen (suc j)) (λ j. later (suc j)) by os k (omega (arith, lt)) le one (λ j ne. others (suc j) (λ e. ne (let same : j ≡ k = omega (arith, e) in same))) i
 
-    pub lowered_all : (k : ℕ) (os : List Operator) → length os ≤ k → lowered_first k os ≡ cheaper_where cut by os
-    lowered_all zero [] le = refl
-    lowered_all zero (o ∷ os) le = absurd (omega (arith, le))
-    lowered_all (suc k) [] le = refl
-    lowered_all (suc k) (o ∷ os) le = ap (λ l. record o { cost = cond (cut o) (o.cost - by) o.cost } ∷ l) (lowered_all k os (omega (arith, le)))
+-- those whose numbers pass a test are those that pass another one
+pub lowered_same : (chosen : ℕ → Bool) (such : Operator → Bool) (by : ℕ) (os : List Operator) → ((k : ℕ) → k < length os → chosen k ≡ such (operator_at os k)) → lowered_at chosen by os ≡ cheaper_where such by os
+lowered_same chosen such by [] same = refl
+lowered_same chosen such by (o ∷ os) same = λ i.
+    record o { cost = cond (same 0 (omega arith) i) (o.cost - by) o.cost }
+    ∷ lowered_same (λ k. chosen (suc k)) such by os (λ k lt. same (suc k) (omega (arith, lt))) i
 
-    pub next_in : (r now : RelaxedProblem) (k : ℕ) → now ≡ record r { operators = lowered_first k r.operators } → operator_at now.operators k ≡ operator_at r.operators k
-    next_in r now k is = ap (λ (m : RelaxedProblem). operator_at m.operators k) is ∙ next_same k r.operators
-
-    pub lowered_step : (r now later : RelaxedProblem) (k : ℕ) → k < length r.operators → now ≡ record r { operators = lowered_first k r.operators } → (cut (operator_at now.operators k) ≡ true → later ≡ record now { operators = with_cheaper k by now.operators }) → (cut (operator_at now.operators k) ≡ false → later ≡ now) → later ≡ record r { operators = lowered_first (k + 1) r.operators }
-    lowered_step r now later k lt is inside outside = ⊎_elim
-        (λ e.
-        inside e
-        ∙ ap (λ (m : RelaxedProblem). record m { operators = with_cheaper k by m.operators }) is
-        ∙ ap (λ os. record r { operators = os }) (lowered_inside k r.operators lt (sym (ap cut (next_in r now k is)) ∙ e)))
-        (λ e.
-        outside e
-        ∙ is
-        ∙ ap (λ os. record r { operators = os }) (lowered_outside k r.operators (sym (ap cut (next_in r now k is)) ∙ e)))
-        (cases_Bool (cut (operator_at now.operators k)))
+-- the next one of a list of them
+pub lowered_next : (r now later : RelaxedProblem) (cut : List ℕ) (by i cost : ℕ) → i < length cut → get_or cut i 0 < length r.operators → by ≤ (operator_at r.operators (get_or cut i 0)).cost → cost ≡ (operator_at r.operators (get_or cut i 0)).cost - by → now ≡ record r { operators = lowered_at (λ k. list_any (λ j. eqb j k) (take i cut)) by r.operators } → later ≡ record now { operators = with_cheaper (get_or cut i 0) ((operator_at now.operators (get_or cut i 0)).cost - cost) now.operators } → later ≡ record r { operators = lowered_at (λ k. list_any (λ j. eqb j k) (take (i + 1) cut)) by r.operators }
+lowered_next r now later cut by i cost lt within enough paid is after =
+    let k : ℕ = get_or cut i 0 in
+    after
+    ∙ ap (λ (m : RelaxedProblem). record m { operators = with_cheaper k ((operator_at m.operators k).cost - cost) m.operators }) is
+    ∙ ap (λ n. record r { operators = with_cheaper k ((operator_at (lowered_at (λ j. list_any (λ q. eqb q j) (take i cut)) by r.operators) k).cost - n) (lowered_at (λ j. list_any (λ q. eqb q j) (take i cut)) by r.operators) }) paid
+    ∙ ap (λ os. record r { operators = os })
+    (lowered_one (λ j. list_any (λ q. eqb q j) (take i cut)) (λ j. list_any (λ q. eqb q j) (take (i + 1) cut)) by r.operators k within enough
+    (list_any_more (λ q. eqb q k) cut i 0 lt ∙ or_right (list_any (λ q. eqb q k) (take i cut)) (eqb k k) (eq-eqb k k refl))
+    (λ j ne. list_any_more (λ q. eqb q j) cut i 0 lt ∙ ap (λ b. list_any (λ q. eqb q j) (take i cut) || b) (ne_eqb k j (λ e. ne (sym e))) ∙ or_false (list_any (λ q. eqb q j) (take i cut))))
+  where
+    or_false : (b : Bool) → (b || false) ≡ b
+    or_false true = refl
+    or_false false = refl

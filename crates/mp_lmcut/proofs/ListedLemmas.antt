@@ -1,47 +1,137 @@
 -- The operators of a cut as a list, and that they alone get cheaper.
-use Rattle.std.proofs.Common.{◌≡◌, ℕ, zero, suc, ◌+◌, ◌-◌, ◌<◌, ◌≤◌, Bool, true, false, cond, List, [], ◌∷◌, ◌++◌, length, All, Contains, refl, sym, ap, ◌∙◌, subst, ⊎_elim, arith}
-use Rattle.std.proofs.lemmas.Bool.{both_ways, cases_Bool, cases_eq}
-use Rattle.std.proofs.lemmas.List.Elements.{All-append, All-cons, All-nil, Contains-append_left, Contains-append_right}
+use Rattle.std.proofs.Common.{◌≡◌, ℕ, zero, suc, ◌-◌, ◌<◌, ◌≤◌, Bool, true, false, cond, eqb, ◌||◌, Some, List, [], ◌∷◌, ◌++◌, length, map, get_or, All, Contains, refl, sym, ap, ◌∙◌, subst, ⊎_elim, arith}
+use Rattle.std.proofs.lemmas.Bool.{and_parts, both_ways, cases_Bool, eq-eqb, false≢true, false_from_ne_true, or_left, or_right}
+use Rattle.std.proofs.lemmas.List.{get_or_default, map-append}
+use Rattle.std.proofs.lemmas.List.Elements.{All-append, All-cons, All-contains, All-filter, All-map, All-nil, Contains-append_left, Contains-push, filter_passes}
+use Rattle.std.specs.List.{filter, list_any}
+use Rattle.std.specs.Option.{unwrap_or}
+use Rattle.mp_sets.proofs.NumbersLemmas.{All_at}
 use Rattle.mp_task.specs.Strips.{Operator}
-use Rattle.mp_relaxed.specs.Relaxed.{AreCheaper, operator_at}
-use Rattle.mp_lmcut.specs.Cut.{cheaper_where, priced_by}
-use Rattle.mp_lmcut.specs.Sides.{ListsFirst}
+use Rattle.mp_estimates.specs.Estimates.{AtMost, Values}
+use Rattle.mp_estimates.specs.Laws.Order.{AtMost-antisym}
+use Rattle.mp_relaxed.specs.Relaxed.{AreCheaper, RelaxedProblem, operator_at}
+use Rattle.mp_relaxed.proofs.TimesLemmas.{times_contained}
+use Rattle.mp_lmcut.specs.Cut.{cheaper_where, least, priced_by}
+use Rattle.mp_lmcut.specs.Laws.Lists.{All_filtered, All_mapped}
+use Rattle.mp_lmcut.specs.Marked.{is_marked}
+use Rattle.mp_lmcut.specs.Sides.{AreListed, AreNoted, HaveNoted, is_between, least_where, lowered_at}
 use Rattle.mp_lmcut.proofs.CostLemmas.{add_at, length-priced_by}
+use Rattle.mp_lmcut.proofs.CutLemmas.{least_high, least_low, lowered_same}
+use Rattle.mp_lmcut.proofs.MarkLemmas.{marked_below}
+use Rattle.mp_lmcut.proofs.ZoneLemmas.{any_times}
 
 module _ (such : Operator → Bool) (os : List Operator) where
-  pub listed_none : ListsFirst such os 0 []
+  pub listed_none : AreListed such os [] []
   listed_none = record {
-    all = λ k lt e. absurd (omega (arith, lt));
     below = All-nil (λ k. k < length os);
+    inside = All-nil (λ k. such (operator_at os k) ≡ true);
+    paid = refl;
   }
 
-  listed_more : (k : ℕ) (cut : List ℕ) → k < length os → ListsFirst such os k cut → ListsFirst such os (k + 1) (cut ++ k ∷ [])
-  listed_more k cut within h = record {
-    all = λ j lt e. ⊎_elim
-        (λ same.
-        subst (Contains (cut ++ k ∷ [])) (sym same)
-        (Contains-append_right cut (k ∷ []) k (0, (let one : 0 < 1 = omega arith in one), refl)))
-        (λ ne. Contains-append_left cut (k ∷ []) j (h.all j (omega arith) e))
-        (cases_eq j k);
+  listed_push : (k : ℕ) (cut costs : List ℕ) → k < length os → such (operator_at os k) ≡ true → AreListed such os cut costs → AreListed such os (cut ++ k ∷ []) (costs ++ (operator_at os k).cost ∷ [])
+  listed_push k cut costs within e h = record {
     below =
         All-append (λ j. j < length os) cut (k ∷ []) h.below
         (All-cons (λ j. j < length os) k [] within (All-nil (λ j. j < length os)));
+    inside =
+        All-append (λ j. such (operator_at os j) ≡ true) cut (k ∷ []) h.inside
+        (All-cons (λ j. such (operator_at os j) ≡ true) k [] e (All-nil (λ j. such (operator_at os j) ≡ true)));
+    paid =
+        ap (λ l. l ++ (operator_at os k).cost ∷ []) h.paid
+        ∙ sym (map-append (λ j. (operator_at os j).cost) cut (k ∷ []));
   }
 
-  listed_same : (k : ℕ) (cut : List ℕ) → such (operator_at os k) ≡ false → ListsFirst such os k cut → ListsFirst such os (k + 1) cut
-  listed_same k cut none h = record {
-    all = λ j lt e. ⊎_elim
-        (λ same. absurd (both_ways (such (operator_at os k)) none (subst (λ i. such (operator_at os i) ≡ true) same e)))
-        (λ ne. h.all j (omega arith) e)
-        (cases_eq j k);
-    below = h.below;
+  pub noted_refl : (cut costs : List ℕ) → HaveNoted such os cut costs cut costs
+  noted_refl cut costs = record { kept = λ k h. h; listed = λ h. h }
+
+  pub noted_trans : (a p b q c r : List ℕ) → HaveNoted such os a p b q → HaveNoted such os b q c r → HaveNoted such os a p c r
+  noted_trans a p b q c r one two = record {
+    kept = λ k h. two.kept k (one.kept k h);
+    listed = λ h. two.listed (one.listed h);
   }
 
-  pub listed_step : (k : ℕ) (cut new : List ℕ) → k < length os → (such (operator_at os k) ≡ true → new ≡ cut ++ k ∷ []) → (such (operator_at os k) ≡ false → new ≡ cut) → ListsFirst such os k cut → ListsFirst such os (k + 1) new
-  listed_step k cut new within inside outside h = ⊎_elim
-      (λ e. subst (ListsFirst such os (k + 1)) (sym (inside e)) (listed_more k cut within h))
-      (λ e. subst (ListsFirst such os (k + 1)) (sym (outside e)) (listed_same k cut e h))
-      (cases_Bool (such (operator_at os k)))
+  pushed : (k : ℕ) (cut costs : List ℕ) → k < length os → such (operator_at os k) ≡ true → HaveNoted such os cut costs (cut ++ k ∷ []) (costs ++ (operator_at os k).cost ∷ [])
+  pushed k cut costs within e = record {
+    kept = λ j h. Contains-append_left cut (k ∷ []) j h;
+    listed = λ h. listed_push k cut costs within e h;
+  }
+
+  module _ (k : ℕ) (cut costs new paid : List ℕ) (within : k < length os) (inside : such (operator_at os k) ≡ true → (new ≡ cut ++ k ∷ []) × (paid ≡ costs ++ (operator_at os k).cost ∷ [])) where
+    pub noted_one : (such (operator_at os k) ≡ false → (new ≡ cut) × (paid ≡ costs)) → HaveNoted such os cut costs new paid
+    noted_one outside = ⊎_elim
+        (λ e. let both = inside e in
+        subst (λ l. HaveNoted such os cut costs l paid) (sym both.0)
+        (subst (HaveNoted such os cut costs (cut ++ k ∷ [])) (sym both.1) (pushed k cut costs within e)))
+        (λ e. let both = outside e in
+        subst (λ l. HaveNoted such os cut costs l paid) (sym both.0)
+        (subst (HaveNoted such os cut costs cut) (sym both.1) (noted_refl cut costs)))
+        (cases_Bool (such (operator_at os k)))
+
+    pub noted_here : such (operator_at os k) ≡ true → Contains new k
+    noted_here e = subst (λ l. Contains l k) (sym ((inside e).0)) (Contains-push cut k)
+
+  -- a list of some operators' numbers that has all of them
+
+  module _ (cut costs : List ℕ) (listed : AreListed such os cut costs) (all : (k : ℕ) → k < length os → such (operator_at os k) ≡ true → Contains cut k) where
+    above_listed : AtMost (least costs) (least_where such os)
+    above_listed =
+        let low : All (λ k. AtMost (least costs) (Some (operator_at os k).cost)) cut =
+        All_mapped (λ n. AtMost (least costs) (Some n)) (λ k. (operator_at os k).cost) cut
+        (subst (All (λ n. AtMost (least costs) (Some n))) listed.paid (least_low costs)) in
+        let each : All (λ o. such o ≡ true → AtMost (least costs) (Some o.cost)) os = λ k d lt e.
+        let same : get_or os k d ≡ operator_at os k = get_or_default os k d _ lt in
+        subst (λ (o : Operator). AtMost (least costs) (Some o.cost)) (sym same)
+        (All-contains (λ j. AtMost (least costs) (Some (operator_at os j).cost)) cut k low (all k lt (sym (ap such same) ∙ e))) in
+        least_high (least costs) (map (λ (o : Operator). o.cost) (filter such os))
+        (All-map (λ n. AtMost (least costs) (Some n)) (λ (o : Operator). o.cost) (filter such os)
+        (λ k d lt. All-filter such (λ o. such o ≡ true → AtMost (least costs) (Some o.cost)) os each k d lt (filter_passes such os k d lt)))
+
+    below_listed : AtMost (least_where such os) (least costs)
+    below_listed =
+        let low : All (λ o. such o ≡ true → AtMost (least_where such os) (Some o.cost)) os =
+        All_filtered (λ o. AtMost (least_where such os) (Some o.cost)) such os
+        (All_mapped (λ n. AtMost (least_where such os) (Some n)) (λ (o : Operator). o.cost) (filter such os) (least_low (map (λ (o : Operator). o.cost) (filter such os)))) in
+        least_high (least_where such os) costs
+        (subst (All (λ n. AtMost (least_where such os) (Some n))) (sym listed.paid)
+        (All-map (λ n. AtMost (least_where such os) (Some n)) (λ k. (operator_at os k).cost) cut
+        (λ i d lt. low (get_or cut i d) _ (listed.below i d lt) (listed.inside i d lt))))
+
+    pub least_listed : least costs ≡ least_where such os
+    least_listed = AtMost-antisym (least costs) (least_where such os) above_listed below_listed
+
+    in_list : (k : ℕ) → k < length os → list_any (λ j. eqb j k) cut ≡ such (operator_at os k)
+    in_list k lt = ⊎_elim
+        (λ e. any_times k cut (times_contained k cut (all k lt e)) ∙ sym e)
+        (λ e. false_from_ne_true (list_any (λ j. eqb j k) cut)
+        (λ h. both_ways (such (operator_at os k)) e (All_at (λ j. such (operator_at os j) ≡ true) cut k listed.inside h)) ∙ sym e)
+        (cases_Bool (such (operator_at os k)))
+
+    pub lowered_listed : (by : ℕ) → lowered_at (λ k. list_any (λ j. eqb j k) cut) by os ≡ cheaper_where such by os
+    lowered_listed by = lowered_same (λ k. list_any (λ j. eqb j k) cut) such by os in_list
+
+    pub least_paid : (seen : List ℕ) → seen ≡ costs → unwrap_or (least seen) 0 ≡ unwrap_or (least_where such os) 0
+    least_paid seen e = ap (λ l. unwrap_or (least l) 0) e ∙ ap (λ a. unwrap_or a 0) least_listed
+
+pub lowered_to : (such : Operator → Bool) (r now : RelaxedProblem) (cut costs seen : List ℕ) (by : ℕ) → AreListed such r.operators cut costs → ((k : ℕ) → k < length r.operators → such (operator_at r.operators k) ≡ true → Contains cut k) → seen ≡ cut → now ≡ record r { operators = lowered_at (λ k. list_any (λ j. eqb j k) seen) by r.operators } → now ≡ record r { operators = cheaper_where such by r.operators }
+lowered_to such r now cut costs seen by listed all same is =
+    is
+    ∙ ap (λ l. record r { operators = lowered_at (λ k. list_any (λ j. eqb j k) l) by r.operators }) same
+    ∙ ap (λ os. record r { operators = os }) (lowered_listed such r.operators cut costs listed all by)
+
+-- a number of a list that passes a test
+one_passing : (p : ℕ → Bool) (xs : List ℕ) → list_any p xs ≡ true → (y : ℕ) × (list_any (λ z. eqb z y) xs ≡ true) × (p y ≡ true)
+one_passing p [] h = absurd (false≢true h)
+one_passing p (x ∷ xs) h = by (p x) refl h (one_passing p xs)
+  where
+    by : (b : Bool) → p x ≡ b → (b || list_any p xs) ≡ true → (list_any p xs ≡ true → (y : ℕ) × (list_any (λ z. eqb z y) xs ≡ true) × (p y ≡ true)) → (y : ℕ) × ((eqb x y || list_any (λ z. eqb z y) xs) ≡ true) × (p y ≡ true)
+    by true e _ rest = (x, or_left (eqb x x) _ (eq-eqb x x refl), e)
+    by false e k rest = let one = rest k in (one.0, or_right (eqb x one.0) _ one.1, one.2)
+
+-- where the adders of each fact of the zone are noted, all operators of the cut are
+pub all_noted : (v : Values) (zone near : List Bool) (os : List Operator) (cut : List ℕ) → ((x : ℕ) → x < length zone → is_marked zone x ≡ true → AreNoted (is_between v zone near) os x cut) → (k : ℕ) → k < length os → is_between v zone near (operator_at os k) ≡ true → Contains cut k
+all_noted v zone near os cut seen k lt e =
+    let one = one_passing (is_marked zone) (operator_at os k).add ((and_parts _ _ e).0) in
+    seen one.0 (marked_below zone one.0 one.2) one.2 k lt one.1 e
 
 pre_at : (cost : Operator → ℕ) (os : List Operator) (k : ℕ) → (operator_at (priced_by cost os) k).pre ≡ (operator_at os k).pre
 pre_at cost [] k = refl
@@ -58,15 +148,15 @@ lower_at cost [] k low = omega arith
 lower_at cost (o ∷ os) zero low = low o
 lower_at cost (o ∷ os) (suc k) low = lower_at cost os k low
 
-pub cheaper_listed : (such : Operator → Bool) (by : ℕ) (os : List Operator) (cut : List ℕ) → ListsFirst such os (length os) cut → AreCheaper os (cheaper_where such by os) cut
-cheaper_listed such by os cut listed = record {
+pub cheaper_listed : (such : Operator → Bool) (by : ℕ) (os : List Operator) (cut : List ℕ) → ((k : ℕ) → k < length os → such (operator_at os k) ≡ true → Contains cut k) → AreCheaper os (cheaper_where such by os) cut
+cheaper_listed such by os cut all = record {
   as_many = as_many;
   needed = pre_at cost os;
   added = add_at cost os;
   lower = λ k. lower_at cost os k low;
   same = λ k lt out.
       let within : k < length os = omega (arith, lt, as_many) in
-      cost_at cost os k within ∙ kept (operator_at os k) (λ inside. out (listed.all k within inside));
+      cost_at cost os k within ∙ kept (operator_at os k) (λ inside. out (all k within inside));
 }
   where
     cost : Operator → ℕ

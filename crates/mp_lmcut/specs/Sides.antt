@@ -1,5 +1,5 @@
 -- The sides of a cut in a search by marks: what is to be marked for each fact.
-use Rattle.std.specs.Prelude.{◌≡◌, ℕ, map, Option, ◌+◌, ◌==◌, ◌<◌, ◌&&◌, Bool, true, false, List, [], length, All, Contains, IsTrue, slice_index_or}
+use Rattle.std.specs.Prelude.{◌≡◌, ℕ, map, Option, suc, ◌+◌, ◌-◌, ◌==◌, ◌<◌, ◌&&◌, Bool, true, false, List, [], ◌∷◌, length, All, Contains, IsTrue, slice_index_or, if◌then◌else◌}
 use Rattle.std.specs.FinSet as set
 use Rattle.std.specs.List.{filter, list_all, list_any}
 use Rattle.mp_sets.specs.Numbers.{Numbers}
@@ -87,10 +87,32 @@ is_between values zone near o =
     list_any (is_marked zone) o.add
     && (all_valued values o.pre && list_all (is_marked near) (support values o.pre))
 
--- a list has those of the first so many operators of which something holds
-pub record ListsFirst (such : Operator → Bool) (operators : List Operator) (n : ℕ) (cut : List ℕ) : Type 0 where
-  pub all : (k : ℕ) → k < n → such (operator_at operators k) ≡ true → Contains cut k
+-- a list has operators of which something holds, and a second one what each of them costs
+pub record AreListed (such : Operator → Bool) (operators : List Operator) (cut costs : List ℕ) : Type 0 where
   pub below : All (λ k. k < length operators) cut
+  pub inside : All (λ k. such (operator_at operators k) ≡ true) cut
+  pub paid : costs ≡ map (λ k. (operator_at operators k).cost) cut
+
+-- operators of which something holds, and their costs, have been put into two lists
+pub record HaveNoted (such : Operator → Bool) (operators : List Operator) (cut costs new_cut new_costs : List ℕ) : Type 0 where
+  pub kept : (k : ℕ) → Contains cut k → Contains new_cut k
+  pub listed : AreListed such operators cut costs → AreListed such operators new_cut new_costs
+
+-- each operator that adds a fact, and of which something holds, is in a list
+abbrev pub AreNoted : (Operator → Bool) → List Operator → ℕ → List ℕ → Type 0
+AreNoted such operators x cut =
+    (k : ℕ)
+    → k < length operators
+    → adds (operator_at operators k) x ≡ true
+    → such (operator_at operators k) ≡ true
+    → Contains cut k
+
+-- operators where those whose numbers pass a test cost so much less
+abbrev pub lowered_at : (ℕ → Bool) → ℕ → List Operator → List Operator
+lowered_at chosen by [] = []
+lowered_at chosen by (o ∷ operators) =
+    record o { cost = if chosen 0 then o.cost - by else o.cost }
+    ∷ lowered_at (λ k. chosen (suc k)) by operators
 
 -- the least cost of the operators of which something holds
 abbrev pub least_where : (Operator → Bool) → List Operator → Option ℕ

@@ -1,18 +1,18 @@
 //! The cut of a round: which operators are in it, what it costs, and what they cost afterwards.
 
-ghost use Rattle.std.specs.Prelude.{◌≡◌, ◌<◌, ◌≤◌, ◌++◌, ◌∷◌, [], ℕ, All, OnOk, Some, false, length, true, if◌then◌else◌};
-ghost use Rattle.std.specs.List.{list_all};
+ghost use Rattle.std.specs.Prelude.{◌≡◌, ◌<◌, ◌≤◌, ◌-◌, ◌==◌, ◌++◌, ◌∷◌, [], ℕ, All, Contains, OnOk, Some, false, length, map, true};
+ghost use Rattle.std.specs.List.{list_all, list_any};
 ghost use Rattle.std.specs.Option.{unwrap_or};
 ghost use Rattle.mp_estimates.specs.Estimates.{lesser};
-ghost use Rattle.mp_relaxed.specs.Relaxed.{operator_at, with_cheaper};
+ghost use Rattle.mp_relaxed.specs.Relaxed.{HasAdders, operator_at, with_cheaper};
 ghost use Rattle.mp_estimates.specs.Lowering.{value_at};
-ghost use Rattle.mp_lmcut.specs.Cut.{cheaper_where, support};
+ghost use Rattle.mp_lmcut.specs.Cut.{least, support};
 ghost use Rattle.mp_lmcut.specs.Marked.{is_marked};
-ghost use Rattle.mp_lmcut.specs.Sides.{ListsFirst, is_between, least_where};
+ghost use Rattle.mp_lmcut.specs.Sides.{AreAdders, AreListed, AreNoted, HaveNoted, is_between, lowered_at};
 
 use crate::marks::Marks;
 use crate::supports::{are_valued, support_of};
-use mp_list::OutOfMemory;
+use mp_list::{List, OutOfMemory};
 use mp_relaxed::Relaxed;
 
 /// Whether the support of some preconditions is marked, or there is none.
@@ -50,84 +50,7 @@ fn lesser_of(known: Option<u64>, cost: u64) -> u64
     }
 }
 
-/// The least cost so far, with an operator where it is in the cut.
-fn least_with(
-    problem: &Relaxed,
-    numbers: &[u64],
-    zone: &Marks,
-    near: &Marks,
-    k: u32,
-    known: Option<u64>,
-) -> Option<u64>
-    requires operator { k < length problem.now.operators }
-    requires sized { length numbers.now ≡ problem.now.facts }
-    requires zone { length zone.now.flags ≡ problem.now.facts }
-    requires near { length near.now.flags ≡ problem.now.facts }
-    ensures { result ≡ (if is_between (value_at numbers.now) zone.now.flags near.now.flags
-        (operator_at problem.now.operators k)
-        then lesser known (Some (operator_at problem.now.operators k).cost) else known) }
-{
-    if is_in_cut(problem, numbers, zone, near, k) {
-        Some(lesser_of(known, problem.cost(k)))
-    } else {
-        known
-    }
-}
-
-/// The least cost of the operators of the cut, and 0 where it is empty.
-fn cost_of(problem: &Relaxed, numbers: &[u64], zone: &Marks, near: &Marks) -> u64
-    requires sized { length numbers.now ≡ problem.now.facts }
-    requires zone { length zone.now.flags ≡ problem.now.facts }
-    requires near { length near.now.flags ≡ problem.now.facts }
-    ensures { result ≡ unwrap_or (least_where
-        (is_between (value_at numbers.now) zone.now.flags near.now.flags) problem.now.operators) 0 }
-{
-    let mut least = None;
-    for k in 0..problem.operators() {
-        least = least_with(problem, numbers, zone, near, k, least);
-    }
-    least.unwrap_or(0)
-}
-
-/// Makes an operator cheaper where it is in the cut.
-fn lower_one(problem: &mut Relaxed, numbers: &[u64], zone: &Marks, near: &Marks, k: u32, by: u64)
-    requires operator { k < length problem.old.operators }
-    requires sized { length numbers.now ≡ problem.old.facts }
-    requires zone { length zone.now.flags ≡ problem.old.facts }
-    requires near { length near.now.flags ≡ problem.old.facts }
-    requires enough { is_between (value_at numbers.now) zone.now.flags near.now.flags
-        (operator_at problem.old.operators k) ≡ true
-        → by ≤ (operator_at problem.old.operators k).cost }
-    ensures inside { is_between (value_at numbers.now) zone.now.flags near.now.flags
-        (operator_at problem.old.operators k) ≡ true
-        → problem.new ≡ record problem.old { operators = with_cheaper k by problem.old.operators } }
-    ensures outside { is_between (value_at numbers.now) zone.now.flags near.now.flags
-        (operator_at problem.old.operators k) ≡ false
-        → problem.new ≡ problem.old }
-{
-    if is_in_cut(problem, numbers, zone, near, k) {
-        problem.lower(k, by);
-    }
-}
-
-/// Makes the operators of the cut cheaper.
-fn lower_all(problem: &mut Relaxed, numbers: &[u64], zone: &Marks, near: &Marks, by: u64)
-    requires sized { length numbers.now ≡ problem.old.facts }
-    requires zone { length zone.now.flags ≡ problem.old.facts }
-    requires near { length near.now.flags ≡ problem.old.facts }
-    requires enough { All (λ o. is_between (value_at numbers.now) zone.now.flags near.now.flags o ≡ true
-        → by ≤ o.cost) problem.old.operators }
-    ensures { problem.new ≡ record problem.old {
-      operators = cheaper_where
-          (is_between (value_at numbers.now) zone.now.flags near.now.flags) by problem.old.operators;
-    } }
-{
-    for k in 0..problem.operators() {
-        lower_one(problem, numbers, zone, near, k, by);
-    }
-}
-
-/// Puts an operator at the end of a list where it is in the cut.
+/// Puts an operator and its cost at the ends of two lists where it is in the cut.
 fn note(
     problem: &Relaxed,
     numbers: &[u64],
@@ -135,6 +58,7 @@ fn note(
     near: &Marks,
     k: u32,
     cut: &mut Vec<u32>,
+    costs: &mut Vec<u64>,
 ) -> Result<(), OutOfMemory>
     requires operator { k < length problem.now.operators }
     requires sized { length numbers.now ≡ problem.now.facts }
@@ -142,59 +66,163 @@ fn note(
     requires near { length near.now.flags ≡ problem.now.facts }
     ensures inside { is_between (value_at numbers.now) zone.now.flags near.now.flags
         (operator_at problem.now.operators k) ≡ true
-        → OnOk result (cut.new.items ≡ cut.old.items ++ k ∷ []) }
+        → OnOk result ((cut.new.items ≡ cut.old.items ++ k ∷ [])
+        × (costs.new.items ≡ costs.old.items ++ (operator_at problem.now.operators k).cost ∷ [])) }
     ensures outside { is_between (value_at numbers.now) zone.now.flags near.now.flags
         (operator_at problem.now.operators k) ≡ false
-        → OnOk result (cut.new.items ≡ cut.old.items) }
+        → OnOk result ((cut.new.items ≡ cut.old.items) × (costs.new.items ≡ costs.old.items)) }
 {
     if is_in_cut(problem, numbers, zone, near, k) {
         cut.push(k)?;
+        costs.push(problem.cost(k))?;
     }
     Ok(())
 }
 
-/// Empties a list.
-fn empty(cut: &mut Vec<u32>)
-    ensures { cut.new.items ≡ [] }
-{
-    cut.clear();
-}
-
-/// Lists the operators of the cut. Refuses only for want of memory.
-pub(crate) fn list_cut(
+/// Lists those of some operators that are in the cut, with their costs.
+fn note_each(
     problem: &Relaxed,
     numbers: &[u64],
     zone: &Marks,
     near: &Marks,
+    operators: &[u32],
     cut: &mut Vec<u32>,
+    costs: &mut Vec<u64>,
 ) -> Result<(), OutOfMemory>
+    requires operators { All (λ k. k < length problem.now.operators) operators.now }
     requires sized { length numbers.now ≡ problem.now.facts }
     requires zone { length zone.now.flags ≡ problem.now.facts }
     requires near { length near.now.flags ≡ problem.now.facts }
-    ensures { OnOk result (ListsFirst
-        (is_between (value_at numbers.now) zone.now.flags near.now.flags)
-        problem.now.operators (length problem.now.operators) cut.new.items) }
+    ensures noted { OnOk result (HaveNoted
+        (is_between (value_at numbers.now) zone.now.flags near.now.flags) problem.now.operators
+        cut.old.items costs.old.items cut.new.items costs.new.items) }
+    ensures each { OnOk result ((k : ℕ) → Contains operators.now k
+        → is_between (value_at numbers.now) zone.now.flags near.now.flags
+        (operator_at problem.now.operators k) ≡ true → Contains cut.new.items k) }
 {
-    empty(cut);
-    for k in 0..problem.operators() {
-        note(problem, numbers, zone, near, k, cut)?;
+    for k in operators {
+        note(problem, numbers, zone, near, *k, cut, costs)?;
     }
     Ok(())
 }
 
-/// Makes the operators of the cut cheaper by what it costs, and says how much that is.
-pub(crate) fn pay(problem: &mut Relaxed, numbers: &[u64], zone: &Marks, near: &Marks) -> u64
-    requires sized { length numbers.now ≡ problem.old.facts }
-    requires zone { length zone.now.flags ≡ problem.old.facts }
-    requires near { length near.now.flags ≡ problem.old.facts }
-    ensures cost { result ≡ unwrap_or (least_where
-        (is_between (value_at numbers.now) zone.now.flags near.now.flags) problem.old.operators) 0 }
-    ensures lowered { problem.new ≡ record problem.old {
-      operators = cheaper_where
-          (is_between (value_at numbers.now) zone.now.flags near.now.flags) result problem.old.operators;
+/// Lists those of the operators that add a fact that are in the cut, where the fact is in the zone.
+fn note_adders(
+    problem: &Relaxed,
+    numbers: &[u64],
+    zone: &Marks,
+    near: &Marks,
+    x: u32,
+    adders: &[u32],
+    cut: &mut Vec<u32>,
+    costs: &mut Vec<u64>,
+) -> Result<(), OutOfMemory>
+    requires fact { x < problem.now.facts }
+    requires operators { All (λ k. k < length problem.now.operators) adders.now }
+    requires adders { HasAdders problem.now.operators x adders.now }
+    requires sized { length numbers.now ≡ problem.now.facts }
+    requires zone { length zone.now.flags ≡ problem.now.facts }
+    requires near { length near.now.flags ≡ problem.now.facts }
+    ensures noted { OnOk result (HaveNoted
+        (is_between (value_at numbers.now) zone.now.flags near.now.flags) problem.now.operators
+        cut.old.items costs.old.items cut.new.items costs.new.items) }
+    ensures each { OnOk result (is_marked zone.now.flags x ≡ true → AreNoted
+        (is_between (value_at numbers.now) zone.now.flags near.now.flags) problem.now.operators x cut.new.items) }
+{
+    if zone.has(x) {
+        note_each(problem, numbers, zone, near, adders, cut, costs)?;
+    }
+    Ok(())
+}
+
+/// Empties the two lists of a cut.
+fn empty(cut: &mut Vec<u32>, costs: &mut Vec<u64>)
+    ensures cut { cut.new.items ≡ [] }
+    ensures costs { costs.new.items ≡ [] }
+{
+    cut.clear();
+    costs.clear();
+}
+
+/// Lists the operators of the cut, and what each costs: each of them adds a fact of the zone, so that no other operator is
+/// looked at. One that adds several of its facts stands there more than once. Refuses only for want of memory.
+pub(crate) fn list_cut(
+    problem: &Relaxed,
+    numbers: &[u64],
+    adders: &[List<u32>],
+    zone: &Marks,
+    near: &Marks,
+    cut: &mut Vec<u32>,
+    costs: &mut Vec<u64>,
+) -> Result<(), OutOfMemory>
+    requires adders { AreAdders problem.now.operators problem.now.facts adders.now }
+    requires sized { length numbers.now ≡ problem.now.facts }
+    requires zone { length zone.now.flags ≡ problem.now.facts }
+    requires near { length near.now.flags ≡ problem.now.facts }
+    ensures listed { OnOk result (AreListed
+        (is_between (value_at numbers.now) zone.now.flags near.now.flags)
+        problem.now.operators cut.new.items costs.new.items) }
+    ensures all { OnOk result ((k : ℕ) → k < length problem.now.operators
+        → is_between (value_at numbers.now) zone.now.flags near.now.flags
+        (operator_at problem.now.operators k) ≡ true → Contains cut.new.items k) }
+{
+    empty(cut, costs);
+    for x in 0..problem.facts() {
+        let row = adders[x as usize].as_slice();
+        note_adders(problem, numbers, zone, near, x, row, cut, costs)?;
+    }
+    Ok(())
+}
+
+/// The least of some costs.
+fn least_of(costs: &[u64]) -> Option<u64>
+    ensures { result ≡ least costs.now }
+{
+    let mut known = None;
+    for cost in costs {
+        known = Some(lesser_of(known, *cost));
+    }
+    known
+}
+
+/// Gives an operator a cost that is at most its own.
+fn set_cost(problem: &mut Relaxed, k: u32, cost: u64)
+    requires operator { k < length problem.old.operators }
+    requires enough { cost ≤ (operator_at problem.old.operators k).cost }
+    ensures { problem.new ≡ record problem.old {
+      operators = with_cheaper k ((operator_at problem.old.operators k).cost - cost) problem.old.operators;
     } }
 {
-    let by = cost_of(problem, numbers, zone, near);
-    lower_all(problem, numbers, zone, near, by);
+    let by = problem.cost(k) - cost;
+    problem.lower(k, by);
+}
+
+/// Makes the listed operators cheaper. One that is listed once more gets the cost again that it has by then.
+fn lower_all(problem: &mut Relaxed, cut: &[u32], costs: &[u64], by: u64)
+    requires operators { All (λ k. k < length problem.old.operators) cut.now }
+    requires costs { costs.now ≡ map (λ k. (operator_at problem.old.operators k).cost) cut.now }
+    requires enough { All (λ cost. by ≤ cost) costs.now }
+    ensures { problem.new ≡ record problem.old {
+      operators = lowered_at
+          (λ k. list_any (λ j. j == k) cut.now) by problem.old.operators;
+    } }
+{
+    for i in 0..cut.len() {
+        set_cost(problem, cut[i], costs[i] - by);
+    }
+}
+
+/// Makes the listed operators cheaper by what the cheapest of them costs, and says how much that is.
+pub(crate) fn pay(problem: &mut Relaxed, cut: &[u32], costs: &[u64]) -> u64
+    requires operators { All (λ k. k < length problem.old.operators) cut.now }
+    requires costs { costs.now ≡ map (λ k. (operator_at problem.old.operators k).cost) cut.now }
+    ensures cost { result ≡ unwrap_or (least costs.now) 0 }
+    ensures lowered { problem.new ≡ record problem.old {
+      operators = lowered_at
+          (λ k. list_any (λ j. j == k) cut.now) result problem.old.operators;
+    } }
+{
+    let by = least_of(costs).unwrap_or(0);
+    lower_all(problem, cut, costs, by);
     by
 }

@@ -66,9 +66,17 @@ fn lower(
         privates,
         &mut sides.near,
     )?;
-    list_cut(problem, numbers, &sides.zone, &sides.near, &mut sides.cut)?;
+    list_cut(
+        problem,
+        numbers,
+        adders,
+        &sides.zone,
+        &sides.near,
+        &mut sides.cut,
+        &mut sides.costs,
+    )?;
     let _ = problem.operators();
-    Ok(pay(problem, numbers, &sides.zone, &sides.near))
+    Ok(pay(problem, sides.cut.as_slice(), sides.costs.as_slice()))
 }
 
 /// Plays a round on the values of facts: where the goals cost something, it makes the operators of the cut cheaper by what

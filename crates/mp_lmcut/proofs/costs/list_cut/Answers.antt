@@ -1,21 +1,51 @@
-use Rattle.std.proofs.Common.{◌≡◌, length, subst, sym, arith}
+use Rattle.std.proofs.Common.{◌≡◌, ◌<◌, [], true, All, below_more, length, sym, ◌∙◌, subst, arith}
+use Rattle.std.proofs.lemmas.List.{get_or_default}
 use Rattle.mp_estimates.specs.Lowering.{value_at}
-use Rattle.mp_lmcut.specs.Sides.{ListsFirst, is_between}
-use Rattle.mp_lmcut.proofs.ListedLemmas.{listed_none, listed_step}
+use Rattle.mp_relaxed.specs.Relaxed.{HasAdders}
+use Rattle.mp_lmcut.specs.Marked.{is_marked}
+use Rattle.mp_lmcut.specs.Sides.{AreListed, AreNoted, is_between}
+use Rattle.mp_lmcut.proofs.ListedLemmas.{all_noted, listed_none}
 use Rattle.mp_lmcut.proofs.costs.list_cut.Goals as goal
 
-pub loop-k-init : goal.loop-k-init
-loop-k-init c =
-    let cut = is_between (value_at c.args.numbers.now) c.args.zone.now.flags c.args.near.now.flags in
-    subst (ListsFirst cut c.args.problem.now.operators 0) (sym c.empty.ensures) (listed_none cut c.args.problem.now.operators)
+pub loop-x-init : goal.loop-x-init
+loop-x-init c =
+    let such = is_between (value_at c.args.numbers.now) c.args.zone.now.flags c.args.near.now.flags in
+    let os = c.args.problem.now.operators in
+    record {
+      listed = subst (λ l. AreListed such os l c.empty.new.costs.items) (sym c.empty.ensures.cut)
+          (subst (AreListed such os []) (sym c.empty.ensures.costs) (listed_none such os));
+      seen = λ y lt. absurd (omega (arith, lt));
+    }
 
-pub loop-k-preserved : goal.loop-k-preserved
-loop-k-preserved c =
-    let cut = is_between (value_at c.args.numbers.now) c.args.zone.now.flags c.args.near.now.flags in
-    listed_step cut c.args.problem.now.operators c.loop-k.k c.loop-k.cut.items c.note.new.cut.items (omega arith) c.in_ok-note.ensures.inside c.in_ok-note.ensures.outside c.loop-k.invariant
+pub bounds-adders-x : goal.bounds-adders-x
+bounds-adders-x c = omega (arith, c.requires.adders.sized)
 
-pub returns : goal.returns
-returns c =
-    let cut = is_between (value_at c.args.numbers.now) c.args.zone.now.flags c.args.near.now.flags in
-    let all : c.loop-k.k ≡ length c.args.problem.now.operators = omega arith in
-    subst (λ n. ListsFirst cut c.args.problem.now.operators n c.loop-k.cut.items) all c.loop-k.invariant
+pub note_adders-requires-clause-operators : goal.note_adders-requires-clause-operators
+note_adders-requires-clause-operators c =
+    let inside : c.loop-x.x < length c.args.adders.now = omega (arith, c.requires.adders.sized) in
+    subst (All (λ k. k < length c.args.problem.now.operators)) (sym (c.as_slice-row.ensures ∙ c.index-adders-x.is))
+    (c.requires.adders.below c.loop-x.x c.index-adders-x.result inside)
+
+pub note_adders-requires-clause-adders : goal.note_adders-requires-clause-adders
+note_adders-requires-clause-adders c =
+    let inside : c.loop-x.x < length c.args.adders.now = omega (arith, c.requires.adders.sized) in
+    subst (HasAdders c.args.problem.now.operators c.loop-x.x)
+    (sym (c.as_slice-row.ensures ∙ c.index-adders-x.is ∙ get_or_default c.args.adders.now c.loop-x.x c.index-adders-x.result [] inside))
+    (c.requires.adders.all c.loop-x.x)
+
+pub loop-x-preserved : goal.loop-x-preserved
+loop-x-preserved c =
+    let such = is_between (value_at c.args.numbers.now) c.args.zone.now.flags c.args.near.now.flags in
+    let os = c.args.problem.now.operators in
+    let noted = c.in_ok-note_adders.ensures.noted in
+    record {
+      listed = noted.listed c.loop-x.invariant.listed;
+      seen = below_more (λ y. is_marked c.args.zone.now.flags y ≡ true → AreNoted such os y c.note_adders.new.cut.items) c.loop-x.x
+          (λ y lt marked k within adding e. noted.kept k (c.loop-x.invariant.seen y lt marked k within adding e))
+          c.in_ok-note_adders.ensures.each;
+    }
+
+pub returns-clause-all : goal.returns-clause-all
+returns-clause-all c =
+    all_noted (value_at c.args.numbers.now) c.args.zone.now.flags c.args.near.now.flags c.args.problem.now.operators c.loop-x.cut.items
+    (λ y lt marked. c.loop-x.invariant.seen y (omega (arith, c.requires.zone)) marked)

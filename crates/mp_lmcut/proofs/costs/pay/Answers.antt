@@ -1,12 +1,9 @@
-use Rattle.std.proofs.Common.{◌≡◌, ◌≤◌, true, All, sym, subst}
-use Rattle.mp_task.specs.Strips.{Operator}
-use Rattle.mp_estimates.specs.Lowering.{value_at}
-use Rattle.mp_lmcut.specs.Laws.Costs.{least_of_some}
-use Rattle.mp_lmcut.specs.Sides.{is_between}
+use Rattle.std.proofs.Common.{◌≤◌, All, ap, sym, ◌∙◌, subst}
+use Rattle.std.specs.Option.{unwrap_or}
+use Rattle.mp_lmcut.proofs.CutLemmas.{least_enough}
 use Rattle.mp_lmcut.proofs.costs.pay.Goals as goal
 
 pub lower_all-requires-clause-enough : goal.lower_all-requires-clause-enough
 lower_all-requires-clause-enough c =
-    let cut = is_between (value_at c.args.numbers.now) c.args.zone.now.flags c.args.near.now.flags in
-    subst (λ n. All (λ (o : Operator). cut o ≡ true → n ≤ o.cost) c.args.problem.now.operators) (sym c.cost_of-by.ensures)
-    (least_of_some cut c.args.problem.now.operators)
+    subst (λ n. All (λ cost. n ≤ cost) c.args.costs.now) (sym (c.unwrap_or-by.ensures ∙ ap (λ a. unwrap_or a 0) c.least_of.ensures))
+    (least_enough c.args.costs.now)

@@ -1,18 +1,31 @@
-use Rattle.std.proofs.Common.{◌<◌, ◌≤◌, All, length, ap, sym, ◌∙◌, subst}
-use Rattle.mp_relaxed.specs.Relaxed.{AreCheaper, RelaxedProblem, state_of}
+use Rattle.std.proofs.Common.{◌<◌, ◌≤◌, All, length, map, ap, sym, ◌∙◌, subst}
+use Rattle.mp_relaxed.specs.Relaxed.{AreCheaper, RelaxedProblem, operator_at, state_of}
 use Rattle.mp_estimates.specs.Lowering.{value_at}
 use Rattle.mp_lmcut.specs.Sides.{costless, is_between}
 use Rattle.mp_lmcut.proofs.CostLemmas.{costless_cheaper, length-priced_by}
-use Rattle.mp_lmcut.proofs.ListedLemmas.{cheaper_listed}
+use Rattle.mp_lmcut.proofs.ListedLemmas.{cheaper_listed, least_paid, lowered_to}
 use Rattle.mp_lmcut.proofs.RoundLemmas.{cost_is, cost_small, lowered_is}
 use Rattle.mp_lmcut.proofs.rounds.lower.Goals as goal
+
+pub pay-requires-clause-operators : goal.pay-requires-clause-operators
+pay-requires-clause-operators c =
+    subst (All (λ k. k < length c.args.problem.now.operators)) (sym c.as_slice.ensures.value) c.in_ok-list_cut.ensures.listed.below
+
+pub pay-requires-clause-costs : goal.pay-requires-clause-costs
+pay-requires-clause-costs c =
+    c.as_slice-2.ensures.value
+    ∙ c.in_ok-list_cut.ensures.listed.paid
+    ∙ ap (map (λ k. (operator_at c.args.problem.now.operators k).cost)) (sym c.as_slice.ensures.value)
 
 pub returns-clause-cost : goal.returns-clause-cost
 returns-clause-cost c =
     let r = c.args.problem.now in
     let s = state_of r c.args.publics.now.members c.args.privates.now.members in
+    let zone = c.mark_zone.new.marks.flags in
+    let near = c.mark_near.new.near.flags in
     c.pay.ensures.cost
-    ∙ cost_is r s c.args.numbers.now c.mark_zone.new.marks.flags c.mark_near.new.near.flags c.requires.values c.in_ok-mark_zone.ensures.zone c.in_ok-mark_near.ensures.near
+    ∙ least_paid (is_between (value_at c.args.numbers.now) zone near) r.operators c.list_cut.new.cut.items c.list_cut.new.costs.items c.in_ok-list_cut.ensures.listed c.in_ok-list_cut.ensures.all c.as_slice-2.result.now c.as_slice-2.ensures.value
+    ∙ cost_is r s c.args.numbers.now zone near c.requires.values c.in_ok-mark_zone.ensures.zone c.in_ok-mark_near.ensures.near
 
 pub returns-clause-lowered : goal.returns-clause-lowered
 returns-clause-lowered c =
@@ -20,28 +33,41 @@ returns-clause-lowered c =
     let s = state_of r c.args.publics.now.members c.args.privates.now.members in
     let zone = c.mark_zone.new.marks.flags in
     let near = c.mark_near.new.near.flags in
-    c.pay.ensures.lowered
+    let such = is_between (value_at c.args.numbers.now) zone near in
+    lowered_to such r c.pay.new.problem c.list_cut.new.cut.items c.list_cut.new.costs.items c.as_slice.result.now c.pay.result c.in_ok-list_cut.ensures.listed c.in_ok-list_cut.ensures.all c.as_slice.ensures.value c.pay.ensures.lowered
     ∙ ap (λ os. record r { operators = os })
     (lowered_is r s c.args.numbers.now zone near c.requires.values c.in_ok-mark_zone.ensures.zone c.in_ok-mark_near.ensures.near c.pay.result
-    (c.pay.ensures.cost ∙ cost_is r s c.args.numbers.now zone near c.requires.values c.in_ok-mark_zone.ensures.zone c.in_ok-mark_near.ensures.near))
+    (c.pay.ensures.cost
+    ∙ least_paid such r.operators c.list_cut.new.cut.items c.list_cut.new.costs.items c.in_ok-list_cut.ensures.listed c.in_ok-list_cut.ensures.all c.as_slice-2.result.now c.as_slice-2.ensures.value
+    ∙ cost_is r s c.args.numbers.now zone near c.requires.values c.in_ok-mark_zone.ensures.zone c.in_ok-mark_near.ensures.near))
 
 pub returns-clause-small : goal.returns-clause-small
 returns-clause-small c =
-    subst (λ n. n ≤ 16000000) (sym c.pay.ensures.cost)
-    (cost_small (is_between (value_at c.args.numbers.now) c.mark_zone.new.marks.flags c.mark_near.new.near.flags) c.args.problem.now.operators 16000000 c.operators.ensures.cheap)
+    let such = is_between (value_at c.args.numbers.now) c.mark_zone.new.marks.flags c.mark_near.new.near.flags in
+    let os = c.args.problem.now.operators in
+    let least = c.pay.ensures.cost
+    ∙ least_paid such os c.list_cut.new.cut.items c.list_cut.new.costs.items c.in_ok-list_cut.ensures.listed c.in_ok-list_cut.ensures.all c.as_slice-2.result.now c.as_slice-2.ensures.value in
+    subst (λ n. n ≤ 16000000) (sym least) (cost_small such os 16000000 c.operators.ensures.cheap)
 
 pub returns-clause-kept : goal.returns-clause-kept
 returns-clause-kept c =
-    ap costless c.pay.ensures.lowered
-    ∙ costless_cheaper (is_between (value_at c.args.numbers.now) c.mark_zone.new.marks.flags c.mark_near.new.near.flags) c.pay.result c.args.problem.now
+    let r = c.args.problem.now in
+    let such = is_between (value_at c.args.numbers.now) c.mark_zone.new.marks.flags c.mark_near.new.near.flags in
+    ap costless (lowered_to such r c.pay.new.problem c.list_cut.new.cut.items c.list_cut.new.costs.items c.as_slice.result.now c.pay.result c.in_ok-list_cut.ensures.listed c.in_ok-list_cut.ensures.all c.as_slice.ensures.value c.pay.ensures.lowered)
+    ∙ costless_cheaper such c.pay.result r
 
 pub returns-clause-listed : goal.returns-clause-listed
 returns-clause-listed c =
-    let old = c.args.problem.now.operators in
-    subst (λ os. AreCheaper old os c.list_cut.new.cut.items) (sym (ap (λ (r : RelaxedProblem). r.operators) c.pay.ensures.lowered))
-    (cheaper_listed (is_between (value_at c.args.numbers.now) c.mark_zone.new.marks.flags c.mark_near.new.near.flags) c.pay.result old c.list_cut.new.cut.items c.in_ok-list_cut.ensures)
+    let r = c.args.problem.now in
+    let such = is_between (value_at c.args.numbers.now) c.mark_zone.new.marks.flags c.mark_near.new.near.flags in
+    let is = lowered_to such r c.pay.new.problem c.list_cut.new.cut.items c.list_cut.new.costs.items c.as_slice.result.now c.pay.result c.in_ok-list_cut.ensures.listed c.in_ok-list_cut.ensures.all c.as_slice.ensures.value c.pay.ensures.lowered in
+    subst (λ os. AreCheaper r.operators os c.list_cut.new.cut.items) (sym (ap (λ (m : RelaxedProblem). m.operators) is))
+    (cheaper_listed such c.pay.result r.operators c.list_cut.new.cut.items c.in_ok-list_cut.ensures.all)
 
 pub returns-clause-below : goal.returns-clause-below
 returns-clause-below c =
-    let same = ap (λ (r : RelaxedProblem). length r.operators) c.pay.ensures.lowered ∙ length-priced_by _ c.args.problem.now.operators in
-    subst (λ n. All (λ k. k < n) c.list_cut.new.cut.items) (sym same) c.in_ok-list_cut.ensures.below
+    let r = c.args.problem.now in
+    let such = is_between (value_at c.args.numbers.now) c.mark_zone.new.marks.flags c.mark_near.new.near.flags in
+    let is = lowered_to such r c.pay.new.problem c.list_cut.new.cut.items c.list_cut.new.costs.items c.as_slice.result.now c.pay.result c.in_ok-list_cut.ensures.listed c.in_ok-list_cut.ensures.all c.as_slice.ensures.value c.pay.ensures.lowered in
+    let same = ap (λ (m : RelaxedProblem). length m.operators) is ∙ length-priced_by _ r.operators in
+    subst (λ n. All (λ k. k < n) c.list_cut.new.cut.items) (sym same) c.in_ok-list_cut.ensures.listed.below
