@@ -119,7 +119,7 @@ lowered_to such r now cut costs seen by listed all same is =
     ∙ ap (λ os. record r { operators = os }) (lowered_listed such r.operators cut costs listed all by)
 
 -- a number of a list that passes a test
-one_passing : (p : ℕ → Bool) (xs : List ℕ) → list_any p xs ≡ true → (y : ℕ) × (list_any (λ z. eqb z y) xs ≡ true) × (p y ≡ true)
+pub one_passing : (p : ℕ → Bool) (xs : List ℕ) → list_any p xs ≡ true → (y : ℕ) × (list_any (λ z. eqb z y) xs ≡ true) × (p y ≡ true)
 one_passing p [] h = absurd (false≢true h)
 one_passing p (x ∷ xs) h = by (p x) refl h (one_passing p xs)
   where

@@ -1,13 +1,12 @@
 -- The sides of a cut in a search by marks: what is to be marked for each fact.
-use Rattle.std.specs.Prelude.{◌≡◌, ℕ, map, Option, suc, ◌+◌, ◌-◌, ◌==◌, ◌<◌, ◌&&◌, Bool, true, false, List, [], ◌∷◌, length, All, Contains, IsTrue, slice_index_or, if◌then◌else◌}
-use Rattle.std.specs.FinSet as set
+use Rattle.std.specs.Prelude.{◌≡◌, ℕ, map, Option, Some, suc, ◌-◌, ◌==◌, ◌<◌, ◌≤◌, ◌&&◌, ◌||◌, Bool, true, false, List, [], ◌∷◌, length, All, Contains, slice_index_or, if◌then◌else◌}
 use Rattle.std.specs.List.{filter, list_all, list_any}
 use Rattle.mp_sets.specs.Numbers.{Numbers}
 use Rattle.mp_task.specs.Strips.{Operator}
 use Rattle.mp_relaxed.specs.Relaxed.{HasAdders, RelaxedProblem, operator_at, priced}
 use Rattle.mp_estimates.specs.Estimates.{Values}
-use Rattle.mp_relaxed.specs.Values.{adds}
-use Rattle.mp_lmcut.specs.Cut.{all_valued, support, in_zone, is_near, least, priced_by}
+use Rattle.mp_relaxed.specs.Values.{adds, fact_values, greatest}
+use Rattle.mp_lmcut.specs.Cut.{all_valued, in_zone, is_above, is_near, least, priced_by, support}
 use Rattle.mp_lmcut.specs.Marked.{is_marked}
 
 -- a fact is the support of preconditions
@@ -28,52 +27,106 @@ abbrev pub TurnsBack : Values → List Operator → ℕ → List Bool → Type 0
 TurnsBack values operators x flags =
     All (λ o. adds o x ≡ true → IsTurned values o flags) operators
 
--- what an operator adds outside the zone is marked
-abbrev pub AreMarkedOutside : List Bool → Operator → List Bool → Type 0
-AreMarkedOutside zone o flags =
-    (y : ℕ) → adds o y ≡ true → is_marked zone y ≡ false → is_marked flags y ≡ true
-
--- whether an operator has edges from a fact
-abbrev pub is_led_by : Values → Operator → ℕ → Bool
-is_led_by values o x = all_valued values o.pre && list_any (λ y. y == x) (support values o.pre)
-
--- and so for each one that has edges from a fact
-abbrev pub LeadsOn : Values → List Operator → List Bool → ℕ → List Bool → Type 0
-LeadsOn values operators zone x flags =
-    All (λ o. is_led_by values o x ≡ true → AreMarkedOutside zone o flags) operators
-
--- an operator with edges from a fact adds another one outside the zone
-pub record IsLed (values : Values) (operators : List Operator) (zone : List Bool) (x y : ℕ) : Type 0 where
-  pub k : ℕ
-  pub within : k < length operators
-  pub led : is_led_by values (operator_at operators k) x ≡ true
-  pub adding : adds (operator_at operators k) y ≡ true
-  pub outside : is_marked zone y ≡ false
-
--- an operator without preconditions adds a fact outside the zone
-pub record IsLedFree (operators : List Operator) (zone : List Bool) (y : ℕ) : Type 0 where
-  pub k : ℕ
-  pub within : k < length operators
-  pub free : (operator_at operators k).pre ≡ []
-  pub adding : adds (operator_at operators k) y ≡ true
-  pub outside : is_marked zone y ≡ false
-
--- a fact is a member of a set, above an offset
-pub record IsMember (s : Numbers) (size offset y : ℕ) : Type 0 where
-  pub x : ℕ
-  pub below : x < size
-  pub member : IsTrue (set.contains s x)
-  pub is : y ≡ offset + x
-
 -- marks are those of the goal zone
 abbrev pub IsZone : Values → List Operator → List ℕ → List Bool → Type 0
 IsZone values operators goals flags =
     (x : ℕ) → is_marked flags x ≡ in_zone values operators goals x
 
--- marks are those of the near side
-abbrev pub IsNearSide : Values → List Operator → List ℕ → Numbers → List Bool → Type 0
-IsNearSide values operators goals s flags =
-    (x : ℕ) → is_marked flags x ≡ is_near values operators goals s x
+-- a fact is cheaper than a number
+abbrev pub is_cheap : Values → ℕ → ℕ → Bool
+is_cheap values most x = is_above (Some most) (values x)
+
+-- an operator has its edges from the start, or from a cheap fact
+abbrev pub is_source : Values → ℕ → Operator → Bool
+is_source values most o =
+    all_valued values o.pre && list_all (is_cheap values most) (support values o.pre)
+
+-- a fact is added by such an operator
+pub record HasSource (values : Values) (most : ℕ) (operators : List Operator) (x : ℕ) : Type 0 where
+  pub k : ℕ
+  pub within : k < length operators
+  pub adding : adds (operator_at operators k) x ≡ true
+  pub source : is_source values most (operator_at operators k) ≡ true
+
+-- a fact is the support of an operator, and dear, and outside the zone
+pub record IsTracedFrom (values : Values) (most : ℕ) (zone : List Bool) (o : Operator) (y : ℕ) : Type 0 where
+  pub valued : all_valued values o.pre ≡ true
+  pub supports : Supports values o.pre y
+  pub outside : is_marked zone y ≡ false
+  pub dear : is_cheap values most y ≡ false
+
+-- and the operator adds another fact
+pub record IsBehind (values : Values) (most : ℕ) (operators : List Operator) (zone : List Bool) (x y : ℕ) : Type 0 where
+  pub k : ℕ
+  pub within : k < length operators
+  pub adding : adds (operator_at operators k) x ≡ true
+  pub traced : IsTracedFrom values most zone (operator_at operators k) y
+
+-- the support of an operator whose preconditions have values is marked, unless it is in the zone
+abbrev pub IsTraced : Values → List Bool → Operator → List Bool → Type 0
+IsTraced values zone o flags =
+    all_valued values o.pre ≡ true
+    → list_all (λ x. is_marked zone x || is_marked flags x) (support values o.pre) ≡ true
+
+-- and so for each one that adds a fact; none of them has its edges from the start or from a cheap fact
+abbrev pub TracesBack : Values → ℕ → List Operator → List Bool → ℕ → List Bool → Type 0
+TracesBack values most operators zone x flags =
+    All (λ o. adds o x ≡ true → (is_source values most o ≡ false) × IsTraced values zone o flags) operators
+
+-- values are those of facts for a state, where the goals cost so much, and something
+pub record AreValuesFor (values : Values) (operators : List Operator) (goals : List ℕ) (most : ℕ) (s : Numbers) : Type 0 where
+  pub same : (x : ℕ) → values x ≡ fact_values operators s x
+  pub paid : greatest values goals ≡ Some most
+  pub some : 1 ≤ most
+
+-- marks are of near facts alone
+abbrev pub AreNear : Values → List Operator → List ℕ → Numbers → List Bool → Type 0
+AreNear values operators goals s flags =
+    (y : ℕ) → is_marked flags y ≡ true → is_near values operators goals s y ≡ true
+
+-- near facts have been marked
+pub record Learns (values : Values) (operators : List Operator) (goals : List ℕ) (most : ℕ) (before after : List Bool) : Type 0 where
+  pub sized : length after ≡ length before
+  pub kept : (x : ℕ) → is_marked before x ≡ true → is_marked after x ≡ true
+  pub sound :
+      (s : Numbers)
+      → AreValuesFor values operators goals most s
+      → AreNear values operators goals s before
+      → AreNear values operators goals s after
+
+-- a fact is marked where it is near
+abbrev pub IsLearnt : Values → List Operator → List ℕ → ℕ → ℕ → List Bool → Type 0
+IsLearnt values operators goals most x flags =
+    (s : Numbers)
+    → AreValuesFor values operators goals most s
+    → is_near values operators goals s x ≡ true
+    → is_marked flags x ≡ true
+
+-- and so the support of an operator whose preconditions have values
+abbrev pub IsLearntOf : Values → List Operator → List ℕ → ℕ → Operator → List Bool → Type 0
+IsLearntOf values operators goals most o flags =
+    all_valued values o.pre ≡ true
+    → (x : ℕ)
+    → Supports values o.pre x
+    → IsLearnt values operators goals most x flags
+
+-- and so for each operator that adds a fact
+abbrev pub AreLearnt : Values → List Operator → List ℕ → ℕ → ℕ → List Bool → Type 0
+AreLearnt values operators goals most x flags =
+    (k : ℕ)
+    → k < length operators
+    → adds (operator_at operators k) x ≡ true
+    → IsLearntOf values operators goals most (operator_at operators k) flags
+
+-- marks tell of the support of each operator that adds a fact of the zone whether it is near
+abbrev pub IsNearBehind : Values → List Operator → List ℕ → Numbers → List Bool → List Bool → Type 0
+IsNearBehind values operators goals s zone flags =
+    (k : ℕ)
+    → k < length operators
+    → list_any (is_marked zone) (operator_at operators k).add ≡ true
+    → all_valued values (operator_at operators k).pre ≡ true
+    → list_all (is_marked flags) (support values (operator_at operators k).pre)
+    ≡ list_all (is_near values operators goals s) (support values (operator_at operators k).pre)
 
 -- for each fact the operators that add it
 pub record AreAdders (operators : List Operator) (facts : ℕ) (lists : List (List ℕ)) : Type 0 where

@@ -1,195 +1,365 @@
-//! The near side: the facts to which edges lead from the state, or from the start, that do not enter the goal zone.
+//! The near side: the facts to which edges lead from the state, or from the start, that do not enter the goal zone. It is found
+//! out for the supports of operators that add a fact of the zone alone, and backwards: a fact that is cheaper than the goals is
+//! near (`proofs/CheapLemmas.antt`), so a search from a dearer one ends at the first such fact.
 
-ghost use Rattle.std.specs.Prelude.{◌≡◌, ◌<◌, ◌≤◌, ◌==◌, ◌+◌, ◌^◌, [], ℕ, All, IsTrue, OnOk, false, length, true};
-ghost use Rattle.std.specs.FinSet as set;
-ghost use Rattle.std.specs.List.{list_any};
-ghost use Rattle.mp_relaxed.specs.Relaxed.{AreAllFree, HasFree, HasUsers, operator_at, state_of};
+ghost use Rattle.std.specs.Prelude.{◌≡◌, ◌<◌, ◌||◌, ℕ, All, Contains, IfOk, OnOk, false, length, true};
+ghost use Rattle.std.specs.List.{list_all, list_any};
+ghost use Rattle.mp_sets.specs.Numbers.{Numbers};
+ghost use Rattle.mp_relaxed.specs.Relaxed.{HasAdders, operator_at};
 ghost use Rattle.mp_estimates.specs.Lowering.{value_at};
-ghost use Rattle.mp_relaxed.specs.Values.{adds};
-ghost use Rattle.mp_lmcut.specs.Cut.{support};
+ghost use Rattle.mp_lmcut.specs.Cut.{is_near, support};
 ghost use Rattle.mp_lmcut.specs.Marked.{HasGrown, is_marked};
-ghost use Rattle.mp_lmcut.specs.Sides.{AreMarkedOutside, IsLed, IsLedFree, IsMember, IsNearSide, IsZone, LeadsOn, is_led_by};
+ghost use Rattle.mp_lmcut.specs.Sides.{AreAdders, AreLearnt, AreValuesFor, HasSource, IsBehind, IsLearnt, IsLearntOf, IsNearBehind, IsTraced, IsTracedFrom, IsZone, Learns, Supports, TracesBack, is_cheap as is_cheap_for, is_source};
 
 use crate::marks::Marks;
 use crate::supports::{are_valued, support_of};
-use mp_list::OutOfMemory;
+use mp_list::{List, OutOfMemory};
 use mp_relaxed::Relaxed;
-use mp_sets::Bits;
 
-/// Marks a fact, unless it is in the zone.
-fn mark_one(y: u32, zone: &Marks, near: &mut Marks) -> Result<(), OutOfMemory>
-    requires zone { y < length zone.now.flags }
-    requires near { y < length near.old.flags }
-    ensures grown { OnOk result (HasGrown
-        (λ x. (x ≡ y) × (is_marked zone.now.flags x ≡ false)) near.old near.new) }
-    ensures here { OnOk result (is_marked zone.now.flags y ≡ false
-        → is_marked near.new.flags y ≡ true) }
+/// Whether a fact is cheaper than the goals.
+fn is_cheap(numbers: &[u64], most: u64, x: u32) -> bool
+    requires { x < length numbers.now }
+    ensures { result ≡ is_cheap_for (value_at numbers.now) most x }
 {
-    if !zone.has(y) {
-        near.mark(y)?;
+    numbers[x as usize] < most
+}
+
+/// Asks for a fact, unless it is in the zone.
+fn ask_outside(zone: &Marks, x: u32, asked: &mut Marks) -> Result<(), OutOfMemory>
+    requires zone { x < length zone.now.flags }
+    requires asked { x < length asked.old.flags }
+    ensures grown { OnOk result (HasGrown
+        (λ y. (y ≡ x) × (is_marked zone.now.flags y ≡ false)) asked.old asked.new) }
+    ensures done { OnOk result ((is_marked zone.now.flags x || is_marked asked.new.flags x) ≡ true) }
+{
+    if !zone.has(x) {
+        asked.mark(x)?;
     }
     Ok(())
 }
 
-/// Marks what an operator adds outside the zone.
-fn mark_outside(
-    problem: &Relaxed,
-    k: u32,
+/// Whether a support is cheap; else it is asked for.
+fn trace_fact(
+    numbers: &[u64],
     zone: &Marks,
-    near: &mut Marks,
-) -> Result<(), OutOfMemory>
-    requires operator { k < length problem.now.operators }
-    requires zone { length zone.now.flags ≡ problem.now.facts }
-    requires near { length near.old.flags ≡ problem.now.facts }
+    most: u64,
+    x: u32,
+    asked: &mut Marks,
+) -> Result<bool, OutOfMemory>
+    requires sized { x < length numbers.now }
+    requires zone { x < length zone.now.flags }
+    requires asked { x < length asked.old.flags }
+    ensures value { IfOk result (λ found. found ≡ is_cheap_for (value_at numbers.now) most x) }
     ensures grown { OnOk result (HasGrown
-        (λ y. (adds (operator_at problem.now.operators k) y ≡ true)
-        × (is_marked zone.now.flags y ≡ false)) near.old near.new) }
-    ensures done { OnOk result
-        (AreMarkedOutside zone.now.flags (operator_at problem.now.operators k) near.new.flags) }
+        (λ y. (y ≡ x) × (is_marked zone.now.flags y ≡ false)
+        × (is_cheap_for (value_at numbers.now) most y ≡ false)) asked.old asked.new) }
+    ensures done { IfOk result (λ found. found ≡ false
+        → (is_marked zone.now.flags x || is_marked asked.new.flags x) ≡ true) }
 {
-    for y in problem.add(k) {
-        mark_one(*y, zone, near)?;
+    if is_cheap(numbers, most, x) {
+        return Ok(true);
     }
-    Ok(())
+    ask_outside(zone, x, asked)?;
+    Ok(false)
 }
 
-/// Whether a fact is the support of some preconditions.
-pub(crate) fn is_support(numbers: &[u64], pre: &[u32], x: u32) -> bool
-    requires { All (λ y. y < length numbers.now) pre.now }
-    ensures { result ≡ list_any (λ y. y == x) (support (value_at numbers.now) pre.now) }
+/// Whether the support of some preconditions is cheap, or there is none; else it is asked for.
+fn trace_support(
+    numbers: &[u64],
+    zone: &Marks,
+    most: u64,
+    pre: &[u32],
+    asked: &mut Marks,
+) -> Result<bool, OutOfMemory>
+    requires inside { All (λ x. x < length numbers.now) pre.now }
+    requires zone { length zone.now.flags ≡ length numbers.now }
+    requires asked { length asked.old.flags ≡ length numbers.now }
+    ensures value { IfOk result (λ found. found
+        ≡ list_all (is_cheap_for (value_at numbers.now) most) (support (value_at numbers.now) pre.now)) }
+    ensures grown { OnOk result (HasGrown
+        (λ y. Supports (value_at numbers.now) pre.now y × (is_marked zone.now.flags y ≡ false)
+        × (is_cheap_for (value_at numbers.now) most y ≡ false)) asked.old asked.new) }
+    ensures done { IfOk result (λ found. found ≡ false
+        → list_all (λ x. is_marked zone.now.flags x || is_marked asked.new.flags x)
+        (support (value_at numbers.now) pre.now) ≡ true) }
 {
     match support_of(numbers, pre) {
-        Some(y) => y == x,
-        None => false,
+        Some(x) => trace_fact(numbers, zone, most, x, asked),
+        None => Ok(true),
     }
 }
 
-/// Whether an operator has edges from a fact.
-fn is_led(problem: &Relaxed, numbers: &[u64], k: u32, x: u32) -> bool
-    requires operator { k < length problem.now.operators }
-    requires sized { length numbers.now ≡ problem.now.facts }
-    ensures { result ≡ is_led_by (value_at numbers.now) (operator_at problem.now.operators k) x }
-{
-    are_valued(numbers, problem.pre(k)) && is_support(numbers, problem.pre(k), x)
-}
-
-/// Marks what an operator adds outside the zone, where it has edges from a fact.
-fn lead_on(
+/// Whether an operator has edges from the start or from a cheap fact; else its support is asked for.
+fn trace(
     problem: &Relaxed,
     numbers: &[u64],
     zone: &Marks,
+    most: u64,
     k: u32,
-    x: u32,
-    near: &mut Marks,
-) -> Result<(), OutOfMemory>
+    asked: &mut Marks,
+) -> Result<bool, OutOfMemory>
     requires operator { k < length problem.now.operators }
     requires sized { length numbers.now ≡ problem.now.facts }
     requires zone { length zone.now.flags ≡ problem.now.facts }
-    requires near { length near.old.flags ≡ problem.now.facts }
-    ensures grown { OnOk result (HasGrown
-        (IsLed (value_at numbers.now) problem.now.operators zone.now.flags x) near.old near.new) }
-    ensures done { OnOk result
-        (is_led_by (value_at numbers.now) (operator_at problem.now.operators k) x ≡ true
-        → AreMarkedOutside zone.now.flags (operator_at problem.now.operators k) near.new.flags) }
+    requires asked { length asked.old.flags ≡ problem.now.facts }
+    ensures value { IfOk result (λ found. found
+        ≡ is_source (value_at numbers.now) most (operator_at problem.now.operators k)) }
+    ensures grown { OnOk result (HasGrown (IsTracedFrom (value_at numbers.now) most
+        zone.now.flags (operator_at problem.now.operators k)) asked.old asked.new) }
+    ensures done { IfOk result (λ found. found ≡ false → IsTraced (value_at numbers.now)
+        zone.now.flags (operator_at problem.now.operators k) asked.new.flags) }
 {
-    if is_led(problem, numbers, k, x) {
-        mark_outside(problem, k, zone, near)?;
+    if !are_valued(numbers, problem.pre(k)) {
+        return Ok(false);
     }
-    Ok(())
+    trace_support(numbers, zone, most, problem.pre(k), asked)
 }
 
-/// Marks what operators lead to from a fact.
-fn lead_all(
+/// Whether one of the operators that add a fact has edges from the start or from a cheap fact; else the supports of all of
+/// them are asked for.
+fn trace_all(
     problem: &Relaxed,
     numbers: &[u64],
     zone: &Marks,
-    users: &[u32],
+    most: u64,
+    adders: &[u32],
     x: u32,
-    near: &mut Marks,
-) -> Result<(), OutOfMemory>
-    requires operators { All (λ k. k < length problem.now.operators) users.now }
-    requires users { HasUsers problem.now.operators x users.now }
+    asked: &mut Marks,
+) -> Result<bool, OutOfMemory>
+    requires operators { All (λ k. k < length problem.now.operators) adders.now }
+    requires adders { HasAdders problem.now.operators x adders.now }
     requires sized { length numbers.now ≡ problem.now.facts }
     requires zone { length zone.now.flags ≡ problem.now.facts }
-    requires near { length near.old.flags ≡ problem.now.facts }
-    ensures grown { OnOk result (HasGrown
-        (IsLed (value_at numbers.now) problem.now.operators zone.now.flags x) near.old near.new) }
-    ensures done { OnOk result
-        (LeadsOn (value_at numbers.now) problem.now.operators zone.now.flags x near.new.flags) }
+    requires asked { length asked.old.flags ≡ problem.now.facts }
+    ensures found { IfOk result (λ found. found ≡ true
+        → HasSource (value_at numbers.now) most problem.now.operators x) }
+    ensures grown { OnOk result (HasGrown (IsBehind (value_at numbers.now) most
+        problem.now.operators zone.now.flags x) asked.old asked.new) }
+    ensures done { IfOk result (λ found. found ≡ false → TracesBack (value_at numbers.now) most
+        problem.now.operators zone.now.flags x asked.new.flags) }
 {
-    for k in users {
-        lead_on(problem, numbers, zone, *k, x, near)?;
+    for k in adders {
+        let found = trace(problem, numbers, zone, most, *k, asked)?;
+        if found {
+            return Ok(true);
+        }
     }
-    Ok(())
+    Ok(false)
 }
 
-/// Marks what operators without preconditions lead to.
-fn lead_free(
-    problem: &Relaxed,
-    free: &[u32],
-    zone: &Marks,
-    near: &mut Marks,
-) -> Result<(), OutOfMemory>
-    requires operators { All (λ k. k < length problem.now.operators) free.now }
-    requires empty { AreAllFree problem.now.operators free.now }
-    requires all { HasFree problem.now.operators free.now }
-    requires zone { length zone.now.flags ≡ problem.now.facts }
-    requires near { length near.old.flags ≡ problem.now.facts }
-    ensures grown { OnOk result (HasGrown
-        (IsLedFree problem.now.operators zone.now.flags) near.old near.new) }
-    ensures done { OnOk result ((k : ℕ) → k < length problem.now.operators
-        → (operator_at problem.now.operators k).pre ≡ []
-        → AreMarkedOutside zone.now.flags (operator_at problem.now.operators k) near.new.flags) }
-{
-    for k in free {
-        mark_outside(problem, *k, zone, near)?;
-    }
-    Ok(())
-}
-
-/// Marks the members of a set, above an offset.
-fn mark_members(members: &Bits, offset: u32, near: &mut Marks) -> Result<(), OutOfMemory>
-    requires room { offset + members.now.size ≤ length near.old.flags }
-    requires few { length near.old.flags < 2 ^ 32 }
-    ensures grown { OnOk result (HasGrown
-        (IsMember members.now.members members.now.size offset) near.old near.new) }
-    ensures done { OnOk result ((x : ℕ) → IsTrue (set.contains members.now.members x)
-        → is_marked near.new.flags (offset + x) ≡ true) }
-{
-    let mut from = 0;
-    'members: while let Some(x) = members.least_from(from) {
-        near.mark(offset + x)?;
-        from = x + 1;
-    }
-    Ok(())
-}
-
-/// Marks the near side.
-pub(crate) fn mark_near(
+/// Whether a dear fact outside the zone is near: whether a search back from it comes to a fact to which an operator leads from
+/// the start or from a cheap fact.
+fn is_reached(
     problem: &Relaxed,
     numbers: &[u64],
+    adders: &[List<u32>],
     zone: &Marks,
-    publics: &Bits,
-    privates: &Bits,
-    near: &mut Marks,
-) -> Result<(), OutOfMemory>
+    most: u64,
+    x: u32,
+    asked: &mut Marks,
+) -> Result<bool, OutOfMemory>
+    requires fact { x < problem.now.facts }
+    requires adders { AreAdders problem.now.operators problem.now.facts adders.now }
     requires sized { length numbers.now ≡ problem.now.facts }
-    requires publics { publics.now.size ≡ problem.now.publics }
-    requires privates { problem.now.publics + privates.now.size ≡ problem.now.facts }
     requires len { length zone.now.flags ≡ problem.now.facts }
     requires zone { IsZone (value_at numbers.now) problem.now.operators problem.now.goals
         zone.now.flags }
-    ensures near { OnOk result (IsNearSide (value_at numbers.now) problem.now.operators
-        problem.now.goals (state_of problem.now publics.now.members privates.now.members)
-        near.new.flags) }
+    requires outside { is_marked zone.now.flags x ≡ false }
+    requires dear { is_cheap_for (value_at numbers.now) most x ≡ false }
+    ensures { IfOk result (λ found. (s : Numbers)
+        → AreValuesFor (value_at numbers.now) problem.now.operators problem.now.goals most s
+        → found ≡ is_near (value_at numbers.now) problem.now.operators problem.now.goals s x) }
+{
+    asked.begin(problem.facts())?;
+    asked.mark(x)?;
+    'facts: while let Some(y) = asked.next() {
+        let row = adders[y as usize].as_slice();
+        let found = trace_all(problem, numbers, zone, most, row, y, asked)?;
+        if found {
+            return Ok(true);
+        }
+    }
+    Ok(false)
+}
+
+/// Whether a fact is near.
+fn is_near_fact(
+    problem: &Relaxed,
+    numbers: &[u64],
+    adders: &[List<u32>],
+    zone: &Marks,
+    most: u64,
+    x: u32,
+    asked: &mut Marks,
+) -> Result<bool, OutOfMemory>
+    requires fact { x < problem.now.facts }
+    requires adders { AreAdders problem.now.operators problem.now.facts adders.now }
+    requires sized { length numbers.now ≡ problem.now.facts }
+    requires len { length zone.now.flags ≡ problem.now.facts }
+    requires zone { IsZone (value_at numbers.now) problem.now.operators problem.now.goals
+        zone.now.flags }
+    ensures { IfOk result (λ found. (s : Numbers)
+        → AreValuesFor (value_at numbers.now) problem.now.operators problem.now.goals most s
+        → found ≡ is_near (value_at numbers.now) problem.now.operators problem.now.goals s x) }
+{
+    if is_cheap(numbers, most, x) {
+        return Ok(true);
+    }
+    if zone.has(x) {
+        return Ok(false);
+    }
+    is_reached(problem, numbers, adders, zone, most, x, asked)
+}
+
+/// Marks a fact where it is near.
+fn learn(
+    problem: &Relaxed,
+    numbers: &[u64],
+    adders: &[List<u32>],
+    zone: &Marks,
+    most: u64,
+    x: u32,
+    asked: &mut Marks,
+    near: &mut Marks,
+) -> Result<(), OutOfMemory>
+    requires fact { x < problem.now.facts }
+    requires adders { AreAdders problem.now.operators problem.now.facts adders.now }
+    requires sized { length numbers.now ≡ problem.now.facts }
+    requires len { length zone.now.flags ≡ problem.now.facts }
+    requires zone { IsZone (value_at numbers.now) problem.now.operators problem.now.goals
+        zone.now.flags }
+    requires near { length near.old.flags ≡ problem.now.facts }
+    ensures learns { OnOk result (Learns (value_at numbers.now) problem.now.operators
+        problem.now.goals most near.old.flags near.new.flags) }
+    ensures here { OnOk result (IsLearnt (value_at numbers.now) problem.now.operators
+        problem.now.goals most x near.new.flags) }
+{
+    if near.has(x) {
+        return Ok(());
+    }
+    let found = is_near_fact(problem, numbers, adders, zone, most, x, asked)?;
+    if found {
+        near.mark(x)?;
+    }
+    Ok(())
+}
+
+/// Marks the support of an operator where it is near.
+fn learn_support(
+    problem: &Relaxed,
+    numbers: &[u64],
+    adders: &[List<u32>],
+    zone: &Marks,
+    most: u64,
+    k: u32,
+    asked: &mut Marks,
+    near: &mut Marks,
+) -> Result<(), OutOfMemory>
+    requires operator { k < length problem.now.operators }
+    requires adders { AreAdders problem.now.operators problem.now.facts adders.now }
+    requires sized { length numbers.now ≡ problem.now.facts }
+    requires len { length zone.now.flags ≡ problem.now.facts }
+    requires zone { IsZone (value_at numbers.now) problem.now.operators problem.now.goals
+        zone.now.flags }
+    requires near { length near.old.flags ≡ problem.now.facts }
+    ensures learns { OnOk result (Learns (value_at numbers.now) problem.now.operators
+        problem.now.goals most near.old.flags near.new.flags) }
+    ensures here { OnOk result (IsLearntOf (value_at numbers.now) problem.now.operators
+        problem.now.goals most (operator_at problem.now.operators k) near.new.flags) }
+{
+    if !are_valued(numbers, problem.pre(k)) {
+        return Ok(());
+    }
+    if let Some(x) = support_of(numbers, problem.pre(k)) {
+        learn(problem, numbers, adders, zone, most, x, asked, near)?;
+    }
+    Ok(())
+}
+
+/// Marks the supports of some operators where they are near.
+fn learn_each(
+    problem: &Relaxed,
+    numbers: &[u64],
+    adders: &[List<u32>],
+    zone: &Marks,
+    most: u64,
+    operators: &[u32],
+    asked: &mut Marks,
+    near: &mut Marks,
+) -> Result<(), OutOfMemory>
+    requires operators { All (λ k. k < length problem.now.operators) operators.now }
+    requires adders { AreAdders problem.now.operators problem.now.facts adders.now }
+    requires sized { length numbers.now ≡ problem.now.facts }
+    requires len { length zone.now.flags ≡ problem.now.facts }
+    requires zone { IsZone (value_at numbers.now) problem.now.operators problem.now.goals
+        zone.now.flags }
+    requires near { length near.old.flags ≡ problem.now.facts }
+    ensures learns { OnOk result (Learns (value_at numbers.now) problem.now.operators
+        problem.now.goals most near.old.flags near.new.flags) }
+    ensures each { OnOk result ((k : ℕ) → Contains operators.now k
+        → IsLearntOf (value_at numbers.now) problem.now.operators
+        problem.now.goals most (operator_at problem.now.operators k) near.new.flags) }
+{
+    for k in operators {
+        learn_support(problem, numbers, adders, zone, most, *k, asked, near)?;
+    }
+    Ok(())
+}
+
+/// Marks the supports of the operators that add a fact, where the fact is in the zone, and they are near.
+fn learn_adders(
+    problem: &Relaxed,
+    numbers: &[u64],
+    adders: &[List<u32>],
+    zone: &Marks,
+    most: u64,
+    x: u32,
+    asked: &mut Marks,
+    near: &mut Marks,
+) -> Result<(), OutOfMemory>
+    requires fact { x < problem.now.facts }
+    requires adders { AreAdders problem.now.operators problem.now.facts adders.now }
+    requires sized { length numbers.now ≡ problem.now.facts }
+    requires len { length zone.now.flags ≡ problem.now.facts }
+    requires zone { IsZone (value_at numbers.now) problem.now.operators problem.now.goals
+        zone.now.flags }
+    requires near { length near.old.flags ≡ problem.now.facts }
+    ensures learns { OnOk result (Learns (value_at numbers.now) problem.now.operators
+        problem.now.goals most near.old.flags near.new.flags) }
+    ensures each { OnOk result (is_marked zone.now.flags x ≡ true
+        → AreLearnt (value_at numbers.now) problem.now.operators problem.now.goals most x near.new.flags) }
+{
+    if zone.has(x) {
+        let row = adders[x as usize].as_slice();
+        learn_each(problem, numbers, adders, zone, most, row, asked, near)?;
+    }
+    Ok(())
+}
+
+/// Marks those supports of operators that add a fact of the zone that are near.
+pub(crate) fn mark_near(
+    problem: &Relaxed,
+    numbers: &[u64],
+    adders: &[List<u32>],
+    zone: &Marks,
+    most: u64,
+    asked: &mut Marks,
+    near: &mut Marks,
+) -> Result<(), OutOfMemory>
+    requires adders { AreAdders problem.now.operators problem.now.facts adders.now }
+    requires sized { length numbers.now ≡ problem.now.facts }
+    requires len { length zone.now.flags ≡ problem.now.facts }
+    requires zone { IsZone (value_at numbers.now) problem.now.operators problem.now.goals
+        zone.now.flags }
+    ensures near { OnOk result ((s : Numbers)
+        → AreValuesFor (value_at numbers.now) problem.now.operators problem.now.goals most s
+        → IsNearBehind (value_at numbers.now) problem.now.operators problem.now.goals s
+        zone.now.flags near.new.flags) }
     ensures len { OnOk result (length near.new.flags ≡ problem.now.facts) }
 {
     near.begin(problem.facts())?;
-    mark_members(publics, 0, near)?;
-    mark_members(privates, problem.publics(), near)?;
-    lead_free(problem, problem.free(), zone, near)?;
-    'facts: while let Some(x) = near.next() {
-        lead_all(problem, numbers, zone, problem.users(x), x, near)?;
+    for x in 0..problem.facts() {
+        learn_adders(problem, numbers, adders, zone, most, x, asked, near)?;
     }
     Ok(())
 }

@@ -1,10 +1,11 @@
 //! The rounds of the heuristic.
 
-ghost use Rattle.std.specs.Prelude.{◌≡◌, ◌+◌, ◌<◌, ◌≤◌, ℕ, suc, All, IfOk, IfSome, OnOk, length, option_map};
+ghost use Rattle.std.specs.Prelude.{◌≡◌, ◌+◌, ◌<◌, ◌≤◌, ℕ, suc, All, IfOk, IfSome, OnOk, Some, length, option_map};
 ghost use Rattle.std.specs.Option.{option_map_or};
+ghost use Rattle.mp_estimates.specs.Lowering.{value_at};
 ghost use Rattle.mp_relaxed.specs.Relaxed.{AreCheaper, state_of};
 ghost use Rattle.mp_relaxed.specs.Search.{AreValues};
-ghost use Rattle.mp_relaxed.specs.Values.{fact_values};
+ghost use Rattle.mp_relaxed.specs.Values.{fact_values, greatest};
 ghost use Rattle.mp_lmcut.specs.Cut.{cut_cost, cuts, is_positive, lmcut_of, lowered};
 ghost use Rattle.mp_lmcut.specs.Sides.{AreAdders, costless};
 
@@ -32,10 +33,13 @@ fn lower(
     problem: &mut Relaxed,
     numbers: &[u64],
     adders: &[List<u32>],
+    most: u64,
     sides: &mut Sides,
     publics: &Bits,
     privates: &Bits,
 ) -> Result<u64, OutOfMemory>
+    requires paid { greatest (value_at numbers.now) problem.old.goals ≡ Some most }
+    requires some { 1 ≤ most }
     requires values { AreValues problem.old publics.now.members privates.now.members numbers.now }
     requires sized { length numbers.now ≡ problem.old.facts }
     requires adders { AreAdders problem.old.operators problem.old.facts adders.now }
@@ -61,9 +65,10 @@ fn lower(
     mark_near(
         problem,
         numbers,
+        adders,
         &sides.zone,
-        publics,
-        privates,
+        most,
+        &mut sides.asked,
         &mut sides.near,
     )?;
     list_cut(
@@ -107,10 +112,20 @@ fn round(
     ensures counted { search.new.operators ≡ search.old.operators }
     ensures sized { length search.new.numbers ≡ length search.old.numbers }
 {
-    if !is_left(search.greatest(problem.goals())) {
+    let value = search.greatest(problem.goals());
+    if !is_left(value) {
         return Ok(None);
     }
-    let cost = lower(problem, search.numbers(), adders, sides, publics, privates)?;
+    let most = value.unwrap_or(0);
+    let cost = lower(
+        problem,
+        search.numbers(),
+        adders,
+        most,
+        sides,
+        publics,
+        privates,
+    )?;
     search.again(problem, sides.cut.as_slice())?;
     Ok(Some(cost))
 }

@@ -3,12 +3,13 @@
 use crate::marks::Marks;
 use std::alloc::Global;
 
-/// The marks of the goal zone and of the near side, and the operators of the cut, with what each costs before it is paid for. They
+/// The marks of the goal zone, of the near side and of facts that it is asked for, and the operators of the cut, with what each costs before it is paid for. They
 /// keep their memory from round to round.
 #[derive(Drop)]
 pub(crate) struct Sides {
     pub(crate) zone: Marks,
     pub(crate) near: Marks,
+    pub(crate) asked: Marks,
     pub(crate) cut: Vec<u32>,
     pub(crate) costs: Vec<u64>,
 }
@@ -19,6 +20,7 @@ impl Sides {
         Sides {
             zone: Marks::new(alloc),
             near: Marks::new(alloc),
+            asked: Marks::new(alloc),
             cut: Vec::new(alloc),
             costs: Vec::new(alloc),
         }

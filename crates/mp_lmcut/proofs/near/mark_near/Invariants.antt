@@ -1,19 +1,13 @@
-use Rattle.std.proofs.Common.{◌≡◌, ℕ, ◌<◌, true, [], length}
-use Rattle.std.specs.FinSet as set
-use Rattle.mp_relaxed.specs.Relaxed.{operator_at, state_of}
+use Rattle.std.proofs.Common.{◌≡◌, ℕ, ◌<◌, true, length}
 use Rattle.mp_estimates.specs.Lowering.{value_at}
-use Rattle.mp_lmcut.specs.Cut.{is_near}
-use Rattle.mp_lmcut.specs.Marked.{IsReaching, is_marked, weight}
-use Rattle.mp_lmcut.specs.Sides.{AreMarkedOutside, LeadsOn}
+use Rattle.mp_sets.specs.Numbers.{Numbers}
+use Rattle.mp_lmcut.specs.Marked.{is_marked}
+use Rattle.mp_lmcut.specs.Sides.{AreLearnt, AreNear, AreValuesFor}
 use Rattle.mp_lmcut.proofs.near.mark_near.Given as goal
 
-abbrev pub invariant-facts : goal.invariant-facts
-invariant-facts l = record {
+abbrev pub invariant-loop-x : goal.invariant-loop-x
+invariant-loop-x l = record {
   len : length l.near.flags ≡ l.problem.facts;
-  state : (x : ℕ) → set.contains (state_of l.problem l.publics.members l.privates.members) x ≡ true → is_marked l.near.flags x ≡ true;
-  free : (k : ℕ) → k < length l.problem.operators → (operator_at l.problem.operators k).pre ≡ [] → AreMarkedOutside l.zone.flags (operator_at l.problem.operators k) l.near.flags;
-  reaching : IsReaching (λ y. is_near (value_at l.numbers) l.problem.operators l.problem.goals (state_of l.problem l.publics.members l.privates.members) y ≡ true) (LeadsOn (value_at l.numbers) l.problem.operators l.zone.flags) l.near;
+  sound : (s : Numbers) → AreValuesFor (value_at l.numbers) l.problem.operators l.problem.goals l.most s → AreNear (value_at l.numbers) l.problem.operators l.problem.goals s l.near.flags;
+  seen : (y : ℕ) → y < l.x → is_marked l.zone.flags y ≡ true → AreLearnt (value_at l.numbers) l.problem.operators l.problem.goals l.most y l.near.flags;
 }
-
-abbrev pub decreases-facts : goal.decreases-facts
-decreases-facts l = weight l.near

@@ -25,7 +25,7 @@ returns-clause-cost c =
     let near = c.mark_near.new.near.flags in
     c.pay.ensures.cost
     ∙ least_paid (is_between (value_at c.args.numbers.now) zone near) r.operators c.list_cut.new.cut.items c.list_cut.new.costs.items c.in_ok-list_cut.ensures.listed c.in_ok-list_cut.ensures.all c.as_slice-2.result.now c.as_slice-2.ensures.value
-    ∙ cost_is r s c.args.numbers.now zone near c.requires.values c.in_ok-mark_zone.ensures.zone c.in_ok-mark_near.ensures.near
+    ∙ cost_is r s c.args.numbers.now zone near c.requires.values c.in_ok-mark_zone.ensures.zone (c.in_ok-mark_near.ensures.near s (record { same = c.requires.values; paid = c.requires.paid; some = c.requires.some }))
 
 pub returns-clause-lowered : goal.returns-clause-lowered
 returns-clause-lowered c =
@@ -36,10 +36,10 @@ returns-clause-lowered c =
     let such = is_between (value_at c.args.numbers.now) zone near in
     lowered_to such r c.pay.new.problem c.list_cut.new.cut.items c.list_cut.new.costs.items c.as_slice.result.now c.pay.result c.in_ok-list_cut.ensures.listed c.in_ok-list_cut.ensures.all c.as_slice.ensures.value c.pay.ensures.lowered
     ∙ ap (λ os. record r { operators = os })
-    (lowered_is r s c.args.numbers.now zone near c.requires.values c.in_ok-mark_zone.ensures.zone c.in_ok-mark_near.ensures.near c.pay.result
+    (lowered_is r s c.args.numbers.now zone near c.requires.values c.in_ok-mark_zone.ensures.zone (c.in_ok-mark_near.ensures.near s (record { same = c.requires.values; paid = c.requires.paid; some = c.requires.some })) c.pay.result
     (c.pay.ensures.cost
     ∙ least_paid such r.operators c.list_cut.new.cut.items c.list_cut.new.costs.items c.in_ok-list_cut.ensures.listed c.in_ok-list_cut.ensures.all c.as_slice-2.result.now c.as_slice-2.ensures.value
-    ∙ cost_is r s c.args.numbers.now zone near c.requires.values c.in_ok-mark_zone.ensures.zone c.in_ok-mark_near.ensures.near))
+    ∙ cost_is r s c.args.numbers.now zone near c.requires.values c.in_ok-mark_zone.ensures.zone (c.in_ok-mark_near.ensures.near s (record { same = c.requires.values; paid = c.requires.paid; some = c.requires.some }))))
 
 pub returns-clause-small : goal.returns-clause-small
 returns-clause-small c =
