@@ -2,4 +2,5 @@ pub mod Cut
 pub mod Laws
 pub mod Marked
 pub mod Marks
+pub mod Memo
 pub mod Sides

@@ -5,6 +5,7 @@ mod costs;
 mod laws;
 mod lmcut;
 mod marks;
+mod memo;
 mod near;
 mod rounds;
 mod sides;

@@ -1,11 +1,12 @@
 //! The heuristic.
 
-ghost use Rattle.std.specs.Prelude.{◌≡◌, ◌+◌, ◌≤◌, All, IfOk, length};
-ghost use Rattle.mp_task.specs.AgentTask.{AgentTask};
-ghost use Rattle.mp_relaxed.specs.Relaxed.{RelaxedProblem, delete_relaxation};
-ghost use Rattle.mp_lmcut.specs.Cut.{lmcut};
+ghost use Rattle.std.specs.Prelude.{◌≡◌, ◌+◌, ◌≤◌, All, IfOk, length, vec_len};
+ghost use Rattle.std.proofs.Props.{props};
+ghost use Rattle.mp_relaxed.specs.Relaxed.{RelaxedProblem};
+ghost use Rattle.mp_lmcut.specs.Memo.{IsRight, lmcut_in};
 ghost use Rattle.mp_lmcut.specs.Sides.{AreAdders, costless, repriced};
 
+use crate::memo::{Slot, empty_slots, place_of, recall, remember};
 use crate::rounds::value_of;
 use crate::sides::Sides;
 use mp_list::{List, OutOfMemory};
@@ -16,18 +17,21 @@ use std::alloc::Global;
 
 /// The heuristic LM-cut (Helmert and Domshlak 2009): what the cuts of its rounds cost together, each round at the costs
 /// that the one before has left. None where a goal cannot be made true. It keeps its arrays from call to call, so that
-/// a value takes memory only where a queue or a list grows.
+/// a value takes memory only where a queue or a list grows, and the values that were asked for last.
 pub struct Cut {
     problem: Relaxed,
     costs: Vec<u64>,
     adders: Vec<List<u32>>,
     search: Search,
     sides: Sides,
+    memo: Vec<Option<Slot>>,
     ghost priced: { length costs.items ≡ length problem.operators },
     ghost cheap: { All (λ c. c ≤ 16000000) costs.items },
     ghost added: { AreAdders problem.operators problem.facts adders.items },
     ghost counted: { search.operators ≡ length problem.operators },
     ghost sized: { length search.numbers ≡ problem.facts },
+    ghost roomy: { length memo.items ≡ 8192 },
+    ghost right: { All (IsRight (lmcut_in (repriced costs.items problem))) memo.items } by { Prim.hlevel props },
 }
 
 impl Drop for Cut {
@@ -38,6 +42,7 @@ impl Drop for Cut {
             adders: _,
             search: _,
             sides: _,
+            memo: _,
         } = self;
     }
 }
@@ -68,9 +73,8 @@ fn estimate(
     requires adders { AreAdders problem.old.operators problem.old.facts adders.now }
     requires publics { publics.now.size ≡ problem.old.publics }
     requires privates { problem.old.publics + privates.now.size ≡ problem.old.facts }
-    ensures found { IfOk result (λ found. (t : AgentTask)
-        → repriced costs.now problem.old ≡ delete_relaxation t
-        → found ≡ lmcut t publics.now.members privates.now.members) }
+    ensures found { IfOk result (λ found. found
+        ≡ lmcut_in (repriced costs.now problem.old) publics.now.members privates.now.members) }
     ensures kept { costless problem.new ≡ costless problem.old }
     ensures counted { search.new.operators ≡ search.old.operators }
     ensures sized { length search.new.numbers ≡ length search.old.numbers }
@@ -80,8 +84,47 @@ fn estimate(
     Ok(found)
 }
 
+/// The value of a state: the one that is kept, if there is one, or else from the problem at these costs.
+fn recall_or_estimate(
+    problem: &mut Relaxed,
+    costs: &[u64],
+    adders: &[List<u32>],
+    search: &mut Search,
+    sides: &mut Sides,
+    memo: &mut Vec<Option<Slot>>,
+    publics: &Bits,
+    privates: &Bits,
+) -> Result<Option<u64>, OutOfMemory>
+    requires each { length costs.now ≡ length problem.old.operators }
+    requires cheap { All (λ c. c ≤ 16000000) costs.now }
+    requires counted { search.old.operators ≡ length problem.old.operators }
+    requires sized { length search.old.numbers ≡ problem.old.facts }
+    requires adders { AreAdders problem.old.operators problem.old.facts adders.now }
+    requires publics { publics.now.size ≡ problem.old.publics }
+    requires privates { problem.old.publics + privates.now.size ≡ problem.old.facts }
+    requires roomy { vec_len memo.old ≡ 8192 }
+    requires right { All (IsRight (lmcut_in (repriced costs.now problem.old))) memo.old.items }
+    ensures found { IfOk result (λ found. found
+        ≡ lmcut_in (repriced costs.now problem.old) publics.now.members privates.now.members) }
+    ensures kept { costless problem.new ≡ costless problem.old }
+    ensures counted { search.new.operators ≡ search.old.operators }
+    ensures sized { length search.new.numbers ≡ length search.old.numbers }
+    ensures roomy { vec_len memo.new ≡ 8192 }
+    ensures right { All (IsRight (lmcut_in (repriced costs.now problem.old))) memo.new.items }
+{
+    let at = place_of(publics, privates, memo.len());
+    if let Some(found) = recall(memo.as_slice(), at, publics, privates) {
+        return Ok(found);
+    }
+    let found = estimate(problem, costs, adders, search, sides, publics, privates)?;
+    remember(memo, at, publics, privates, found)?;
+    Ok(found)
+}
+
 impl Heuristic for Cut {
     ghost use Rattle.mp_task.specs.Limits.{IsWithinLimits};
+    ghost use Rattle.mp_relaxed.specs.Relaxed.{delete_relaxation};
+    ghost use Rattle.mp_lmcut.specs.Cut.{lmcut};
     ghost use Rattle.mp_lmcut.specs.Laws.Rounds.{lmcut_is_admissible, lmcut_is_dead, lmcut_is_small};
 
     ghost is_for = { λ h t. (repriced h.costs.items h.problem ≡ delete_relaxation t) × IsWithinLimits t };
@@ -93,6 +136,7 @@ impl Heuristic for Cut {
         let costs = problem.costs(alloc)?;
         let adders = problem.adders(alloc)?;
         let search = Search::new(alloc, &problem)?;
+        let memo = empty_slots(alloc)?;
         let _ = problem.operators();
         Ok(Cut {
             problem,
@@ -100,16 +144,18 @@ impl Heuristic for Cut {
             adders,
             search,
             sides: Sides::new(alloc),
+            memo,
         })
     }
 
     fn value(&mut self, publics: &Bits, privates: &Bits) -> Result<Option<u64>, OutOfMemory> {
-        estimate(
+        recall_or_estimate(
             &mut self.problem,
             self.costs.as_slice(),
             self.adders.as_slice(),
             &mut self.search,
             &mut self.sides,
+            &mut self.memo,
             publics,
             privates,
         )

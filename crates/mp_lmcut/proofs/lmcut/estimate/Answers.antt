@@ -1,7 +1,8 @@
 use Rattle.std.proofs.Common.{ap, sym, ◌∙◌, arith}
+use Rattle.mp_relaxed.specs.Relaxed.{RelaxedProblem}
+use Rattle.mp_lmcut.specs.Memo.{lmcut_in}
 use Rattle.mp_lmcut.specs.Sides.{costless}
 use Rattle.mp_lmcut.proofs.CostLemmas.{as_many, costless_repriced, same_adders}
-use Rattle.mp_lmcut.proofs.RoundLemmas.{lmcut_found}
 use Rattle.mp_lmcut.proofs.lmcut.estimate.Goals as goal
 
 pub value_of-requires-clause-counted : goal.value_of-requires-clause-counted
@@ -15,9 +16,9 @@ value_of-requires-clause-adders c =
     same_adders c.args.problem.now c.set_back.new.problem c.args.adders.now (sym same) c.requires.adders
 
 pub returns-clause-found : goal.returns-clause-found
-returns-clause-found c = λ t e.
+returns-clause-found c =
     c.in_ok-found.ensures.found
-    ∙ lmcut_found t c.set_back.new.problem c.args.publics.now.members c.args.privates.now.members (c.set_back.ensures ∙ e)
+    ∙ ap (λ (r : RelaxedProblem). lmcut_in r c.args.publics.now.members c.args.privates.now.members) c.set_back.ensures
 
 pub returns-clause-kept : goal.returns-clause-kept
 returns-clause-kept c =
