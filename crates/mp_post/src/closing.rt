@@ -1,8 +1,8 @@
 //! Posts at the end.
 
-ghost use Rattle.std.specs.Prelude.{◌≡◌, ◌≤◌, ℕ, All, length, map, IfErr, IfOk};
+ghost use Rattle.std.specs.Prelude.{◌≡◌, ℕ, All, map, IfErr, IfOk};
 ghost use Rattle.mp_messages.specs.History.{IsHistory, agent_of, part};
-ghost use Rattle.mp_stamps.specs.Lists.{IsAgentOf, Matched, entries, list_of};
+ghost use Rattle.mp_stamps.specs.Lists.{IsAgentOf, entries};
 ghost use Rattle.mp_stamps.specs.Merged.{Merged};
 ghost use Rattle.mp_post_rule.specs.Kinds.{HoldsAll};
 ghost use Rattle.mp_post_rule.specs.Table.{ArePosts};
@@ -41,23 +41,50 @@ fn all_entries(alloc: Global, lists: &StampedLists) -> Result<Lists, OutOfMemory
     Ok(all)
 }
 
-/// The one log of some lists that fit each other, and the entries of each of them.
-fn logs(alloc: Global, lists: &StampedLists) -> Result<(Log, Lists), OutOfMemory>
-    requires count { (1 ≤ length lists.now) × (length lists.now ≤ 16) }
-    requires matched { Matched lists.now }
-    ensures merged { IfOk result (λ r. Merged lists.now r.0) }
-    ensures legal { IfOk result (λ r. IsHistory r.0) }
-    ensures parts { IfOk result (λ r. (agent : ℕ) → IsAgentOf (length lists.now) agent
-        → part r.0 agent ≡ entries (list_of lists.now agent)) }
-    ensures agents { IfOk result (λ r. All (λ e. IsAgentOf (length lists.now) (agent_of e)) r.0) }
-    ensures lists { IfOk result (λ r. r.1 ≡ map entries lists.now) }
-{
-    let log = merge_stamped(lists)?;
-    let all = all_entries(alloc, lists)?;
-    Ok((log, all))
-}
-
 impl Desk {
+    /// The log of all that was signed, merged by stamps, of a desk that holds all agents: each agent's part of it is what it
+    /// signed. Refuses only for want of memory.
+    pub fn log(&mut self, posts: &Posts) -> Result<Log, OutOfMemory>
+        requires posts { ArePosts posts.now.shared.table_id posts.now.shared.key }
+        requires desk { IsDeskOf posts.now.shared.table_id posts.now.shared.key self.old }
+        requires all { HoldsAll posts.now.shared.key self.old.view }
+        ensures same { self.new ≡ self.old }
+        ensures merged { IfOk result (Merged (lists_of self.old.view)) }
+        ensures legal { IfOk result IsHistory }
+        ensures parts { IfOk result (λ log. (agent : ℕ) → IsAgentOf posts.now.shared.key agent
+            → part log agent ≡ entries (list_at self.old.view agent)) }
+        ensures agents { IfOk result (All (λ e. IsAgentOf posts.now.shared.key (agent_of e))) }
+    {
+        look_at_lists(posts, &mut self.seat);
+        merge_stamped(&self.lists)
+    }
+
+    /// What each agent signed, that of agent 1 first; nothing of an agent that another desk holds. Refuses only for want of
+    /// memory.
+    fn all_signed(&self) -> Result<Lists, OutOfMemory>
+        ensures { IfOk result (λ all. all ≡ map entries (lists_of self.now.view)) }
+    {
+        all_entries(*self.held.allocator(), &self.lists)
+    }
+
+    /// The log of all that was signed, and what each agent signed.
+    fn log_and_lists(&mut self, posts: &Posts) -> Result<(Log, Lists), OutOfMemory>
+        requires posts { ArePosts posts.now.shared.table_id posts.now.shared.key }
+        requires desk { IsDeskOf posts.now.shared.table_id posts.now.shared.key self.old }
+        requires all { HoldsAll posts.now.shared.key self.old.view }
+        ensures same { self.new ≡ self.old }
+        ensures merged { IfOk result (λ r. Merged (lists_of self.old.view) r.0) }
+        ensures legal { IfOk result (λ r. IsHistory r.0) }
+        ensures parts { IfOk result (λ r. (agent : ℕ) → IsAgentOf posts.now.shared.key agent
+            → part r.0 agent ≡ entries (list_at self.old.view agent)) }
+        ensures agents { IfOk result (λ r. All (λ e. IsAgentOf posts.now.shared.key (agent_of e)) r.0) }
+        ensures lists { IfOk result (λ r. r.1 ≡ map entries (lists_of self.old.view)) }
+    {
+        let log = self.log(posts)?;
+        let all = self.all_signed()?;
+        Ok((log, all))
+    }
+
     /// Ends the posts of a desk that holds all agents: the log of all that they signed, merged by stamps, and what each
     /// of them signed. For want of memory posts and desk come back.
     pub fn close(mut self, posts: Posts) -> Result<(Log, Lists), (OutOfMemory, Posts, Desk)>
@@ -72,9 +99,7 @@ impl Desk {
         ensures lists { IfOk result (λ r. r.1 ≡ map entries (lists_of self.view)) }
         ensures refused { IfErr result (λ r. (r.1.shared ≡ posts.shared) × (r.2 ≡ self)) }
     {
-        look_at_lists(&posts, &mut self.seat);
-        let alloc = *self.held.allocator();
-        match logs(alloc, &self.lists) {
+        match self.log_and_lists(&posts) {
             Ok(both) => Ok(both),
             Err(refused) => Err((refused, posts, self)),
         }

@@ -1,6 +1,6 @@
 -- Works that were served, and two of them in one.
-use Rattle.std.proofs.Common.{◌≡◌, ◌≢◌, ◌⊎◌, inl, inr, ℕ, ◌&&◌, Bool, true, false, List, [], ◌∷◌, ◌++◌, length, Some, None, Ok, Err, refl, sym, ap, ◌∙◌, subst}
-use Rattle.std.specs.Prelude.{All, Contains, IfSome, MatchResult, Option, Result}
+use Rattle.std.proofs.Common.{◌≡◌, ◌⊎◌, inl, inr, ℕ, ◌&&◌, true, false, List, [], ◌∷◌, ◌++◌, length, Some, None, Ok, Err, refl, sym, ap, ◌∙◌, subst}
+use Rattle.std.specs.Prelude.{Contains, IfSome, MatchResult, Option, Result}
 use Rattle.std.specs.Option.{option_map_or}
 use Rattle.std.proofs.lemmas.Bool.{and_parts}
 use Rattle.std.proofs.lemmas.List.Elements.{All-contains, Contains-append_left, Contains-append_right}
@@ -11,8 +11,8 @@ use Rattle.mp_sets.specs.Numbers.{Numbers}
 use Rattle.mp_task.specs.AgentTask.{AgentTask}
 use Rattle.mp_machine.specs.Machine.{AgentMachine}
 use Rattle.mp_nodes.specs.Nodes.{AreSameAgents, IsPlaceAt, SeenNode, has_ended, have_ended, node_at}
-use Rattle.mp_nodes.specs.Served.{AllEnded, IsAnswer}
-use Rattle.mp_nodes.specs.Steps.{IsBadAt, IsSeenHalted}
+use Rattle.mp_nodes.specs.Served.{IsAnswer}
+use Rattle.mp_nodes.specs.Steps.{IsSeenHalted}
 use Rattle.mp_nodes.specs.declared.served.Served.{Served}
 use Rattle.mp_nodes.specs.declared.served.Served.TheVariants as answers
 use Rattle.mp_post.specs.Desks.{IsDeskOf}

@@ -1,10 +1,10 @@
 -- A team at the end: what its nodes and its desk say of the log.
-use Rattle.std.proofs.Common.{◌≡◌, ℕ, zero, suc, ◌+◌, ◌<◌, ◌≤◌, ◌&&◌, not, Bool, true, List, [], ◌∷◌, ◌++◌, length, map, get_or, Some, None, refl, sym, ap, ◌∙◌, arith, subst}
+use Rattle.std.proofs.Common.{◌≡◌, ℕ, zero, suc, ◌<◌, ◌&&◌, not, true, List, [], ◌∷◌, ◌++◌, length, map, get_or, Some, None, refl, sym, ap, ◌∙◌, arith, subst}
 use Rattle.std.specs.Prelude.{◌==◌, All, Contains, Option, slice_get}
 use Rattle.std.specs.List.{list_all}
 use Rattle.std.specs.Option.{option_map, option_map_or}
 use Rattle.std.proofs.lemmas.Bool.{and_parts, eqb-true}
-use Rattle.std.proofs.lemmas.List.{append-nil, get_or-map, length-map, nil_from_length}
+use Rattle.std.proofs.lemmas.List.{append-nil, get_or-map, nil_from_length}
 use Rattle.std.proofs.lemmas.List.Elements.{All-weaker}
 use Rattle.std.proofs.lemmas.Option.{none-some, same_Some}
 use Rattle.mp_sets.specs.Numbers.{Numbers}
@@ -17,15 +17,13 @@ use Rattle.mp_machine.specs.Machine.{AgentMachine}
 use Rattle.mp_logs.specs.Parts.{IsLogOfParts, IsOwned, IsTeamHistory}
 use Rattle.mp_nodes.specs.Nodes.{AreSameAgents, AreServed, IsNodeAt, IsPlaceAt, Orders, SeenNode, has_ended, have_ended, node_at, orders}
 use Rattle.mp_nodes.specs.Served.{AllEnded}
-use Rattle.mp_post.specs.Desks.{IsDeskOf, SeenDesk}
 use Rattle.mp_post_rule.specs.Views.{list_at, list_in}
 use Rattle.mp_post_rule.specs.declared.view.View.{View}
 use Rattle.mp_schedule.specs.Machines.{AreNew, limit_of, tasks_of}
 use Rattle.mp_stamps.specs.Lists.{IsAgentOf, entries}
 use Rattle.mp_world.specs.Events.{run}
 use Rattle.mp_world.specs.Logs.{HasDone, IsLog}
-use Rattle.mp_world.specs.RoundRobin.{is_over}
-use Rattle.mp_world.specs.World.{AreNumbered, IsTeamWorld, World, agent_at}
+use Rattle.mp_world.specs.World.{AreNumbered, agent_at}
 use Rattle.mp_world.proofs.Agents.{agree_numbered}
 use Rattle.mp_world.proofs.Runs.{run_of_team}
 use Rattle.mp_world.proofs.Stepping.{team_size}
@@ -33,7 +31,7 @@ use Rattle.mp_team.specs.Finished.{HasFinished}
 use Rattle.mp_team.specs.Kept.{Places}
 use Rattle.mp_team.specs.Machines.{first_node, first_places, machines_in}
 use Rattle.mp_team.specs.declared.ending.Finished.{Finished}
-use Rattle.mp_team.proofs.First.{is_new, item, limit, many_tasks, number, place_here, task_here}
+use Rattle.mp_team.proofs.First.{item, limit, many_tasks, number, place_here, task_here}
 
 mapped : (x : Option SeenNode) (o : Orders) → option_map orders x ≡ Some o → (n : SeenNode) × (x ≡ Some n) × (orders n ≡ o)
 mapped None o e = absurd (none-some o e)

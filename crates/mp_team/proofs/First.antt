@@ -1,24 +1,20 @@
 -- A team at the start: each machine is new, and each node fits its party.
-use Rattle.std.proofs.Common.{◌≡◌, ℕ, zero, suc, ◌+◌, ◌<◌, ◌≤◌, ◌⊎◌, inl, inr, List, [], ◌∷◌, length, map, get_or, Some, None, refl, sym, ap, ◌∙◌, arith, subst}
-use Rattle.std.specs.Prelude.{All, Contains, Option, replicate}
+use Rattle.std.proofs.Common.{◌≡◌, ℕ, zero, suc, ◌<◌, ◌≤◌, ◌⊎◌, inl, inr, List, [], ◌∷◌, length, map, get_or, Some, None, refl, sym, ap, ◌∙◌, arith, subst}
+use Rattle.std.specs.Prelude.{Option, replicate}
 use Rattle.std.specs.List.{range_with_len}
 use Rattle.std.proofs.lemmas.List.{get_or-map, get_or-replicate, get_or_past, length-map, length-replicate}
 use Rattle.std.proofs.lemmas.List.Elements.{All-contains, All-nil}
-use mathlib.Core.Logic.{dite}
-use native.Mathlib.Decide.{ℕ_discrete}
 use Rattle.mp_sets.specs.Numbers.{Numbers}
-use Rattle.mp_task.specs.Agree.{Agree, FitsTeam}
+use Rattle.mp_task.specs.Agree.{FitsTeam}
 use Rattle.mp_task.specs.AgentTask.{AgentTask}
 use Rattle.mp_task.proofs.Agreeing.{number_at}
-use Rattle.mp_machine.specs.AgentRecord.{AgentRecord, new_record}
+use Rattle.mp_machine.specs.AgentRecord.{new_record}
 use Rattle.mp_machine.specs.Machine.{AgentMachine}
-use Rattle.mp_nodes.specs.Nodes.{AreServed, IsNode, IsPlaceAt, SeenNode, node_at}
+use Rattle.mp_nodes.specs.Nodes.{AreServed, IsNode, IsPlaceAt, node_at}
 use Rattle.mp_post_rule.specs.Queues.{IsSignable}
-use Rattle.mp_post_rule.specs.Views.{first_view, new_party, party_at}
-use Rattle.mp_post_rule.specs.declared.view.View.{View}
+use Rattle.mp_post_rule.specs.Views.{first_view, new_party}
 use Rattle.mp_schedule.specs.Machines.{AreNew, limit_of, new_machine, tasks_of}
 use Rattle.mp_world.specs.Logs.{HasDone}
-use Rattle.mp_team.specs.Kept.{Places}
 use Rattle.mp_team.specs.Machines.{first_node, first_places}
 
 -- the machine of a place

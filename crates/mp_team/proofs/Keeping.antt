@@ -1,9 +1,8 @@
 -- Agents that are kept, where works are changed one after another or some of them alone.
-use Rattle.std.proofs.Common.{◌≡◌, ◌⊎◌, inl, inr, ℕ, List, [], ◌∷◌, ◌++◌, Some, None, refl, sym, subst, ◌∙◌}
+use Rattle.std.proofs.Common.{◌≡◌, ◌⊎◌, inl, inr, ℕ, List, [], ◌∷◌, ◌++◌, Some, None, refl, sym, ◌∙◌}
 use Rattle.std.specs.Prelude.{Option}
-use Rattle.std.specs.Option.{option_map}
 use Rattle.std.proofs.lemmas.Option.{none-some}
-use Rattle.mp_nodes.specs.Nodes.{AreSameAgents, Orders, SeenNode, orders}
+use Rattle.mp_nodes.specs.Nodes.{AreSameAgents, Orders}
 use Rattle.mp_team.specs.Kept.{AreKept, HasOrders, IsThere, Places, orders_at}
 
 module _ (agent : ℕ) (o : Orders) where

@@ -1,7 +1,7 @@
 -- A team whose agents were all served, and for none of whom memory ran out: no message is a bad one. So nobody was halted, and
 -- all agents have ended.
-use Rattle.std.proofs.Common.{◌≡◌, ◌⊎◌, inl, inr, ℕ, zero, suc, ◌+◌, ◌<◌, Bool, true, false, List, [], ◌∷◌, ◌++◌, length, get_or, Some, None, Err, refl, sym, ap, ◌∙◌, arith, subst}
-use Rattle.std.specs.Prelude.{All, Contains, IfSome, Option}
+use Rattle.std.proofs.Common.{◌≡◌, ◌⊎◌, inl, inr, ℕ, zero, suc, ◌<◌, true, false, List, [], ◌∷◌, ◌++◌, length, get_or, Some, None, Err, refl, sym, ap, ◌∙◌, arith, subst}
+use Rattle.std.specs.Prelude.{Contains, IfSome, Option}
 use Rattle.std.proofs.lemmas.Bool.{false≢true}
 use Rattle.std.proofs.lemmas.List.{append-nil}
 use Rattle.std.proofs.lemmas.List.Elements.{All-nil, All-weaker}
@@ -16,7 +16,7 @@ use Rattle.mp_machine.specs.AgentRecord.{new_record}
 use Rattle.mp_machine.specs.LocalStep.{local}
 use Rattle.mp_machine.specs.Machine.{AgentMachine}
 use Rattle.mp_machine.specs.declared.event.Local.TheVariants as locals
-use Rattle.mp_logs.specs.Served.{HasServed, Receipt, Served, is_receipt}
+use Rattle.mp_logs.specs.Served.{HasServed, Served, is_receipt}
 use Rattle.mp_nodes.specs.Nodes.{AreSameAgents, AreServed, IsNodeAt, IsPlaceAt, SeenNode, have_ended, node_at}
 use Rattle.mp_nodes.specs.Served.{AllEnded}
 use Rattle.mp_nodes.specs.Steps.{IsBadAt, IsSeenHalted}

@@ -2,7 +2,7 @@
 use Rattle.std.proofs.Common.{◌≡◌, ◌≢◌, ◌⊎◌, inl, inr, ℕ, zero, suc, ◌+◌, ◌-◌, ◌<◌, List, [], ◌∷◌, length, map, get_or, get_or-set_same, get_or-set_other, set, Some, None, refl, sym, ap, ◌∙◌, arith, subst}
 use Rattle.std.specs.Prelude.{Option, replicate}
 use Rattle.std.specs.Option.{option_map}
-use Rattle.std.proofs.lemmas.List.{get_or_past, length-replicate, length-set, set-get_or}
+use Rattle.std.proofs.lemmas.List.{length-replicate, length-set, set-get_or}
 use Rattle.std.proofs.lemmas.Option.{none-some}
 use lib.ListN.{length-map}
 use mathlib.Core.Logic.{dite}
@@ -17,7 +17,7 @@ use Rattle.mp_post_rule.specs.Views.{either_each, no_party, party_at, party_in}
 use Rattle.mp_post_rule.specs.declared.view.Party.{Party}
 use Rattle.mp_post_rule.specs.declared.view.View.{View}
 use Rattle.mp_team.specs.Joined.{either_node, either_nodes}
-use Rattle.mp_team.specs.Kept.{AreKept, HasOrders, Places, orders_at}
+use Rattle.mp_team.specs.Kept.{AreKept, HasOrders, Places}
 use Rattle.mp_team.proofs.Changing.{either_at as node_either_at, either_length}
 
 -- places that are all empty

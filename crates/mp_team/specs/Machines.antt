@@ -1,5 +1,5 @@
 -- The nodes of a team at the start, and its machines at the end.
-use Rattle.std.specs.Prelude.{List, [], ◌∷◌, map, Option, Some, None}
+use Rattle.std.specs.Prelude.{List, [], ◌∷◌, map, Some, None}
 use Rattle.mp_machine.specs.Machine.{AgentMachine}
 use Rattle.mp_nodes.specs.Nodes.{SeenNode}
 use Rattle.mp_team.specs.Kept.{Places}

@@ -1,16 +1,14 @@
-use Rattle.std.proofs.Common.{◌≡◌, List, None, refl, sym, ◌∙◌}
+use Rattle.std.proofs.Common.{◌≡◌, None, refl, ◌∙◌}
 use Rattle.std.specs.Prelude.{Contains}
 use Rattle.std.proofs.lemmas.Bool.{false≢true}
-use Rattle.mp_machine.specs.Machine.{AgentMachine}
 use Rattle.mp_schedule.specs.Machines.{limit_of, tasks_of}
 use Rattle.mp_task.specs.AgentTask.{AgentTask}
-use Rattle.mp_team.specs.Works.{AreAllAnswered}
 use Rattle.mp_team.proofs.Ended.{done_all, has_finished, history, numbered, record_of}
 use Rattle.mp_team.proofs.NoneBad.{all_ended, ended, has_served, holds, same, served_of}
 use Rattle.mp_team.proofs.ending.closed.Goals as goal
 
-pub close-requires-clause-all : goal.close-requires-clause-all
-close-requires-clause-all g c =
+pub log-requires-clause-all : goal.log-requires-clause-all
+log-requires-clause-all g c =
     let shared = c.args.posts.shared in
     holds g.H.Heuristic.value shared.table_id shared.key c.requires.all.0 c.args.answered c.requires.all.1 c.requires.enough
 
@@ -22,8 +20,8 @@ unreachable-requires g c =
     let all = c.requires.all.1 in
     let a = c.args.answered in
     let enough = c.requires.enough in
-    let closed = c.in-Ok.ensures in
-    let log = c.in-Ok.log in
+    let closed = c.in_ok-log.ensures in
+    let log = c.in_ok-log.log in
     let none_bad : (t : AgentTask) → Contains (tasks_of ms) t
     → (served_of value shared.table_id shared.key ms a all enough t).bad ≡ None =
     λ t contains. c.no_receipt_is_bad.ensures value (limit_of ms) (tasks_of ms) log
@@ -41,8 +39,8 @@ returns g c = λ ms all.
     let nodes = a.work.nodes in
     let view = a.work.desk.view in
     let enough = c.requires.enough in
-    let closed = c.in-Ok.ensures in
-    let log = c.in-Ok.log in
+    let closed = c.in_ok-log.ensures in
+    let log = c.in_ok-log.log in
     let same_agents = same value shared.table_id shared.key ms a all enough in
     let past = history value ms all.new nodes shared.key all.count same_agents log closed.legal closed.agents in
     let none_bad : (t : AgentTask) → Contains (tasks_of ms) t

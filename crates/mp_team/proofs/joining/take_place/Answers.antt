@@ -1,4 +1,4 @@
-use Rattle.std.proofs.Common.{None, get_or, set, ap, sym, ◌∙◌}
+use Rattle.std.proofs.Common.{None, get_or, set, ◌∙◌}
 use Rattle.std.proofs.lemmas.List.{set-set}
 use Rattle.mp_team.specs.Joined.{either_node}
 use Rattle.mp_team.proofs.joining.take_place.Goals as goal

@@ -1,4 +1,3 @@
-use Rattle.std.proofs.Common.{sym}
 use Rattle.mp_team.proofs.Shares.{left_alone, only, put_together, same_many}
 use Rattle.mp_team.proofs.sharing.gathered.Goals as goal
 

@@ -1,4 +1,4 @@
-use Rattle.std.proofs.Common.{◌≡◌, [], ◌∷◌, length}
+use Rattle.std.proofs.Common.{[], ◌∷◌}
 use Rattle.mp_team.specs.Works.{AreShared}
 use Rattle.mp_team.proofs.sharing.shared_out.Given as goal
 

@@ -1,4 +1,4 @@
-use Rattle.std.proofs.Common.{◌≡◌, [], ◌∷◌, length, sym, ◌∙◌, subst}
+use Rattle.std.proofs.Common.{[], ◌∷◌, sym, ◌∙◌, subst}
 use Rattle.std.specs.Prelude.{Option}
 use Rattle.mp_team.specs.Works.{AreShared, parts_of}
 use Rattle.mp_team.specs.declared.work.Work.{Work}

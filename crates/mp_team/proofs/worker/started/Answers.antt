@@ -1,4 +1,3 @@
-use denote.RattleType.{RattleType}
 use denote.Exit as exit
 use denote.Param.{param}
 use denote.Param.Send.{AllSend, IsSend, arg_send, param_send, recorded_send, sendable, struct_send}
@@ -6,7 +5,7 @@ use denote.Struct.Field.{shr_ref_field}
 use denote.Struct.Declared.{shape}
 use denote.Struct.Tuple.{type_at}
 use mir.Syntax.{named, ty_unit}
-use Rattle.std.proofs.Common.{List, [], ◌∷◌}
+use Rattle.std.proofs.Common.{[], ◌∷◌}
 use Rattle.std.proofs.result.Result.TheSendSync.{the_send as result}
 use Rattle.std.proofs.sync.atomic.AtomicBool.TheSendSync.{the_sync as flag}
 use Rattle.std.specs.contracts.sync.atomic.AtomicBool as AtomicBool
