@@ -1,8 +1,8 @@
 -- Values that are found again where some operators got cheaper: the others are served, and no number is too low.
-use Rattle.std.proofs.Common.{◌≡◌, ℕ, suc, ◌+◌, ◌<◌, ◌≤◌, Bool, true, false, cond, eqb, Option, Some, None, option_map, List, [], ◌∷◌, length, get_or, Contains, IsTrue, refl, sym, ap, ◌∙◌, subst, ⊎_elim, arith}
+use Rattle.std.proofs.Common.{◌≡◌, ℕ, suc, ◌+◌, ◌<◌, ◌≤◌, Bool, true, false, cond, eqb, Option, Some, None, option_map, List, [], ◌∷◌, length, get_or, All, Contains, IsTrue, refl, sym, ap, ◌∙◌, subst, ⊎_elim, arith}
 use Rattle.std.proofs.lemmas.Bool.{cases_eq, cases_lt, eqb-true}
 use Rattle.std.proofs.lemmas.List.{get_or_default}
-use Rattle.std.proofs.lemmas.List.Elements.{All-from_get_or}
+use Rattle.std.proofs.lemmas.List.Elements.{All-contains, All-from_get_or, Contains-get_or}
 use Rattle.std.specs.FinSet as set
 use Rattle.std.specs.List.{list_any}
 use Rattle.std.specs.List.Sorted.{IsPermutation}
@@ -10,18 +10,18 @@ use Rattle.mp_sets.specs.Numbers.{Numbers}
 use Rattle.mp_sets.proofs.NumbersLemmas.{among_itself}
 use Rattle.mp_task.specs.Strips.{Operator}
 use Rattle.mp_estimates.specs.Estimates.{AtMost, Values}
-use Rattle.mp_estimates.specs.Laws.Order.{AtMost-trans}
+use Rattle.mp_estimates.specs.Laws.Order.{AtMost-refl, AtMost-trans, plus-mono}
 use Rattle.mp_estimates.specs.Lowering.{unknown, known, number_at, value_at, Key, key, HaveFallen, AreBelow}
-use Rattle.mp_estimates.proofs.LoweringLemmas.{known-none, known-some}
+use Rattle.mp_estimates.proofs.LoweringLemmas.{known-mono, known-none, known-some}
 use Rattle.mp_relaxed.specs.Values.{greatest, cost_by, adds, least_cost, next_values, fact_values}
 use Rattle.mp_relaxed.specs.Relaxed.{AreCheaper, HasUsers, operator_at}
 use Rattle.mp_relaxed.specs.Search.{capped, IsServed, AreLow}
 use Rattle.mp_relaxed.specs.Users.{times}
 use Rattle.mp_relaxed.specs.Laws.Bounds.{start_zero}
-use Rattle.mp_relaxed.specs.Laws.Equations.{least_above}
+use Rattle.mp_relaxed.specs.Laws.Equations.{greatest_above, least_above}
 use Rattle.mp_relaxed.specs.Laws.Rounds.{below_rounds}
 use Rattle.mp_relaxed.proofs.TimesLemmas.{times_contained}
-use Rattle.mp_relaxed.proofs.SearchLemmas.{served_kept, served_popped}
+use Rattle.mp_relaxed.proofs.SearchLemmas.{capped-mono, served_kept, served_popped}
 use Rattle.mp_relaxed.proofs.Found.{are_low}
 
 pub times_some : (k : ℕ) (xs : List ℕ) → 1 ≤ times k xs → Contains xs k
@@ -33,6 +33,34 @@ times_some k (x ∷ xs) h = by (eqb x k) refl h (times_some k xs)
     by false e many rest =
         let later = rest many in
         (suc later.0, (let lt = later.1 in let le : suc later.0 < length (x ∷ xs) = omega arith in le), later.2)
+
+-- an operator that could lower nothing, if no precondition had a greater number than one of them has, is served
+
+known_above : (n : ℕ) → AtMost (Some n) (known n)
+known_above n = ⊎_elim
+    (λ lt. subst (AtMost (Some n)) (sym (known-some n lt)) (AtMost-refl (Some n)))
+    (λ ge. subst (AtMost (Some n)) (sym (known-none n ge)) tt)
+    (cases_lt n unknown)
+
+pub numbers_low : (numbers items : List ℕ) (cost : ℕ) → All (λ y. number_at numbers y ≤ cost) items → All (λ y. AtMost (value_at numbers y) (known cost)) items
+numbers_low numbers items cost low = λ j d lt. known-mono (number_at numbers (get_or items j d)) cost (low j d lt)
+
+pub passed_served : (os : List Operator) (numbers : List ℕ) (queue : List Key) (k x : ℕ) → Contains (operator_at os k).pre x → All (λ y. AtMost (value_at numbers y) (known ((operator_at os k).cost + number_at numbers x))) (operator_at os k).add → IsServed os numbers queue k
+passed_served os numbers queue k x member done quiet =
+    let o : Operator = operator_at os k in
+    let most : AtMost (Some (number_at numbers x)) (greatest (value_at numbers) o.pre) =
+    AtMost-trans (Some (number_at numbers x)) (value_at numbers x) (greatest (value_at numbers) o.pre) (known_above (number_at numbers x))
+    (All-contains (λ y. AtMost (value_at numbers y) (greatest (value_at numbers) o.pre)) o.pre x (greatest_above (value_at numbers) o.pre) member) in
+    λ j d lt.
+    AtMost-trans (value_at numbers (get_or o.add j d)) (known (o.cost + number_at numbers x)) _ (done j d lt)
+    (capped-mono (Some (o.cost + number_at numbers x)) (cost_by (value_at numbers) o)
+    (plus-mono o.cost (Some (number_at numbers x)) (greatest (value_at numbers) o.pre) most))
+
+pub user_needs : (os : List Operator) (x : ℕ) (users : List ℕ) (j : ℕ) → HasUsers os x users → j < length users → get_or users j 0 < length os → Contains (operator_at os (get_or users j 0)).pre x
+user_needs os x users j has lt within =
+    let once = times_contained (get_or users j 0) users (Contains-get_or users j 0 lt) in
+    let listed = has (get_or users j 0) within in
+    times_some x (operator_at os (get_or users j 0)).pre (omega arith)
 
 capped_above : (a c : Option ℕ) → AtMost a c → AtMost a (capped c)
 capped_above a None h = tt

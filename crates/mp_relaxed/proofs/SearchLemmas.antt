@@ -90,7 +90,7 @@ module _ (numbers : List ℕ) (queue after : List Key) (x cost : ℕ) (less : co
       at_x y (zero, lt, e) = sym (ap (λ (k : Key). k.1) e)
       at_x y (suc i, lt, e) = absurd (omega arith)
 
-capped-mono : (a b : Option ℕ) → AtMost a b → AtMost (capped a) (capped b)
+pub capped-mono : (a b : Option ℕ) → AtMost a b → AtMost (capped a) (capped b)
 capped-mono a None h = tt
 capped-mono None (Some n) h = absurd h
 capped-mono (Some m) (Some n) h = known-mono m n h

@@ -1,12 +1,12 @@
 //! The search for the values of facts, those of the least cost first (Dijkstra 1959; Knuth 1977).
 
-ghost use Rattle.std.specs.Prelude.{◌≡◌, ℕ, ◌<◌, ◌≤◌, ◌+◌, ◌^◌, [], ◌∷◌, All, Contains, List, length, vec_len, IfOk, OnOk, IsTrue, Some};
+ghost use Rattle.std.specs.Prelude.{◌≡◌, ℕ, ◌<◌, ◌≤◌, ◌+◌, ◌^◌, [], ◌∷◌, All, Contains, List, length, vec_len, IfOk, OnOk, IsTrue, Some, false};
 ghost use Rattle.std.specs.FinSet as set;
 ghost use Rattle.mp_sets.specs.Numbers.{Numbers};
 ghost use Rattle.mp_task.specs.Strips.{Operator};
 ghost use Rattle.mp_estimates.specs.Estimates.{AtMost, Values};
 ghost use Rattle.mp_relaxed.specs.Values.{greatest};
-ghost use Rattle.mp_relaxed.specs.Relaxed.{AreCheaper, operator_at};
+ghost use Rattle.mp_relaxed.specs.Relaxed.{AreCheaper, HasUsers, operator_at};
 ghost use Rattle.mp_estimates.specs.Lowering.{AreBelow, HaveFallen, IsProper, Key, known, number_at, unknown, value_at};
 ghost use Rattle.mp_relaxed.specs.Search.{AreLow, AreLowered, AreValues, HaveStayed, IsMost, IsOpen, IsServed, count_at};
 ghost use Rattle.mp_relaxed.specs.Users.{times};
@@ -96,6 +96,80 @@ fn relax_now(
 {
     let most = greatest_of(numbers.as_slice(), problem.pre(k));
     relax(problem, k, most, numbers, queue)
+}
+
+/// Whether an operator may lower a number, where one of its preconditions has this one.
+fn may_lower(problem: &Relaxed, k: u32, least: u64, numbers: &[u64]) -> bool
+    requires operator { k < length problem.now.operators }
+    requires sized { length numbers.now ≡ problem.now.facts }
+    ensures { result ≡ false → All
+        (λ y. AtMost (value_at numbers.now y) (known ((operator_at problem.now.operators k).cost + least)))
+        (operator_at problem.now.operators k).add }
+{
+    let own = problem.cost(k);
+    if own < u64::MAX - least {
+        let cost = own + least;
+        for y in problem.add(k) {
+            if cost < numbers[*y as usize] {
+                return true;
+            }
+        }
+    }
+    false
+}
+
+/// Relaxes an operator that has a precondition, from the numbers that its preconditions have. Most such operators lower
+/// nothing, and the number of this one precondition tells that of many.
+fn relax_user(
+    problem: &Relaxed,
+    k: u32,
+    x: u32,
+    numbers: &mut Vec<u64>,
+    queue: &mut Queue,
+) -> Result<(), OutOfMemory>
+    requires operator { k < length problem.now.operators }
+    requires precondition { Contains (operator_at problem.now.operators k).pre x }
+    requires inside { x < problem.now.facts }
+    requires sized { vec_len numbers.old ≡ problem.now.facts }
+    ensures fallen { OnOk result (HaveFallen numbers.old.items queue.old
+        numbers.new.items queue.new) }
+    ensures served { OnOk result
+        (IsServed problem.now.operators numbers.new.items queue.new k) }
+    ensures below { OnOk result ((values : Values) → AreLow problem.now.operators values
+        → AreBelow values numbers.old.items → AreBelow values numbers.new.items) }
+    ensures len { vec_len numbers.new ≡ vec_len numbers.old }
+{
+    let least = numbers[x as usize];
+    if !may_lower(problem, k, least, numbers.as_slice()) {
+        return Ok(());
+    }
+    relax_now(problem, k, numbers, queue)
+}
+
+/// Relaxes the operators that have a precondition, one after another.
+fn relax_users(
+    problem: &Relaxed,
+    x: u32,
+    users: &[u32],
+    numbers: &mut Vec<u64>,
+    queue: &mut Queue,
+) -> Result<(), OutOfMemory>
+    requires operators { All (λ k. k < length problem.now.operators) users.now }
+    requires users { HasUsers problem.now.operators x users.now }
+    requires inside { x < problem.now.facts }
+    requires sized { vec_len numbers.old ≡ problem.now.facts }
+    ensures fallen { OnOk result (HaveFallen numbers.old.items queue.old
+        numbers.new.items queue.new) }
+    ensures served { OnOk result ((k : ℕ) → Contains users.now k
+        → IsServed problem.now.operators numbers.new.items queue.new k) }
+    ensures below { OnOk result ((values : Values) → AreLow problem.now.operators values
+        → AreBelow values numbers.old.items → AreBelow values numbers.new.items) }
+    ensures len { vec_len numbers.new ≡ vec_len numbers.old }
+{
+    for k in users {
+        relax_user(problem, *k, x, numbers, queue)?;
+    }
+    Ok(())
 }
 
 /// Relaxes some operators, one after another.
@@ -350,7 +424,7 @@ fn settle_again(
 {
     'pops: while let Some((cost, x)) = queue.pop() {
         if cost == numbers[x as usize] {
-            relax_each(problem, problem.users(x), numbers, queue)?;
+            relax_users(problem, x, problem.users(x), numbers, queue)?;
         }
     }
     Ok(())

@@ -48,18 +48,18 @@ pops-preserved-in-Continue-1 c =
     let entry : IsPermutation c.pops.queue (key n x ∷ rest) = c.in-Some.ensures.entry in
     let Inside = λ (k : Key). k.1 < vec_len c.pops.numbers in
     let tail = All-tail Inside (key n x) rest (All-permutation Inside c.pops.queue _ entry c.pops.invariant.inside) in
-    let fallen = c.in_ok-relax_each.ensures.fallen in
+    let fallen = c.in_ok-relax_users.ensures.fallen in
     record {
-      len = c.relax_each.ensures.len ∙ c.pops.invariant.len;
+      len = c.relax_users.ensures.len ∙ c.pops.invariant.len;
       inside = λ i d lt.
           let there = fallen.inside (λ j e less. let h = tail j e less in omega arith) i d lt in
-          let same = c.relax_each.ensures.len in
+          let same = c.relax_users.ensures.len in
           omega arith;
       lower = λ y. let one = fallen.lower y in let two = c.pops.invariant.lower y in omega arith;
       served = λ start k lt.
-          again_settled os c.pops.numbers.items c.pops.queue rest n x c.users.result.now c.relax_each.new.numbers.items c.relax_each.new.queue entry fallen c.users.ensures.all c.in_ok-relax_each.ensures.served k lt
+          again_settled os c.pops.numbers.items c.pops.queue rest n x c.users.result.now c.relax_users.new.numbers.items c.relax_users.new.queue entry fallen c.users.ensures.all c.in_ok-relax_users.ensures.served k lt
           (c.pops.invariant.served start k lt);
-      below = λ values low below. c.in_ok-relax_each.ensures.below values low (c.pops.invariant.below values low below);
+      below = λ values low below. c.in_ok-relax_users.ensures.below values low (c.pops.invariant.below values low below);
     }
 
 pub returns-clause-served : goal.returns-clause-served
@@ -98,5 +98,15 @@ pops-smaller-in-Continue-1 c =
     let x = c.in-Some.x in
     let entry : IsPermutation c.pops.queue (key n x ∷ c.pop.new.self) = c.in-Some.ensures.entry in
     let long = length_permutation c.pops.queue (key n x ∷ c.pop.new.self) entry in
-    let lighter = c.in_ok-relax_each.ensures.fallen.lighter in
+    let lighter = c.in_ok-relax_users.ensures.fallen.lighter in
+    omega arith
+
+pub relax_users-requires-clause-inside : goal.relax_users-requires-clause-inside
+relax_users-requires-clause-inside c =
+    let n = c.in-Some.cost in
+    let x = c.in-Some.x in
+    let entry : IsPermutation c.pops.queue (key n x ∷ c.pop.new.self) = c.in-Some.ensures.entry in
+    let Inside = λ (k : Key). k.1 < vec_len c.pops.numbers in
+    let within = All-head Inside (key n x) c.pop.new.self (All-permutation Inside c.pops.queue _ entry c.pops.invariant.inside) in
+    let same = c.pops.invariant.len in
     omega arith
