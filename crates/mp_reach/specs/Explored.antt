@@ -30,6 +30,10 @@ module _ {I S : Type 0} (found : Found I S) where
     pub has : HasEntry s cost
     pub live : ¬ (has.entry.mark ≡ Replaced)
 
+  -- a state has an entry at a cost or less, or is under way at such a cost
+  abbrev pub IsFoundAt : S → ℕ → Type 0
+  IsFoundAt s cost = HasEntry s cost ⊎ HasMessage s cost
+
 module _ {I S : Type 0} (Step : S → ℕ → S → Type 0) (Goal : S → Type 0) where
   -- A state is reached at a cost: it has an entry at that cost or less, or is under way at such a
   -- cost, or leads to no goal.
@@ -53,6 +57,20 @@ module _ {I S : Type 0} (Step : S → ℕ → S → Type 0) (Goal : S → Type 0
     pub entries : (i : I) (e : Entry S) → IsAt found i e → IsBound Step Goal e.state e.estimate
     pub messages : (m : Message S) → Contains found.under_way m
         → IsBound Step Goal m.state m.estimate
+
+-- Nothing is left out, whether or not it leads to a goal: each root is found at no cost; for each
+-- entry there is one of its state that costs no more and is not replaced; and what an expanded
+-- entry's state leads to is found at its cost.
+pub record LeavesNothingOut
+    {I S : Type 0}
+    (Step : S → ℕ → S → Type 0)
+    (Root : S → Type 0)
+    (found : Found I S)
+    : Type 0 where
+  pub roots : (s : S) → Root s → IsFoundAt found s 0
+  pub live : (i : I) (e : Entry S) → IsAt found i e → HasLiveEntry found e.state e.cost
+  pub closed : (i : I) (e : Entry S) → IsAt found i e → e.mark ≡ Expanded
+      → (cost : ℕ) (t : S) → Step e.state cost t → IsFoundAt found t (e.cost + cost)
 
 module _ {I S : Type 0} (Goal : S → Type 0) where
   -- Something found shows that a cost may be: an open entry, a state under way, or a goal entry.

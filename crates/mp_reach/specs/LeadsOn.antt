@@ -1,6 +1,6 @@
 -- How the searches of a team's agents lead on to one another (MAD-A*, Nissim and Brafman 2014, with
 -- a receiver's own reasons).
-use Rattle.std.specs.Prelude.{◌≡◌, ◌≢◌, ℕ, Bool, true, List, Option, Contains, IsTrue, ◌⊎◌}
+use Rattle.std.specs.Prelude.{◌≡◌, ◌≢◌, ℕ, ◌≤◌, Bool, true, List, Option, Contains, IsTrue, ◌⊎◌}
 use Rattle.mp_sets.specs.Numbers.{holds}
 use Rattle.mp_task.specs.declared.act.Act.{Act}
 use Rattle.mp_task.specs.declared.act.Far.{Far}
@@ -11,7 +11,7 @@ use Rattle.mp_task.specs.Public.{is_public}
 use Rattle.mp_order.specs.Ordered.{TakesStep}
 use Rattle.mp_reach.specs.Explored.{IsExplored, Reaches}
 use Rattle.mp_reach.specs.Found.{Found}
-use Rattle.mp_reach.specs.Ways.{IsBound, IsHopeless}
+use Rattle.mp_reach.specs.Ways.{IsBound, IsHopeless, Way}
 
 -- a joint state in the search of an agent
 pub record Known : Type 0 where
@@ -74,19 +74,50 @@ pub record IsRoot (tasks : List AgentTask) (k : Known) : Type 0 where
 abbrev pub IsGoal : List AgentTask → Known → Type 0
 IsGoal tasks k = IsTrue (goals_hold tasks k.state)
 
--- what the agents of a team have found is explored, but for one entry that may be exempt
+-- a way from a root to a goal costs at most so much
+pub record HasWayWithin (tasks : List AgentTask) (most : ℕ) : Type 0 where
+  pub first : Known
+  pub last : Known
+  pub cost : ℕ
+  pub root : IsRoot tasks first
+  pub way : Way (LeadsOn tasks) first cost last
+  pub goal : IsGoal tasks last
+  pub within : cost ≤ most
+
+-- ---- whatever counts as a goal
+
+module _ (tasks : List AgentTask) (Goal : Known → Type 0) where
+  -- what the agents of a team have found is explored, but for one entry that may be exempt
+  abbrev pub IsTeamExploredFor : {I : Type 0} → Option I → Found I Known → Type 0
+  IsTeamExploredFor exempt found =
+      IsExplored (LeadsOn tasks) Goal (IsRoot tasks) exempt found
+
+  -- a joint state in an agent's search leads to no goal
+  abbrev pub IsTeamHopelessFor : Known → Type 0
+  IsTeamHopelessFor k = IsHopeless (LeadsOn tasks) Goal k
+
+  -- an estimate is at most what is still to be paid from there
+  abbrev pub IsTeamBoundFor : Known → ℕ → Type 0
+  IsTeamBoundFor k estimate = IsBound (LeadsOn tasks) Goal k estimate
+
+  -- it has an entry at a cost or less, or is under way at such a cost, or leads to no goal
+  abbrev pub TeamReachesFor : {I : Type 0} → Found I Known → Known → ℕ → Type 0
+  TeamReachesFor found k cost = Reaches (LeadsOn tasks) Goal found k cost
+
+-- each joint state counts as a goal
+abbrev pub IsAny : Known → Type 0
+IsAny k = Unit {0}
+
+-- ---- the same where all goals of the team are true
+
 abbrev pub IsTeamExplored : {I : Type 0} → List AgentTask → Option I → Found I Known → Type 0
-IsTeamExplored tasks exempt found =
-    IsExplored (LeadsOn tasks) (IsGoal tasks) (IsRoot tasks) exempt found
+IsTeamExplored tasks exempt found = IsTeamExploredFor tasks (IsGoal tasks) exempt found
 
--- a joint state in an agent's search leads to no goal
 abbrev pub IsTeamHopeless : List AgentTask → Known → Type 0
-IsTeamHopeless tasks k = IsHopeless (LeadsOn tasks) (IsGoal tasks) k
+IsTeamHopeless tasks k = IsTeamHopelessFor tasks (IsGoal tasks) k
 
--- an estimate is at most what is still to be paid from there
 abbrev pub IsTeamBound : List AgentTask → Known → ℕ → Type 0
-IsTeamBound tasks k estimate = IsBound (LeadsOn tasks) (IsGoal tasks) k estimate
+IsTeamBound tasks k estimate = IsTeamBoundFor tasks (IsGoal tasks) k estimate
 
--- it has an entry at a cost or less, or is under way at such a cost, or leads to no goal
 abbrev pub TeamReaches : {I : Type 0} → List AgentTask → Found I Known → Known → ℕ → Type 0
-TeamReaches tasks found k cost = Reaches (LeadsOn tasks) (IsGoal tasks) found k cost
+TeamReaches tasks found k cost = TeamReachesFor tasks (IsGoal tasks) found k cost

@@ -12,15 +12,19 @@ ghost use Rattle.mp_task.specs.Plan.{
   private_of,
   task_cost,
 };
-ghost use Rattle.mp_reach.specs.Explored.{HasWitness};
+ghost use Rattle.mp_reach.specs.Explored.{HasWitness, LeavesNothingOut};
 ghost use Rattle.mp_reach.specs.Found.{Found};
 ghost use Rattle.mp_reach.specs.LeadsOn.{
-  Known,
-  LeadsOn,
+  HasWayWithin,
+  IsAny,
   IsGoal,
+  IsRoot,
   IsTeamBound,
   IsTeamExplored,
+  IsTeamExploredFor,
   IsTeamHopeless,
+  Known,
+  LeadsOn,
 };
 ghost use Rattle.mp_reach.specs.Ways.{Way};
 
@@ -33,6 +37,14 @@ pub fn ways_are_plans()
         → Way (LeadsOn tasks) k cost last → IsGoal tasks last
         → (plan : List TaskStep) × SolvesFrom tasks k.state plan
         × (task_cost tasks plan ≡ cost) }
+{}
+
+/// For each plan that solves, some agent's search has a way from its start to a goal that costs no more. A team without
+/// agents has the empty plan and no search, so that some agent is named.
+pub fn plans_have_ways()
+    ensures { (tasks : List AgentTask) (t : AgentTask) (plan : List TaskStep)
+        → Agree tasks → Contains tasks t → TaskSolves tasks plan
+        → HasWayWithin tasks (task_cost tasks plan) }
 {}
 
 /// Of each heuristic: what an agent's value of a joint state is, is at most what is still to be paid from there in any
@@ -56,4 +68,12 @@ pub fn plans_leave_a_witness<I>()
         → Agree tasks → Contains tasks t
         → IsTeamExplored tasks None found → TaskSolves tasks plan
         → HasWitness (IsGoal tasks) found (task_cost tasks plan) }
+{}
+
+/// Where what a team has found is explored even if each joint state counts as a goal, nothing is left out: what an
+/// expanded entry's state leads to has an entry at its cost or less, or is under way at such a cost.
+pub fn nothing_is_left_out<I>()
+    ensures { (tasks : List AgentTask) (found : Found I Known)
+        → IsTeamExploredFor tasks IsAny None found
+        → LeavesNothingOut (LeadsOn tasks) (IsRoot tasks) found }
 {}

@@ -7,4 +7,7 @@ mod laws;
 
 pub use changes::{a_start_is_explored, changes_keep_what_is_explored};
 pub use example::worked_team_begins_explored;
-pub use laws::{plans_leave_a_witness, values_are_bounds_of_ways, ways_are_plans};
+pub use laws::{
+    nothing_is_left_out, plans_have_ways, plans_leave_a_witness, values_are_bounds_of_ways,
+    ways_are_plans,
+};
