@@ -17,7 +17,7 @@ use Rattle.mp_search.specs.Offering.{own_value, start_record}
 use Rattle.mp_search.specs.Receipt.{state_of}
 use Rattle.mp_machine.specs.AgentRecord.{AgentRecord}
 use Rattle.mp_reach.specs.Found.{Entry as Seen, Message as Sent}
-use Rattle.mp_reach.specs.LeadsOn.{IsTeamBound, Known}
+use Rattle.mp_reach.specs.LeadsOn.{IsTeamBoundFor, Known}
 use Rattle.mp_reach.specs.Explored.{IsAt}
 use Rattle.mp_world.specs.Events.{agent_of}
 use Rattle.mp_world.specs.Joint.{joint, joint_told}
@@ -33,10 +33,10 @@ use Rattle.mp_team_states.proofs.NewEntries.{Comes, entry_comes}
 use Rattle.mp_team_states.proofs.Reached.{HasIt, entry_in, has_it}
 use Rattle.mp_team_states.proofs.StartReached.{task_is}
 use Rattle.mp_team_states.proofs.StepsSound.{task_at}
-use Rattle.mp_team_explored.specs.Estimates.{AreEstimatesBounds}
+use Rattle.mp_team_explored.specs.Estimates.{AreEstimatesBoundsFor}
 use Rattle.mp_team_explored.specs.TeamFound.{found_of}
 use Rattle.mp_team_explored.proofs.Found.{found_entry, found_message}
-use Rattle.mp_team_explored.proofs.SoundWorlds.{IsHeuristic, greater_bound, own_bound, states_known, told_of}
+use Rattle.mp_team_explored.proofs.SoundWorlds.{IsHeuristicFor, greater_bound, own_bound, states_known, told_of}
 use Rattle.mp_team_explored.proofs.Staying.{known, same_joint}
 
 -- an entry of the start is that of the initial state
@@ -57,10 +57,10 @@ start_entry t value n e at = by (changes_entry (IsFirst t value) t empty (start_
     }
 
 module _ (tasks : List AgentTask) (agree : Agree tasks) (limits : All IsWithinLimits tasks) where
-  module _ (value : AgentTask → Numbers → Numbers → Option ℕ) (heuristic : IsHeuristic value tasks) where
+  module _ {Goal : Known → Type 0} (value : AgentTask → Numbers → Numbers → Option ℕ) (heuristic : IsHeuristicFor Goal value tasks) where
     -- ---- at the start
 
-    pub start_bounds : (limit : ℕ) → limit ≤ 10000000 → IsTeamWorld tasks (start_world value limit tasks) → AreStatesSound tasks (start_world value limit tasks) → AreEstimatesBounds tasks (start_world value limit tasks)
+    pub start_bounds : (limit : ℕ) → limit ≤ 10000000 → IsTeamWorld tasks (start_world value limit tasks) → AreStatesSound tasks (start_world value limit tasks) → AreEstimatesBoundsFor tasks Goal (start_world value limit tasks)
     start_bounds limit most team sound agent n e has other =
         let w = start_world value limit tasks in
         let h = has_it w agent n e has in
@@ -73,24 +73,24 @@ module _ (tasks : List AgentTask) (agree : Agree tasks) (limits : All IsWithinLi
 
     -- ---- at an event
 
-    module _ (w : World) (team : IsTeamWorld tasks w) (sound : AreStatesSound tasks w) (small : AreSmall w) (bounds : AreEstimatesBounds tasks w) (next : World)
+    module _ (w : World) (team : IsTeamWorld tasks w) (sound : AreStatesSound tasks w) (small : AreSmall w) (bounds : AreEstimatesBoundsFor tasks Goal w) (next : World)
         (later_team : IsTeamWorld tasks next) (later_sound : AreStatesSound tasks next) (event : Event) (is : IsStepOf value w event next) where
       joint_later : (agent : ℕ) (r : AgentRecord) (s : AgentState) → agent_at w agent ≡ Some r → IsStateOf w r.task s → joint next agent s ≡ joint w agent s
       joint_later = same_joint tasks agree limits w team sound small value heuristic next later_team later_sound event is
 
       -- an entry that was there
       old_bound : (agent n : ℕ) (r : AgentRecord) (old e : Entry AgentState) → agent_at w agent ≡ Some r → slice_get r.search.kept.entries n ≡ Some old → e.key ≡ old.key → e.h ≡ old.h
-          → (other : ℕ) → IsTeamBound tasks (known other (joint next agent e.key)) e.h
+          → (other : ℕ) → IsTeamBoundFor tasks Goal (known other (joint next agent e.key)) e.h
       old_bound agent n r old e there at key h other =
           let whole : joint next agent e.key ≡ joint w agent old.key =
           ap (joint next agent) key ∙ joint_later agent r old.key there (states_known tasks agree limits w team sound agent n r old there at)
           in
-          subst (λ (s : JointState). IsTeamBound tasks (known other s) e.h) (sym whole)
-          (subst (λ (h : ℕ). IsTeamBound tasks (known other (joint w agent old.key)) h) (sym h) (bounds agent n old (entry_in w agent n r old there at) other))
+          subst (λ (s : JointState). IsTeamBoundFor tasks Goal (known other s) e.h) (sym whole)
+          (subst (λ (h : ℕ). IsTeamBoundFor tasks Goal (known other (joint w agent old.key)) h) (sym h) (bounds agent n old (entry_in w agent n r old there at) other))
 
       -- an entry of the event's agent
       new_bound : (n : ℕ) (e : Entry AgentState) → slice_get is.step.after.search.kept.entries n ≡ Some e → Comes (value is.agent.task) tasks w is.agent is.step n e
-          → is.step.after.task ≡ is.agent.task → (other : ℕ) → IsTeamBound tasks (known other (joint next (agent_of event) e.key)) e.h
+          → is.step.after.task ≡ is.agent.task → (other : ℕ) → IsTeamBoundFor tasks Goal (known other (joint next (agent_of event) e.key)) e.h
       new_bound n e at (inl old) task other = old_bound (agent_of event) n is.agent old.old e is.there old.there old.alike.key old.alike.h other
       new_bound n e at (inr (inl led)) task other =
           own_bound tasks agree limits next later_team later_sound value heuristic (agent_of event) is.step.after is.after e.key
@@ -104,19 +104,19 @@ module _ (tasks : List AgentTask) (agree : Agree tasks) (limits : All IsWithinLi
           let whole : joint next a e.key ≡ joint_told w m =
           ap (joint next a) heard.key ∙ joint_later a is.agent (state_of is.agent.task is.agent.search.kept m) is.there knows.0 ∙ knows.1
           in
-          let sent : IsTeamBound tasks (known other (joint next a e.key)) m.h =
-          subst (λ (s : JointState). IsTeamBound tasks (known other s) m.h) (told.joint_is ∙ sym whole)
-          (subst (λ (h : ℕ). IsTeamBound tasks (known other (joint w heard.sender told.entry.key)) h) (sym told.estimate)
+          let sent : IsTeamBoundFor tasks Goal (known other (joint next a e.key)) m.h =
+          subst (λ (s : JointState). IsTeamBoundFor tasks Goal (known other s) m.h) (told.joint_is ∙ sym whole)
+          (subst (λ (h : ℕ). IsTeamBoundFor tasks Goal (known other (joint w heard.sender told.entry.key)) h) (sym told.estimate)
           (bounds heard.sender told.number told.entry (entry_in w heard.sender told.number told.agent_is told.entry told.there told.at) other))
           in
-          greater_bound tasks (known other (joint next a e.key)) (own_value is.agent.task (value is.agent.task) e.key) m.h e.h
+          greater_bound tasks Goal (known other (joint next a e.key)) (own_value is.agent.task (value is.agent.task) e.key) m.h e.h
           (λ x x_is.
           own_bound tasks agree limits next later_team later_sound value heuristic a is.step.after is.after e.key
           (states_known tasks agree limits next later_team later_sound a n is.step.after e is.after at) x other
           (ap (λ (t : AgentTask). own_value t (value t) e.key) task ∙ x_is))
           sent heard.h_is
 
-      pub event_bounds : AreEstimatesBounds tasks next
+      pub event_bounds : AreEstimatesBoundsFor tasks Goal next
       event_bounds agent n e has other = by (cases_eq agent (agent_of event))
         where
           h : HasIt next agent n e
@@ -127,24 +127,24 @@ module _ (tasks : List AgentTask) (agree : Agree tasks) (limits : All IsWithinLi
               same_Some is.step.after.task is.agent.task
               (sym (task_at tasks agree limits next later_team (agent_of event) is.step.after is.after) ∙ task_at tasks agree limits w team (agent_of event) is.agent is.there)
 
-          by : (agent ≡ agent_of event) ⊎ (agent ≡ agent_of event → ⊥) → IsTeamBound tasks (known other (joint next agent e.key)) e.h
+          by : (agent ≡ agent_of event) ⊎ (agent ≡ agent_of event → ⊥) → IsTeamBoundFor tasks Goal (known other (joint next agent e.key)) e.h
           by (inl same) =
               let one : h.agent_is ≡ is.step.after = same_Some h.agent_is is.step.after (sym h.there ∙ ap (agent_at next) same ∙ is.after) in
               let at : slice_get is.step.after.search.kept.entries n ≡ Some e = subst (λ (r : AgentRecord). slice_get r.search.kept.entries n ≡ Some e) one h.at in
-              subst (λ (a : ℕ). IsTeamBound tasks (known other (joint next a e.key)) e.h) (sym same)
+              subst (λ (a : ℕ). IsTeamBoundFor tasks Goal (known other (joint next a e.key)) e.h) (sym same)
               (new_bound n e at (entry_comes tasks agree limits w team sound value next event is n e at) task other)
           by (inr apart) = old_bound agent n h.agent_is e e (sym (is.others agent apart) ∙ h.there) h.at refl refl other
 
   -- ---- what follows in a world
 
-  module _ (w : World) (team : IsTeamWorld tasks w) (sound : AreStatesSound tasks w) (bounds : AreEstimatesBounds tasks w) where
-    pub entry_bounds : (i : ℕ × ℕ) (seen : Seen Known) → IsAt (found_of w) i seen → IsTeamBound tasks seen.state seen.estimate
+  module _ (Goal : Known → Type 0) (w : World) (team : IsTeamWorld tasks w) (sound : AreStatesSound tasks w) (bounds : AreEstimatesBoundsFor tasks Goal w) where
+    pub entry_bounds : (i : ℕ × ℕ) (seen : Seen Known) → IsAt (found_of w) i seen → IsTeamBoundFor tasks Goal seen.state seen.estimate
     entry_bounds i seen there =
         let f = found_entry w i seen there in
-        subst (λ (x : Seen Known). IsTeamBound tasks x.state x.estimate) (sym f.is)
+        subst (λ (x : Seen Known). IsTeamBoundFor tasks Goal x.state x.estimate) (sym f.is)
         (bounds i.0 i.1 f.entry (entry_in w i.0 i.1 f.agent_is f.entry f.there f.at) i.0)
 
-    pub message_bounds : (x : Sent Known) → Contains (found_of w).under_way x → IsTeamBound tasks x.state x.estimate
+    pub message_bounds : (x : Sent Known) → Contains (found_of w).under_way x → IsTeamBoundFor tasks Goal x.state x.estimate
     message_bounds x here =
         let f = found_message tasks (agree_numbered tasks agree) w team x here in
         let m = f.state in
@@ -152,6 +152,6 @@ module _ (tasks : List AgentTask) (agree : Agree tasks) (limits : All IsWithinLi
         let state = (what_is_read tasks agree limits w team sound f.from f.to f.sender.task f.receiver at f.receiver_there f.bytes m f.here f.reads).1 in
         let told = told_of tasks agree limits w team sound f.from f.sender.task m at state in
         let bound = bounds f.from told.number told.entry (entry_in w f.from told.number told.agent_is told.entry told.there told.at) f.receiver.task.me in
-        subst (λ (y : Sent Known). IsTeamBound tasks y.state y.estimate) f.is
-        (subst (λ (s : JointState). IsTeamBound tasks (known f.receiver.task.me s) m.h) told.joint_is
-        (subst (λ (h : ℕ). IsTeamBound tasks (known f.receiver.task.me (joint w f.from told.entry.key)) h) (sym told.estimate) bound))
+        subst (λ (y : Sent Known). IsTeamBoundFor tasks Goal y.state y.estimate) f.is
+        (subst (λ (s : JointState). IsTeamBoundFor tasks Goal (known f.receiver.task.me s) m.h) told.joint_is
+        (subst (λ (h : ℕ). IsTeamBoundFor tasks Goal (known f.receiver.task.me (joint w f.from told.entry.key)) h) (sym told.estimate) bound))

@@ -26,7 +26,7 @@ use Rattle.mp_search.specs.Offering.{own_value, start_record}
 use Rattle.mp_machine.specs.AgentRecord.{AgentRecord, new_record}
 use Rattle.mp_reach.specs.Explored.{HasEntry, HasLiveEntry, IsAt}
 use Rattle.mp_reach.specs.Found.{Entry as Seen, Message as Sent}
-use Rattle.mp_reach.specs.LeadsOn.{IsRoot, IsTeamExplored, IsTeamHopeless, Known, LeadsOn, TeamReaches}
+use Rattle.mp_reach.specs.LeadsOn.{IsRoot, IsTeamExploredFor, IsTeamHopelessFor, Known, LeadsOn, TeamReachesFor}
 use Rattle.mp_world.specs.Events.{agent_of}
 use Rattle.mp_world.specs.Joint.{joint}
 use Rattle.mp_world.specs.Steps.{IsStepOf}
@@ -38,13 +38,13 @@ use Rattle.mp_team_states.specs.Sound.{AreStatesSound}
 use Rattle.mp_team_states.proofs.Reached.{entry_in, one_path}
 use Rattle.mp_team_states.proofs.RoomLemmas.{small_value}
 use Rattle.mp_team_states.proofs.StartReached.{start_reaches, task_is}
-use Rattle.mp_team_explored.specs.Estimates.{AreEstimatesBounds}
+use Rattle.mp_team_explored.specs.Estimates.{AreEstimatesBoundsFor}
 use Rattle.mp_team_explored.specs.TeamFound.{found_of, seen_entry}
 use Rattle.mp_team_explored.proofs.Bounds.{entry_bounds, message_bounds, start_entry}
 use Rattle.mp_team_explored.proofs.Expanded.{AreOffered}
 use Rattle.mp_team_explored.proofs.Found.{entry_found, found_entry, found_sent}
 use Rattle.mp_team_explored.proofs.Continuing.{Continues, GoesOut, WasExpanded, offered_continues}
-use Rattle.mp_team_explored.proofs.SoundWorlds.{IsHeuristic, lives, me_is}
+use Rattle.mp_team_explored.proofs.SoundWorlds.{IsHeuristicFor, lives, me_is}
 use Rattle.mp_team_explored.proofs.Kept.{IsKept, offered_is_kept}
 use Rattle.mp_team_explored.proofs.Leading.{leads_reached}
 use Rattle.mp_team_explored.proofs.Staying.{IsLater, has_kept, known, later_entry, reached_stays, sent_reached}
@@ -52,22 +52,22 @@ use Rattle.mp_team_explored.proofs.Stepping.{HasStepped, event_stepped}
 
 module _ (tasks : List AgentTask) (agree : Agree tasks) (limits : All IsWithinLimits tasks) where
   -- what makes a world explored, agent by agent
-  pub record AreReached (w : World) : Type 0 where
-    pub roots : (k : Known) → IsRoot tasks k → TeamReaches tasks (found_of w) k 0
+  pub record AreReached (Goal : Known → Type 0) (w : World) : Type 0 where
+    pub roots : (k : Known) → IsRoot tasks k → TeamReachesFor tasks Goal (found_of w) k 0
     pub closed : (agent n : ℕ) (r : AgentRecord) (e : Entry AgentState) → agent_at w agent ≡ Some r → slice_get r.search.kept.entries n ≡ Some e → e.mark ≡ Expanded
-        → (cost : ℕ) (last : Known) → LeadsOn tasks (known agent (joint w agent e.key)) cost last → TeamReaches tasks (found_of w) last (e.g + cost)
+        → (cost : ℕ) (last : Known) → LeadsOn tasks (known agent (joint w agent e.key)) cost last → TeamReachesFor tasks Goal (found_of w) last (e.g + cost)
     pub sent : (agent k n receiver : ℕ) (r : AgentRecord) (e : Entry AgentState) → agent_at w agent ≡ Some r → slice_get r.search.kept.sent k ≡ Some n
-        → slice_get r.search.kept.entries n ≡ Some e → Contains (receivers r.task e.key) receiver → TeamReaches tasks (found_of w) (known receiver (joint w agent e.key)) e.g
+        → slice_get r.search.kept.entries n ≡ Some e → Contains (receivers r.task e.key) receiver → TeamReachesFor tasks Goal (found_of w) (known receiver (joint w agent e.key)) e.g
 
-  module _ (w : World) (team : IsTeamWorld tasks w) (sound : AreStatesSound tasks w) (bounds : AreEstimatesBounds tasks w) where
-    explored_if : AreReached w → IsTeamExplored tasks None (found_of w)
+  module _ (Goal : Known → Type 0) (w : World) (team : IsTeamWorld tasks w) (sound : AreStatesSound tasks w) (bounds : AreEstimatesBoundsFor tasks Goal w) where
+    explored_if : AreReached Goal w → IsTeamExploredFor tasks Goal None (found_of w)
     explored_if reached = record {
       roots = reached.roots;
       live = λ i seen there. live_at i seen there;
       closed = λ i seen there mark. inr (λ cost last leads. closed_at i seen there mark cost last leads);
       sent = λ x here. sent_at x here;
-      entries = entry_bounds tasks agree limits w team sound bounds;
-      messages = message_bounds tasks agree limits w team sound bounds;
+      entries = entry_bounds tasks agree limits Goal w team sound bounds;
+      messages = message_bounds tasks agree limits Goal w team sound bounds;
     }
       where
         live_at : (i : ℕ × ℕ) (seen : Seen Known) → IsAt (found_of w) i seen → HasLiveEntry (found_of w) seen.state seen.cost
@@ -76,37 +76,37 @@ module _ (tasks : List AgentTask) (agree : Agree tasks) (limits : All IsWithinLi
             subst (λ (x : Seen Known). HasLiveEntry (found_of w) x.state x.cost) (sym f.is) (lives tasks agree limits w team sound i.0 i.1 f.agent_is f.entry f.there f.at)
 
         closed_at : (i : ℕ × ℕ) (seen : Seen Known) → IsAt (found_of w) i seen → seen.mark ≡ Expanded → (cost : ℕ) (last : Known) → LeadsOn tasks seen.state cost last
-            → TeamReaches tasks (found_of w) last (seen.cost + cost)
+            → TeamReachesFor tasks Goal (found_of w) last (seen.cost + cost)
         closed_at i seen there mark cost last leads =
             let f = found_entry w i seen there in
-            subst (λ (x : Seen Known). TeamReaches tasks (found_of w) last (x.cost + cost)) (sym f.is)
+            subst (λ (x : Seen Known). TeamReachesFor tasks Goal (found_of w) last (x.cost + cost)) (sym f.is)
             (reached.closed i.0 i.1 f.agent_is f.entry f.there f.at (ap (λ (x : Seen Known). x.mark) (sym f.is) ∙ mark) cost last
             (subst (λ (x : Seen Known). LeadsOn tasks x.state cost last) f.is leads))
 
-        sent_at : (x : Sent Known) → Contains (found_of w).sent x → TeamReaches tasks (found_of w) x.state x.cost
+        sent_at : (x : Sent Known) → Contains (found_of w).sent x → TeamReachesFor tasks Goal (found_of w) x.state x.cost
         sent_at x here =
             let f = found_sent w x here in
             let me = me_is tasks agree limits w team f.agent f.agent_is f.there in
-            subst (λ (y : Sent Known). TeamReaches tasks (found_of w) y.state y.cost) f.is
-            (subst (λ (a : ℕ). TeamReaches tasks (found_of w) (known f.receiver (joint w a f.entry.key)) f.entry.g) (sym me)
+            subst (λ (y : Sent Known). TeamReachesFor tasks Goal (found_of w) y.state y.cost) f.is
+            (subst (λ (a : ℕ). TeamReachesFor tasks Goal (found_of w) (known f.receiver (joint w a f.entry.key)) f.entry.g) (sym me)
             (reached.sent f.agent f.sent f.number f.receiver f.agent_is f.entry f.there f.given f.at f.here))
 
   -- ---- an event
 
-  module _ (value : AgentTask → Numbers → Numbers → Option ℕ) (heuristic : IsHeuristic value tasks) (w : World) (team : IsTeamWorld tasks w) (sound : AreStatesSound tasks w)
-      (small : AreSmall w) (next : World) (later_team : IsTeamWorld tasks next) (later_sound : AreStatesSound tasks next) (bounds : AreEstimatesBounds tasks next)
-      (event : Event) (is : IsStepOf value w event next) (explored : IsTeamExplored tasks None (found_of w)) where
-    stays : (k : Known) (cost : ℕ) → TeamReaches tasks (found_of w) k cost → TeamReaches tasks (found_of next) k cost
+  module _ {Goal : Known → Type 0} (value : AgentTask → Numbers → Numbers → Option ℕ) (heuristic : IsHeuristicFor Goal value tasks) (w : World) (team : IsTeamWorld tasks w) (sound : AreStatesSound tasks w)
+      (small : AreSmall w) (next : World) (later_team : IsTeamWorld tasks next) (later_sound : AreStatesSound tasks next) (bounds : AreEstimatesBoundsFor tasks Goal next)
+      (event : Event) (is : IsStepOf value w event next) (explored : IsTeamExploredFor tasks Goal None (found_of w)) where
+    stays : (k : Known) (cost : ℕ) → TeamReachesFor tasks Goal (found_of w) k cost → TeamReachesFor tasks Goal (found_of next) k cost
     stays = reached_stays tasks agree limits w team sound small value heuristic next later_team later_sound event is
 
     sends : (agent k n receiver : ℕ) (r : AgentRecord) (e : Entry AgentState) → agent_at next agent ≡ Some r → slice_get r.search.kept.sent k ≡ Some n
-        → slice_get r.search.kept.entries n ≡ Some e → Contains (receivers r.task e.key) receiver → TeamReaches tasks (found_of next) (known receiver (joint next agent e.key)) e.g
+        → slice_get r.search.kept.entries n ≡ Some e → Contains (receivers r.task e.key) receiver → TeamReachesFor tasks Goal (found_of next) (known receiver (joint next agent e.key)) e.g
     sends = sent_reached tasks agree limits w team sound small value heuristic next later_team later_sound event is explored
 
     -- an entry that was expanded before
     old_closed : (agent n : ℕ) (o : AgentRecord) (old : Entry AgentState) → agent_at w agent ≡ Some o → slice_get o.search.kept.entries n ≡ Some old → old.mark ≡ Expanded
         → (r : AgentRecord) (e : Entry AgentState) → agent_at next agent ≡ Some r → slice_get r.search.kept.entries n ≡ Some e
-        → (cost : ℕ) (last : Known) → LeadsOn tasks (known agent (joint next agent e.key)) cost last → TeamReaches tasks (found_of next) last (e.g + cost)
+        → (cost : ℕ) (last : Known) → LeadsOn tasks (known agent (joint next agent e.key)) cost last → TeamReachesFor tasks Goal (found_of next) last (e.g + cost)
     old_closed agent n o old o_there o_at mark r e there at cost last leads =
         let x : IsLater tasks agree limits w team sound small value heuristic next later_team later_sound event is agent n o old =
         later_entry tasks agree limits w team sound small value heuristic next later_team later_sound event is agent n o old o_there o_at
@@ -116,25 +116,25 @@ module _ (tasks : List AgentTask) (agree : Agree tasks) (limits : All IsWithinLi
         let whole : joint next agent e.key ≡ joint w agent old.key = ap (λ (e : Entry AgentState). joint next agent e.key) (sym e_is) ∙ x.joint_is in
         let price : old.g ≡ e.g = sym x.cost ∙ ap (λ (e : Entry AgentState). e.g) e_is in
         let led : LeadsOn tasks (known agent (joint w agent old.key)) cost last = subst (λ (s : JointState). LeadsOn tasks (known agent s) cost last) whole leads in
-        subst (λ (c : ℕ). TeamReaches tasks (found_of next) last (c + cost)) price
+        subst (λ (c : ℕ). TeamReachesFor tasks Goal (found_of next) last (c + cost)) price
         (stays last (old.g + cost)
         (by led (explored.closed (agent, n) (seen_entry w agent old) (entry_found w agent n o old o_there o_at) mark)))
       where
         by : LeadsOn tasks (known agent (joint w agent old.key)) cost last
-            → (◌≡◌ {A = Option (ℕ × ℕ)} None (Some (agent, n))) ⊎ ((cost : ℕ) (t : Known) → LeadsOn tasks (known agent (joint w agent old.key)) cost t → TeamReaches tasks (found_of w) t (old.g + cost))
-            → TeamReaches tasks (found_of w) last (old.g + cost)
+            → (◌≡◌ {A = Option (ℕ × ℕ)} None (Some (agent, n))) ⊎ ((cost : ℕ) (t : Known) → LeadsOn tasks (known agent (joint w agent old.key)) cost t → TeamReachesFor tasks Goal (found_of w) t (old.g + cost))
+            → TeamReachesFor tasks Goal (found_of w) last (old.g + cost)
         by led (inl none) = absurd (none-some (agent, n) none)
         by led (inr each) = each cost last led
 
     closed_later : (agent n : ℕ) (r : AgentRecord) (e : Entry AgentState) → agent_at next agent ≡ Some r → slice_get r.search.kept.entries n ≡ Some e → e.mark ≡ Expanded
-        → (cost : ℕ) (last : Known) → LeadsOn tasks (known agent (joint next agent e.key)) cost last → TeamReaches tasks (found_of next) last (e.g + cost)
+        → (cost : ℕ) (last : Known) → LeadsOn tasks (known agent (joint next agent e.key)) cost last → TeamReachesFor tasks Goal (found_of next) last (e.g + cost)
     closed_later agent n r e there at mark cost last leads = by (cases_eq agent (agent_of event))
       where
         stepped : HasStepped (value is.agent.task) is.agent is.step
         stepped = event_stepped tasks agree limits w team sound value next small heuristic.small event is
 
         now : agent ≡ agent_of event → is.step.after ≡ r → WasExpanded is.agent.search.kept n ⊎ AreOffered is.agent.task (value is.agent.task) e is.step.after.search.kept
-            → TeamReaches tasks (found_of next) last (e.g + cost)
+            → TeamReachesFor tasks Goal (found_of next) last (e.g + cost)
         now same r_is (inl old) = old_closed agent n is.agent old.entry (ap (agent_at w) same ∙ is.there) old.at old.is r e there at cost last leads
         now same r_is (inr offers) =
             let offers_last : AreOffered is.step.after.task (value is.step.after.task) e is.step.after.search.kept =
@@ -144,24 +144,24 @@ module _ (tasks : List AgentTask) (agree : Agree tasks) (limits : All IsWithinLi
             leads_reached tasks agree limits next later_team later_sound value heuristic agent r there (λ k m receiver f given f_at here. sends agent k m receiver r f there given f_at here)
             n e at offers_now cost last leads
 
-        by : (agent ≡ agent_of event) ⊎ (agent ≡ agent_of event → ⊥) → TeamReaches tasks (found_of next) last (e.g + cost)
+        by : (agent ≡ agent_of event) ⊎ (agent ≡ agent_of event → ⊥) → TeamReachesFor tasks Goal (found_of next) last (e.g + cost)
         by (inl same) =
             let r_is : is.step.after ≡ r = same_Some is.step.after r (sym is.after ∙ ap (agent_at next) (sym same) ∙ there) in
             now same r_is (stepped.done.expanded n e (ap (λ (r : AgentRecord). slice_get r.search.kept.entries n) r_is ∙ at) mark)
         by (inr other) = old_closed agent n r e (sym (is.others agent other) ∙ there) at mark r e there at cost last leads
 
-    pub event_explored : IsTeamExplored tasks None (found_of next)
+    pub event_explored : IsTeamExploredFor tasks Goal None (found_of next)
     event_explored =
-        explored_if next later_team later_sound bounds
+        explored_if Goal next later_team later_sound bounds
         (record { roots = λ k root. stays k 0 (explored.roots k root); closed = closed_later; sent = sends })
 
   -- ---- the start
 
-  module _ (value : AgentTask → Numbers → Numbers → Option ℕ) (heuristic : IsHeuristic value tasks) (limit : ℕ) (most : limit ≤ 10000000) where
+  module _ {Goal : Known → Type 0} (value : AgentTask → Numbers → Numbers → Option ℕ) (heuristic : IsHeuristicFor Goal value tasks) (limit : ℕ) (most : limit ≤ 10000000) where
     abbrev first : World
     first = start_world value limit tasks
 
-    module _ (team : IsTeamWorld tasks first) (sound : AreStatesSound tasks first) (bounds : AreEstimatesBounds tasks first) where
+    module _ (team : IsTeamWorld tasks first) (sound : AreStatesSound tasks first) (bounds : AreEstimatesBoundsFor tasks Goal first) where
       first_continues : (t : AgentTask) → Continues t empty [] (start_record t (value t)).kept
       first_continues t = offered_continues t (start_state t) 0 Root empty (own_value t (value t) (start_state t))
 
@@ -187,7 +187,7 @@ module _ (tasks : List AgentTask) (agree : Agree tasks) (limits : All IsWithinLi
           same_Some (joint first agent e.key) (joint_start tasks)
           (sym x.leads ∙ ap (λ steps. state_after (team_system tasks) (joint_start tasks) steps) none ∙ run-none (after_step tasks) (joint_start tasks))
 
-      roots_first : (k : Known) → IsRoot tasks k → TeamReaches tasks (found_of first) k 0
+      roots_first : (k : Known) → IsRoot tasks k → TeamReachesFor tasks Goal (found_of first) k 0
       roots_first k root = by (offered_is_kept t (start_state t) 0 Root empty (own_value t (value t) (start_state t)) room)
         where
           t : AgentTask
@@ -202,9 +202,9 @@ module _ (tasks : List AgentTask) (agree : Agree tasks) (limits : All IsWithinLi
           k_is : known t.me (joint_start tasks) ≡ k
           k_is = λ j. record { agent = sym root.agent j; state = sym root.state j }
 
-          by : (own_value t (value t) (start_state t) ≡ None) ⊎ IsKept (start_record t (value t)).kept (start_state t) 0 → TeamReaches tasks (found_of first) k 0
+          by : (own_value t (value t) (start_state t) ≡ None) ⊎ IsKept (start_record t (value t)).kept (start_state t) 0 → TeamReachesFor tasks Goal (found_of first) k 0
           by (inl none) =
-              inr (inr (subst (IsTeamHopeless tasks) k_is (heuristic.hopeless t (known t.me (joint_start tasks)) root.in_team (start_is_joint tasks) (first_value t root.in_team ∙ none))))
+              inr (inr (subst (IsTeamHopelessFor tasks Goal) k_is (heuristic.hopeless t (known t.me (joint_start tasks)) root.in_team (start_is_joint tasks) (first_value t root.in_team ∙ none))))
           by (inr kept) =
               let found = task_there tasks (agree_numbered tasks agree) first team t root.in_team in
               let of = task_is value limit tasks agree limits most t.me found.0 found.1 in
@@ -223,9 +223,9 @@ module _ (tasks : List AgentTask) (agree : Agree tasks) (limits : All IsWithinLi
           let of = task_is value limit tasks agree limits most agent r there in
           subst (λ (r : AgentRecord). Continues r.task empty [] r.search.kept) (sym of.2) (first_continues of.0)
 
-      pub start_explored : IsTeamExplored tasks None (found_of first)
+      pub start_explored : IsTeamExploredFor tasks Goal None (found_of first)
       start_explored =
-          explored_if first team sound bounds
+          explored_if Goal first team sound bounds
           (record {
             roots = roots_first;
             closed = λ agent n r e there at mark cost last leads.

@@ -1,7 +1,8 @@
--- What the promises of a heuristic say of joint states.
-use Rattle.std.proofs.Common.{◌≡◌, ℕ, ◌<◌, ◌≤◌, ◌^◌, List, Option, None, All, subst, arith}
+-- What the promises of a heuristic say of joint states, and what a heuristic that knows nothing says, whatever counts as a goal.
+use Rattle.std.proofs.Common.{◌≡◌, ℕ, ◌<◌, ◌≤◌, ◌^◌, List, Option, None, All, sym, subst, arith}
 use Rattle.std.specs.Prelude.{IfSome}
 use Rattle.std.proofs.lemmas.List.Elements.{All-contains}
+use Rattle.std.proofs.lemmas.Option.{none-some, same_Some}
 use Rattle.mp_runs.specs.Simulation.{StandsForAll}
 use Rattle.mp_runs.specs.System.{IsPlanFrom, plan_cost}
 use Rattle.mp_sets.specs.Numbers.{Numbers}
@@ -13,8 +14,10 @@ use Rattle.mp_task.specs.Projected.{projected_state}
 use Rattle.mp_task.specs.Seen.{IsSeenAs, seen_state, seen_system}
 use Rattle.mp_task.proofs.Estimates.{value_at_most}
 use Rattle.mp_task.proofs.SeenPlan.{seen_plan}
+use Rattle.mp_reach.specs.LeadsOn.{Known}
 use Rattle.mp_reach.proofs.WaysArePlans.{way_plan}
-use Rattle.mp_team_explored.proofs.SoundWorlds.{IsHeuristic}
+use Rattle.mp_team_explored.specs.Expansions.{nothing_known}
+use Rattle.mp_team_explored.proofs.SoundWorlds.{IsHeuristic, IsHeuristicFor}
 
 module _ (value : AgentTask → Numbers → Numbers → Option ℕ)
     (small : (t : AgentTask) (publics privates : Numbers) → IsWithinLimits t → IfSome (value t publics privates) (λ h. h < 2 ^ 50))
@@ -40,3 +43,11 @@ module _ (value : AgentTask → Numbers → Numbers → Option ℕ)
         dead t k.state.publics (private_of k.state t.me) within none seen.plan seen.plans;
     small = λ t publics privates here. small t publics privates (All-contains IsWithinLimits tasks t limits here);
   }
+
+-- nothing is the least that is still to be paid, and no state is said to lead to no goal
+pub knows_nothing : (Goal : Known → Type 0) (tasks : List AgentTask) → IsHeuristicFor Goal nothing_known tasks
+knows_nothing Goal tasks = record {
+  bounds = λ t k h here joint is cost last way goal. let none = same_Some 0 h is in omega arith;
+  hopeless = λ t k here joint none. absurd (none-some 0 (sym none));
+  small = λ t publics privates here. omega arith;
+}

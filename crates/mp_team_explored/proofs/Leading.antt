@@ -18,7 +18,7 @@ use Rattle.mp_search.specs.Offering.{own_value}
 use Rattle.mp_search.specs.Sending.{is_due}
 use Rattle.mp_machine.specs.AgentRecord.{AgentRecord}
 use Rattle.mp_reach.specs.Explored.{HasEntry}
-use Rattle.mp_reach.specs.LeadsOn.{Concerns, IsGoal, IsTeamHopeless, IsVisible, Known, LeadsOn, TeamReaches, any_action}
+use Rattle.mp_reach.specs.LeadsOn.{Concerns, IsTeamHopelessFor, IsVisible, Known, LeadsOn, TeamReachesFor, any_action}
 use Rattle.mp_reach.specs.LeadsOn.LeadsOn.{alone, to_another}
 use Rattle.mp_reach.proofs.Changing.{reached_at_more}
 use Rattle.mp_world.specs.Joint.{joint}
@@ -29,7 +29,7 @@ use Rattle.mp_team_states.proofs.JointSteps.{action_leads}
 use Rattle.mp_team_states.proofs.StepsSound.{limits_of, task_at}
 use Rattle.mp_team_explored.specs.TeamFound.{found_of}
 use Rattle.mp_team_explored.proofs.Expanded.{AreOffered, IsOffered}
-use Rattle.mp_team_explored.proofs.SoundWorlds.{IsHeuristic, agents_are, me_is, states_known, task_in}
+use Rattle.mp_team_explored.proofs.SoundWorlds.{IsHeuristicFor, agents_are, me_is, states_known, task_in}
 use Rattle.mp_team_explored.proofs.Joint.{concerned_is_receiver, joint_size, own_private, some_receiver, visible_is}
 use Rattle.mp_team_explored.proofs.Kept.{IsKept}
 use Rattle.mp_team_explored.proofs.Staying.{has_kept, known}
@@ -65,10 +65,10 @@ has_led tasks k cost last (to_another t other s reached step here there takes vi
 }
 
 module _ (tasks : List AgentTask) (agree : Agree tasks) (limits : All IsWithinLimits tasks) (w : World) (team : IsTeamWorld tasks w) (sound : AreStatesSound tasks w)
-    (value : AgentTask → Numbers → Numbers → Option ℕ) (heuristic : IsHeuristic value tasks) (agent : ℕ) (r : AgentRecord) (there : agent_at w agent ≡ Some r)
+    {Goal : Known → Type 0} (value : AgentTask → Numbers → Numbers → Option ℕ) (heuristic : IsHeuristicFor Goal value tasks) (agent : ℕ) (r : AgentRecord) (there : agent_at w agent ≡ Some r)
     -- all that was sent is reached
     (sent : (k n receiver : ℕ) (e : Entry AgentState) → slice_get r.search.kept.sent k ≡ Some n → slice_get r.search.kept.entries n ≡ Some e
-    → Contains (receivers r.task e.key) receiver → TeamReaches tasks (found_of w) (known receiver (joint w agent e.key)) e.g)
+    → Contains (receivers r.task e.key) receiver → TeamReachesFor tasks Goal (found_of w) (known receiver (joint w agent e.key)) e.g)
     (n : ℕ) (e : Entry AgentState) (at : slice_get r.search.kept.entries n ≡ Some e) where
   t : AgentTask
   t = r.task
@@ -122,7 +122,7 @@ module _ (tasks : List AgentTask) (agree : Agree tasks) (limits : All IsWithinLi
         takes.leads ∙ same_Some (after_act before t.me act) (joint w t.me (successor act e.key)) (sym after ∙ leads)
 
     -- where there is no estimate, no search leads on to a goal
-    nothing_there : own_value t (value t) s ≡ None → (other : ℕ) → IsTeamHopeless tasks (known other (joint w t.me s))
+    nothing_there : own_value t (value t) s ≡ None → (other : ℕ) → IsTeamHopelessFor tasks Goal (known other (joint w t.me s))
     unfolding s act t
     nothing_there none other =
         heuristic.hopeless t (known other (joint w t.me s)) (task_in tasks agree limits w team agent r there)
@@ -146,7 +146,7 @@ module _ (tasks : List AgentTask) (agree : Agree tasks) (limits : All IsWithinLi
         let seen = visible_is w t fit e.key is_known.number act visible (own_private w t fit s is_known.number) in
         (to, some_receiver t act e.key s other.me seen to)
 
-    ends_reached : AreOffered t (value t) e r.search.kept → (last : Known) → Ends tasks t act (joint w t.me e.key) reached last → TeamReaches tasks (found_of w) last (e.g + act.cost)
+    ends_reached : AreOffered t (value t) e r.search.kept → (last : Known) → Ends tasks t act (joint w t.me e.key) reached last → TeamReachesFor tasks Goal (found_of w) last (e.g + act.cost)
     unfolding s act t
     ends_reached offers last ends = by (offers step.action act own may) last ends
       where
@@ -156,10 +156,10 @@ module _ (tasks : List AgentTask) (agree : Agree tasks) (limits : All IsWithinLi
         at_agent : (k : JointState) → known agent k ≡ known t.me k
         at_agent k = ap (λ (a : ℕ). known a k) (sym me)
 
-        by : IsOffered t (value t) act e.key cost r.search.kept → (last : Known) → Ends tasks t act (joint w t.me e.key) reached last → TeamReaches tasks (found_of w) last cost
-        by (inl none) _ itself = inr (inr (subst (λ (x : JointState). IsTeamHopeless tasks (known t.me x)) (sym reached_is) (nothing_there none t.me)))
+        by : IsOffered t (value t) act e.key cost r.search.kept → (last : Known) → Ends tasks t act (joint w t.me e.key) reached last → TeamReachesFor tasks Goal (found_of w) last cost
+        by (inl none) _ itself = inr (inr (subst (λ (x : JointState). IsTeamHopelessFor tasks Goal (known t.me x)) (sym reached_is) (nothing_there none t.me)))
         by (inl none) _ (another other here visible concern) =
-            inr (inr (subst (λ (x : JointState). IsTeamHopeless tasks (known other.me x)) (sym reached_is) (nothing_there none other.me)))
+            inr (inr (subst (λ (x : JointState). IsTeamHopelessFor tasks Goal (known other.me x)) (sym reached_is) (nothing_there none other.me)))
         by (inr offer) _ itself =
             inl (has_kept_at offer.0)
           where
@@ -175,11 +175,11 @@ module _ (tasks : List AgentTask) (agree : Agree tasks) (limits : All IsWithinLi
             let for : Contains (receivers t was.entry.key) other.me = subst (λ (k : AgentState). Contains (receivers t k) other.me) (sym was.key) due.0 in
             let there_now = sent was.sent was.number other.me was.entry was.given was.at for in
             let whole : joint w agent was.entry.key ≡ reached = (λ j. joint w (sym me j) (was.key j)) ∙ sym reached_is in
-            reached_at_more (LeadsOn tasks) (IsGoal tasks) (found_of w) (known other.me reached) was.entry.g cost was.within
-            (subst (λ (x : JointState). TeamReaches tasks (found_of w) (known other.me x) was.entry.g) whole there_now)
+            reached_at_more (LeadsOn tasks) Goal (found_of w) (known other.me reached) was.entry.g cost was.within
+            (subst (λ (x : JointState). TeamReachesFor tasks Goal (found_of w) (known other.me x) was.entry.g) whole there_now)
 
   -- what an entry's state leads to is reached once it was offered
-  pub leads_reached : AreOffered r.task (value r.task) e r.search.kept → (cost : ℕ) (last : Known) → LeadsOn tasks (known agent (joint w agent e.key)) cost last → TeamReaches tasks (found_of w) last (e.g + cost)
+  pub leads_reached : AreOffered r.task (value r.task) e r.search.kept → (cost : ℕ) (last : Known) → LeadsOn tasks (known agent (joint w agent e.key)) cost last → TeamReachesFor tasks Goal (found_of w) last (e.g + cost)
   unfolding act t
   leads_reached offers cost last leads =
       let led = has_led tasks (known agent (joint w agent e.key)) cost last leads in
@@ -188,11 +188,11 @@ module _ (tasks : List AgentTask) (agree : Agree tasks) (limits : All IsWithinLi
       Taken : (step : TaskStep) (reached : JointState) → AgentTask → JointState → Type 0
       Taken step reached u x =
           (takes : TakesStep tasks u.me any_action x step reached) → Ends tasks u takes.act x reached last → cost ≡ takes.act.cost
-          → TeamReaches tasks (found_of w) last (e.g + cost)
+          → TeamReachesFor tasks Goal (found_of w) last (e.g + cost)
 
       mine : (step : TaskStep) (reached : JointState) → Taken step reached t (joint w t.me e.key)
       mine step reached takes ends price =
-          subst (λ (c : ℕ). TeamReaches tasks (found_of w) last (e.g + c)) (sym price) (ends_reached step reached takes offers last ends)
+          subst (λ (c : ℕ). TeamReachesFor tasks Goal (found_of w) last (e.g + c)) (sym price) (ends_reached step reached takes offers last ends)
 
       by : (u : AgentTask) → Contains tasks u → t.me ≡ u.me → (step : TaskStep) (reached : JointState) → Taken step reached u (joint w agent e.key)
       by u here number step reached =

@@ -18,7 +18,7 @@ use Rattle.mp_search.specs.Offering.{own_value}
 use Rattle.mp_search.proofs.KeyedStates.{Decides-state, all_get}
 use Rattle.mp_machine.specs.AgentRecord.{AgentRecord}
 use Rattle.mp_reach.specs.Explored.{HasLiveEntry}
-use Rattle.mp_reach.specs.LeadsOn.{IsTeamBound, IsTeamHopeless, Known}
+use Rattle.mp_reach.specs.LeadsOn.{IsGoal, IsTeamBoundFor, IsTeamHopelessFor, Known}
 use Rattle.mp_world.specs.Joint.{joint, joint_told}
 use Rattle.mp_world.specs.World.{IsAgent, IsTeamWorld, World, agent_at}
 use Rattle.mp_world.proofs.Agents.{agent_there, agree_numbered, member_of}
@@ -35,13 +35,17 @@ use Rattle.mp_team_explored.specs.TeamFound.{found_of, seen_entry}
 use Rattle.mp_team_explored.proofs.Found.{entry_found}
 use Rattle.mp_team_explored.proofs.Kept.{IsKept, best_of_kept}
 
--- what the values of a heuristic say of joint states, whichever agent's search goes on from there
-pub record IsHeuristic (value : AgentTask → Numbers → Numbers → Option ℕ) (tasks : List AgentTask) : Type 0 where
+-- what the values of a heuristic say of joint states, whichever agent's search goes on from there, and whatever counts as a goal
+pub record IsHeuristicFor (Goal : Known → Type 0) (value : AgentTask → Numbers → Numbers → Option ℕ) (tasks : List AgentTask) : Type 0 where
   pub bounds : (t : AgentTask) (k : Known) (h : ℕ) → Contains tasks t → IsJointState tasks k.state
-      → value t k.state.publics (private_of k.state t.me) ≡ Some h → IsTeamBound tasks k h
+      → value t k.state.publics (private_of k.state t.me) ≡ Some h → IsTeamBoundFor tasks Goal k h
   pub hopeless : (t : AgentTask) (k : Known) → Contains tasks t → IsJointState tasks k.state
-      → value t k.state.publics (private_of k.state t.me) ≡ None → IsTeamHopeless tasks k
+      → value t k.state.publics (private_of k.state t.me) ≡ None → IsTeamHopelessFor tasks Goal k
   pub small : HasSmallValues value tasks
+
+-- the same where all goals of the team are true
+abbrev pub IsHeuristic : (AgentTask → Numbers → Numbers → Option ℕ) → List AgentTask → Type 0
+IsHeuristic value tasks = IsHeuristicFor (IsGoal tasks) value tasks
 
 -- ---- the last entry of a state
 
@@ -115,7 +119,7 @@ module _ (tasks : List AgentTask) (agree : Agree tasks) (limits : All IsWithinLi
 
     -- ---- values
 
-    module _ (value : AgentTask → Numbers → Numbers → Option ℕ) (heuristic : IsHeuristic value tasks) (agent : ℕ) (r : AgentRecord) (there : agent_at w agent ≡ Some r)
+    module _ {Goal : Known → Type 0} (value : AgentTask → Numbers → Numbers → Option ℕ) (heuristic : IsHeuristicFor Goal value tasks) (agent : ℕ) (r : AgentRecord) (there : agent_at w agent ≡ Some r)
         (s : AgentState) (known : IsStateOf w r.task s) where
       own_value_is : value r.task (joint w agent s).publics (private_of (joint w agent s) r.task.me) ≡ own_value r.task (value r.task) s
       own_value_is =
@@ -123,12 +127,12 @@ module _ (tasks : List AgentTask) (agree : Agree tasks) (limits : All IsWithinLi
           ∙ ap (value r.task s.publics) (own_facts tasks agree limits w team agent r there s known)
 
       -- an own value is a bound in each agent's search, and where there is none, no search leads on to a goal
-      pub own_bound : (h other : ℕ) → own_value r.task (value r.task) s ≡ Some h → IsTeamBound tasks (record { agent = other; state = joint w agent s }) h
+      pub own_bound : (h other : ℕ) → own_value r.task (value r.task) s ≡ Some h → IsTeamBoundFor tasks Goal (record { agent = other; state = joint w agent s }) h
       own_bound h other is =
           heuristic.bounds r.task (record { agent = other; state = joint w agent s }) h (task_in agent r there)
           (known_is_joint tasks agree limits w team agent r there s known) (own_value_is ∙ is)
 
-      pub own_hopeless : (other : ℕ) → own_value r.task (value r.task) s ≡ None → IsTeamHopeless tasks (record { agent = other; state = joint w agent s })
+      pub own_hopeless : (other : ℕ) → own_value r.task (value r.task) s ≡ None → IsTeamHopelessFor tasks Goal (record { agent = other; state = joint w agent s })
       own_hopeless other none =
           heuristic.hopeless r.task (record { agent = other; state = joint w agent s }) (task_in agent r there)
           (known_is_joint tasks agree limits w team agent r there s known) (own_value_is ∙ none)
@@ -191,10 +195,10 @@ pub greater_small : (o : Option ℕ) (m h : ℕ) → IfSome o (λ h. h < 2 ^ 50)
 greater_small None m h small below is = absurd (none-some h is)
 greater_small (Some x) m h small below is = subst (λ (n : ℕ). n < 2 ^ 50) (same_Some (max m x) h is) (omega arith)
 
-pub greater_bound : (tasks : List AgentTask) (k : Known) (o : Option ℕ) (m h : ℕ) → ((x : ℕ) → o ≡ Some x → IsTeamBound tasks k x) → IsTeamBound tasks k m → option_map (max m) o ≡ Some h
-    → IsTeamBound tasks k h
-greater_bound tasks k None m h own other is = absurd (none-some h is)
-greater_bound tasks k (Some x) m h own other is = subst (IsTeamBound tasks k) (same_Some (max m x) h is) (λ cost last way goal.
+pub greater_bound : (tasks : List AgentTask) (Goal : Known → Type 0) (k : Known) (o : Option ℕ) (m h : ℕ) → ((x : ℕ) → o ≡ Some x → IsTeamBoundFor tasks Goal k x) → IsTeamBoundFor tasks Goal k m → option_map (max m) o ≡ Some h
+    → IsTeamBoundFor tasks Goal k h
+greater_bound tasks Goal k None m h own other is = absurd (none-some h is)
+greater_bound tasks Goal k (Some x) m h own other is = subst (IsTeamBoundFor tasks Goal k) (same_Some (max m x) h is) (λ cost last way goal.
     let a = own x refl cost last way goal in
     let b = other cost last way goal in
     omega arith)

@@ -28,7 +28,7 @@ use Rattle.mp_machine.specs.Taking.{took_message, with_state}
 use Rattle.mp_reach.specs.Explored.{HasEntry, HasMessage}
 use Rattle.mp_reach.specs.Found.{Entry as Seen, Message as Sent}
 use Rattle.mp_reach.proofs.Changing.{reached_at_more}
-use Rattle.mp_reach.specs.LeadsOn.{IsGoal, IsTeamExplored, IsTeamHopeless, Known, LeadsOn, TeamReaches}
+use Rattle.mp_reach.specs.LeadsOn.{IsTeamExploredFor, IsTeamHopelessFor, Known, LeadsOn, TeamReachesFor}
 use Rattle.mp_world.specs.Events.{agent_of, taken, without_taken}
 use Rattle.mp_world.specs.Joint.{joint, joint_told}
 use Rattle.mp_world.specs.Steps.{IsStepOf}
@@ -47,7 +47,7 @@ use Rattle.mp_team_explored.specs.TeamFound.{found_of, on_its_way, seen_entry, s
 use Rattle.mp_team_explored.proofs.Expanded.{received_is_kept}
 use Rattle.mp_team_explored.proofs.Found.{IsFoundMessage, entry_found, found_entry, found_message, message_found, sent_found}
 use Rattle.mp_team_explored.proofs.Continuing.{GoesOut}
-use Rattle.mp_team_explored.proofs.SoundWorlds.{IsHeuristic, greater_none, greater_small, me_is, message_estimate, message_room, other_there, own_hopeless, states_known, task_in}
+use Rattle.mp_team_explored.proofs.SoundWorlds.{IsHeuristicFor, greater_none, greater_small, me_is, message_estimate, message_room, other_there, own_hopeless, states_known, task_in}
 use Rattle.mp_team_explored.proofs.Joint.{receiver_is}
 use Rattle.mp_team_explored.proofs.Kept.{IsKept}
 use Rattle.mp_team_explored.proofs.Stepping.{HasStepped, event_stepped, out_is_under_way, stays_under_way, still_there}
@@ -66,7 +66,7 @@ has_kept w agent r s cost there kept = record {
 }
 
 module _ (tasks : List AgentTask) (agree : Agree tasks) (limits : All IsWithinLimits tasks) (w : World) (team : IsTeamWorld tasks w) (sound : AreStatesSound tasks w)
-    (small : AreSmall w) (value : AgentTask → Numbers → Numbers → Option ℕ) (heuristic : IsHeuristic value tasks) (next : World) (later_team : IsTeamWorld tasks next)
+    (small : AreSmall w) {Goal : Known → Type 0} (value : AgentTask → Numbers → Numbers → Option ℕ) (heuristic : IsHeuristicFor Goal value tasks) (next : World) (later_team : IsTeamWorld tasks next)
     (later_sound : AreStatesSound tasks next) where
   -- ---- an event
 
@@ -128,7 +128,7 @@ module _ (tasks : List AgentTask) (agree : Agree tasks) (limits : All IsWithinLi
     -- a message that is taken leads to an entry of its state, or the state leads to no goal
     taken_reached : (from to : ℕ) (u : AgentTask) (r : AgentRecord) (bytes : List ℕ) (m : State) → IsStepOf value w (Take to from) next → taken w (Take to from) ≡ bytes
         → task_of tasks from ≡ Some u → agent_at w to ≡ Some r → IsSoundState w u m → message_of r.task.agents r.task.publics bytes ≡ Some (kinds.State m)
-        → TeamReaches tasks (found_of next) (known to (joint_told w m)) m.g
+        → TeamReachesFor tasks Goal (found_of next) (known to (joint_told w m)) m.g
     unfolding with_state
     taken_reached from to u r bytes m step first at there state reads = by (received_is_kept r.task (value r.task) from m r.search.kept room)
       where
@@ -167,15 +167,15 @@ module _ (tasks : List AgentTask) (agree : Agree tasks) (limits : All IsWithinLi
         kept_is : step.step.after.search.kept ≡ last
         kept_is = ap (λ (x : Step). x.after.search.kept) (sym after)
 
-        by : (greater_value r.task (value r.task) m.h s ≡ None) ⊎ IsKept last s m.g → TeamReaches tasks (found_of next) (known to (joint_told w m)) m.g
+        by : (greater_value r.task (value r.task) m.h s ≡ None) ⊎ IsKept last s m.g → TeamReachesFor tasks Goal (found_of next) (known to (joint_told w m)) m.g
         by (inl none) =
-            inr (inr (subst (λ (x : JointState). IsTeamHopeless tasks (known to x)) knows.1
+            inr (inr (subst (λ (x : JointState). IsTeamHopelessFor tasks Goal (known to x)) knows.1
             (own_hopeless tasks agree limits w team sound value heuristic to r there s knows.0 to (greater_none (value r.task s.publics s.mine) m.h none))))
         by (inr kept) =
             inl (subst (λ (x : JointState). HasEntry (found_of next) (known to x) m.g) (same_joint to r s there knows.0 ∙ knows.1)
             (has_kept next to step.step.after s m.g step.after (subst (λ (x : Record AgentState). IsKept x s m.g) (sym kept_is) kept)))
 
-    message_stays : (k : Known) (cost : ℕ) → HasMessage (found_of w) k cost → TeamReaches tasks (found_of next) k cost
+    message_stays : (k : Known) (cost : ℕ) → HasMessage (found_of w) k cost → TeamReachesFor tasks Goal (found_of next) k cost
     message_stays k cost has = by (still_there tasks agree limits w team sound value next event is f.from f.to sender receiver f.bytes f.here)
       where
         f : IsFoundMessage tasks (agree_numbered tasks agree) w team has.message
@@ -208,7 +208,7 @@ module _ (tasks : List AgentTask) (agree : Agree tasks) (limits : All IsWithinLi
         within : m.g ≤ cost
         within = let most = has.within in let same : m.g ≡ has.message.cost = ap (λ (x : Sent Known). x.cost) f.is in omega arith
 
-        remains : Contains (under_way (without_taken w event) f.from f.to) f.bytes → TeamReaches tasks (found_of next) k cost
+        remains : Contains (under_way (without_taken w event) f.from f.to) f.bytes → TeamReachesFor tasks Goal (found_of next) k cost
         remains here =
             let s_later = grown f.from f.sender f.sender_there in
             let r_later = grown f.to r f.receiver_there in
@@ -226,39 +226,39 @@ module _ (tasks : List AgentTask) (agree : Agree tasks) (limits : All IsWithinLi
               within = within;
             }))
 
-        by : Contains (under_way (without_taken w event) f.from f.to) f.bytes ⊎ ((event ≡ Take f.to f.from) × (taken w event ≡ f.bytes)) → TeamReaches tasks (found_of next) k cost
+        by : Contains (under_way (without_taken w event) f.from f.to) f.bytes ⊎ ((event ≡ Take f.to f.from) × (taken w event ≡ f.bytes)) → TeamReachesFor tasks Goal (found_of next) k cost
         by (inl here) = remains here
         by (inr gone) =
             let step : IsStepOf value w (Take f.to f.from) next = subst (λ (x : Event). IsStepOf value w x next) gone.0 is in
             let first : taken w (Take f.to f.from) ≡ f.bytes = ap (taken w) (sym gone.0) ∙ gone.1 in
             let reached = taken_reached f.from f.to f.sender.task r f.bytes m step first at f.receiver_there state f.reads in
-            subst (λ (x : Known). TeamReaches tasks (found_of next) x cost) k_is
-            (reached_at_more (LeadsOn tasks) (IsGoal tasks) (found_of next) (known f.to (joint_told w m)) m.g cost within reached)
+            subst (λ (x : Known). TeamReachesFor tasks Goal (found_of next) x cost) k_is
+            (reached_at_more (LeadsOn tasks) Goal (found_of next) (known f.to (joint_told w m)) m.g cost within reached)
 
     -- what is reached stays reached
-    pub reached_stays : (k : Known) (cost : ℕ) → TeamReaches tasks (found_of w) k cost → TeamReaches tasks (found_of next) k cost
+    pub reached_stays : (k : Known) (cost : ℕ) → TeamReachesFor tasks Goal (found_of w) k cost → TeamReachesFor tasks Goal (found_of next) k cost
     reached_stays k cost (inl has) = inl (entry_stays k cost has)
     reached_stays k cost (inr (inl has)) = message_stays k cost has
     reached_stays k cost (inr (inr hopeless)) = inr (inr hopeless)
 
     -- ---- what is sent
 
-    module _ (explored : IsTeamExplored tasks None (found_of w)) where
+    module _ (explored : IsTeamExploredFor tasks Goal None (found_of w)) where
       -- what was sent before
       old_sent : (agent k n receiver : ℕ) (r : AgentRecord) (e : Entry AgentState) → agent_at w agent ≡ Some r → slice_get r.search.kept.sent k ≡ Some n
           → slice_get r.search.kept.entries n ≡ Some e → Contains (receivers r.task e.key) receiver
-          → TeamReaches tasks (found_of next) (known receiver (joint w agent e.key)) e.g
+          → TeamReachesFor tasks Goal (found_of next) (known receiver (joint w agent e.key)) e.g
       old_sent agent k n receiver r e there given at here =
           let me = me_is tasks agree limits w team agent r there in
           let reached = explored.sent (sent_to w r e receiver) (sent_found w agent k n receiver r e there given at here) in
-          subst (λ (a : ℕ). TeamReaches tasks (found_of next) (known receiver (joint w a e.key)) e.g) me
+          subst (λ (a : ℕ). TeamReachesFor tasks Goal (found_of next) (known receiver (joint w a e.key)) e.g) me
           (reached_stays (sent_to w r e receiver).state e.g reached)
 
       -- what the agent of the event sends
       new_sent : (k n receiver : ℕ) (e : Entry AgentState) (stepped : HasStepped (value is.agent.task) is.agent is.step)
           → GoesOut is.agent.task is.step.after.search.kept stepped.out k n → slice_get is.step.after.search.kept.sent k ≡ Some n
           → slice_get is.step.after.search.kept.entries n ≡ Some e → Contains (receivers is.agent.task e.key) receiver
-          → TeamReaches tasks (found_of next) (known receiver (joint next (agent_of event) e.key)) e.g
+          → TeamReachesFor tasks Goal (found_of next) (known receiver (joint next (agent_of event) e.key)) e.g
       new_sent k n receiver e stepped out given at here =
           let a = agent_of event in
           let x = out.sending in
@@ -300,12 +300,12 @@ module _ (tasks : List AgentTask) (agree : Agree tasks) (limits : All IsWithinLi
       -- all that was sent is reached
       pub sent_reached : (agent k n receiver : ℕ) (r : AgentRecord) (e : Entry AgentState) → agent_at next agent ≡ Some r → slice_get r.search.kept.sent k ≡ Some n
           → slice_get r.search.kept.entries n ≡ Some e → Contains (receivers r.task e.key) receiver
-          → TeamReaches tasks (found_of next) (known receiver (joint next agent e.key)) e.g
+          → TeamReachesFor tasks Goal (found_of next) (known receiver (joint next agent e.key)) e.g
       sent_reached agent k n receiver r e there given at here = by (cases_eq agent (agent_of event))
         where
           -- it was sent before
           before : (a : ℕ) (o : AgentRecord) → agent_at w a ≡ Some o → slice_get o.search.kept.sent k ≡ Some n → agent_at next a ≡ Some r
-              → TeamReaches tasks (found_of next) (known receiver (joint next a e.key)) e.g
+              → TeamReachesFor tasks Goal (found_of next) (known receiver (joint next a e.key)) e.g
           before a o o_there o_given r_there =
               let inside = All-contains (λ (n : ℕ). n < length o.search.kept.entries) o.search.kept.sent n (agent_sound tasks agree limits w team sound a o o_there).kept.sent (Contains-slice_get o.search.kept.sent k n o_given) in
               let first = some_item o.search.kept.entries n inside in
@@ -317,8 +317,8 @@ module _ (tasks : List AgentTask) (agree : Agree tasks) (limits : All IsWithinLi
               let task : r.task ≡ o.task = ap (λ (r : AgentRecord). r.task) (sym r_is) ∙ x.task in
               let for : Contains (receivers o.task first.0.key) receiver = subst (λ (xs : List ℕ). Contains xs receiver) (λ j. receivers (task j) (sym key j)) here in
               let where_is : joint w a first.0.key ≡ joint next a e.key = sym x.joint_is ∙ ap (λ (e : Entry AgentState). joint next a e.key) e_is in
-              subst (λ (c : ℕ). TeamReaches tasks (found_of next) (known receiver (joint next a e.key)) c) cost
-              (subst (λ (s : JointState). TeamReaches tasks (found_of next) (known receiver s) first.0.g) where_is
+              subst (λ (c : ℕ). TeamReachesFor tasks Goal (found_of next) (known receiver (joint next a e.key)) c) cost
+              (subst (λ (s : JointState). TeamReachesFor tasks Goal (found_of next) (known receiver s) first.0.g) where_is
               (old_sent a k n receiver o first.0 o_there o_given first.1 for))
 
           stepped : HasStepped (value is.agent.task) is.agent is.step
@@ -326,18 +326,18 @@ module _ (tasks : List AgentTask) (agree : Agree tasks) (limits : All IsWithinLi
 
           here_now : agent ≡ agent_of event → is.step.after ≡ r
               → (slice_get is.agent.search.kept.sent k ≡ Some n) ⊎ GoesOut is.agent.task is.step.after.search.kept stepped.out k n
-              → TeamReaches tasks (found_of next) (known receiver (joint next agent e.key)) e.g
+              → TeamReachesFor tasks Goal (found_of next) (known receiver (joint next agent e.key)) e.g
           here_now same r_is (inl old) =
               before agent is.agent (ap (agent_at w) same ∙ is.there) old there
           here_now same r_is (inr out) =
               let task : r.task ≡ is.agent.task = ap (λ (r : AgentRecord). r.task) (sym r_is) ∙ stepped.task in
-              subst (λ (a : ℕ). TeamReaches tasks (found_of next) (known receiver (joint next a e.key)) e.g) (sym same)
+              subst (λ (a : ℕ). TeamReachesFor tasks Goal (found_of next) (known receiver (joint next a e.key)) e.g) (sym same)
               (new_sent k n receiver e stepped out
               (ap (λ (r : AgentRecord). slice_get r.search.kept.sent k) r_is ∙ given)
               (ap (λ (r : AgentRecord). slice_get r.search.kept.entries n) r_is ∙ at)
               (subst (λ (t : AgentTask). Contains (receivers t e.key) receiver) task here))
 
-          by : (agent ≡ agent_of event) ⊎ (agent ≡ agent_of event → ⊥) → TeamReaches tasks (found_of next) (known receiver (joint next agent e.key)) e.g
+          by : (agent ≡ agent_of event) ⊎ (agent ≡ agent_of event → ⊥) → TeamReachesFor tasks Goal (found_of next) (known receiver (joint next agent e.key)) e.g
           by (inl same) =
               let r_is : is.step.after ≡ r = same_Some is.step.after r (sym is.after ∙ ap (agent_at next) (sym same) ∙ there) in
               here_now same r_is (stepped.done.sent k n (ap (λ (r : AgentRecord). slice_get r.search.kept.sent k) r_is ∙ given))

@@ -8,8 +8,8 @@ ghost use Rattle.mp_task.specs.AgentTask.{AgentTask};
 ghost use Rattle.mp_task.specs.Agree.{Agree};
 ghost use Rattle.mp_task.specs.Limits.{IsWithinLimits};
 ghost use Rattle.mp_task.specs.Plan.{TaskSolves, TaskStep, task_cost};
-ghost use Rattle.mp_reach.specs.Explored.{HasWitness};
-ghost use Rattle.mp_reach.specs.LeadsOn.{IsGoal, IsTeamExplored};
+ghost use Rattle.mp_reach.specs.Explored.{HasWitness, LeavesNothingOut};
+ghost use Rattle.mp_reach.specs.LeadsOn.{IsGoal, IsRoot, IsTeamExplored, LeadsOn};
 ghost use Rattle.mp_team_explored.specs.Estimates.{AreEstimatesBounds, AreGoalsFlagged};
 ghost use Rattle.mp_team_explored.specs.Expansions.{ExpandsOnce, ExpandsOne, IsExpandedAt, nothing_known};
 ghost use Rattle.mp_team_explored.specs.TeamFound.{found_of};
@@ -70,6 +70,17 @@ pub fn plans_leave_a_witness_in_runs<H: Heuristic>()
         → Agree tasks → All IsWithinLimits tasks → limit ≤ 10000000 → Contains tasks t
         → run H.value limit tasks schedule ≡ Some w → TaskSolves tasks plan
         → HasWitnessIn w (task_cost tasks plan) }
+{}
+
+/// With a heuristic that knows nothing no state is left out, though it may lead to no goal. In every world that a legal
+/// schedule leads to, the joint start has an entry at no cost at each agent, or is under way to it. Where an own action
+/// applies in the state of an expanded entry, the state after it has an entry at its cost or less, or is under way at
+/// such a cost: at the agent itself, and at each other agent that it concerns and to which it is visible.
+pub fn no_state_is_left_out()
+    ensures { (limit : ℕ) (tasks : List AgentTask) (schedule : List Event) (w : World)
+        → Agree tasks → All IsWithinLimits tasks → limit ≤ 10000000
+        → run nothing_known limit tasks schedule ≡ Some w
+        → LeavesNothingOut (LeadsOn tasks) (IsRoot tasks) (found_of w) }
 {}
 
 /// Expansions are not wasted. An agent expands an open entry with the least sum of cost and estimate, which is less

@@ -5,6 +5,6 @@
 mod laws;
 
 pub use laws::{
-    estimates_and_flags_are_right, expansions_are_not_wasted, plans_leave_a_witness_in_runs,
-    teams_stay_explored,
+    estimates_and_flags_are_right, expansions_are_not_wasted, no_state_is_left_out,
+    plans_leave_a_witness_in_runs, teams_stay_explored,
 };
