@@ -13,3 +13,4 @@ mod states;
 
 pub use answer::{AgentList, ExpandRefusal, ReceiveRefusal, Received, Sending, SendingList};
 pub use search::Search;
+pub use states::Shown;

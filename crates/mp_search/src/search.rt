@@ -1,12 +1,13 @@
 //! The search of one agent.
 
-ghost use Rattle.std.specs.Prelude.{◌≡◌, ◌≢◌, ◌≤◌, true, false, Err, IfOk, IsFalse};
+ghost use Rattle.std.specs.Prelude.{◌≡◌, ◌≢◌, ◌+◌, ◌<◌, ◌≤◌, ◌^◌, true, false, length, slice_get, Err, IfOk, IsFalse, IsSomeAnd};
 ghost use Rattle.mp_applicable.specs.Far.{IsFarIndexOf};
 ghost use Rattle.mp_applicable.specs.Index.{IsIndexOf};
 ghost use Rattle.mp_search.specs.Answers.{IsExpansion, IsReceipt};
 ghost use Rattle.mp_search.specs.Offering.{start_record};
 ghost use Rattle.mp_search.specs.Receipt.{IsStateFor};
 ghost use Rattle.mp_search.specs.Search.{is_open_below, is_spent, may_expand, tokens_given, AgentSearch};
+ghost use Rattle.mp_search.specs.StateKeys.{IsShown};
 ghost use Rattle.mp_search.specs.StoreSeen.{HasEntriesOf};
 ghost use Rattle.mp_search.specs.Steps.{AreStatesOf};
 
@@ -16,7 +17,7 @@ use crate::offering::offer_at;
 use crate::reached::Reached;
 use crate::receipt::receive_state;
 use crate::sending::start_state;
-use crate::states::States;
+use crate::states::{Shown, States};
 use mp_applicable::{ActionIndex, FarIndex};
 use mp_list::{Copied, OutOfMemory};
 use mp_messages::State;
@@ -169,9 +170,21 @@ impl<H: Heuristic> Search<H> {
         &self.states.store
     }
 
+    /// The entry of a number, with its own private set itself.
+    pub fn entry(&self, number: u64) -> Shown<'_>
+        requires { number < length self.now.done.kept.entries }
+        ensures entry { IsSomeAnd (slice_get self.now.done.kept.entries number) (IsShown result) }
+        ensures bounded { result.g + result.h < 2 ^ 60 }
+        ensures publics { IsFalse self.now.failed → result.publics.now.size ≡ self.now.task.publics }
+        ensures privates { IsFalse self.now.failed → result.mine.now.size ≡ self.now.task.privates }
+    {
+        self.states.entry(number)
+    }
+
     /// The own private sets, by their indices and by their tokens.
     pub fn tokens(&self) -> &Tokens
-        ensures { IsFalse self.now.failed → result.now.used ≡ tokens_given self.now.task self.now.done.kept }
+        ensures used { IsFalse self.now.failed → result.now.used ≡ tokens_given self.now.task self.now.done.kept }
+        ensures size { IsFalse self.now.failed → result.now.size ≡ self.now.task.privates }
     {
         &self.states.tokens
     }

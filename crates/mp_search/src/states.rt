@@ -20,17 +20,17 @@ use std::marker::Model;
 
 /// An entry whose own set is there itself.
 #[derive(Clone, Copy)]
-pub(crate) struct Shown<'a> {
+pub struct Shown<'a> {
     /// The public facts that are true.
-    pub(crate) publics: &'a Bits,
+    pub publics: &'a Bits,
     /// The own private facts that are true.
-    pub(crate) mine: &'a Bits,
+    pub mine: &'a Bits,
     /// A tag for each agent.
-    pub(crate) tags: &'a Tags,
+    pub tags: &'a Tags,
     /// What it cost to reach the state.
-    pub(crate) g: u64,
+    pub g: u64,
     /// What it costs at least from there to a goal.
-    pub(crate) h: u64,
+    pub h: u64,
 }
 
 /// The states that an agent keeps: in the keys of the store an index stands for each own private set. Contracts see
