@@ -1,6 +1,6 @@
 //! One agent as a pure step.
 
-ghost use Rattle.std.specs.Prelude.{◌≡◌, ◌≤◌, IfOk, option_map};
+ghost use Rattle.std.specs.Prelude.{◌≡◌, ◌≤◌, IfOk, IsFalse, None, option_map};
 ghost use Rattle.mp_machine.specs.AgentRecord.{given_verdict, new_record};
 ghost use Rattle.mp_machine.specs.LocalStep.{may};
 ghost use Rattle.mp_machine.specs.Machine.{given, IsStep};
@@ -162,9 +162,10 @@ impl<H: Heuristic> Machine<H> {
         self.member.noted
     }
 
-    /// Its search.
+    /// Its search, which has not failed as long as no step has stopped the machine.
     pub fn search(&self) -> &Search<H>
-        ensures { IsSearchOf result.now self.now.done }
+        ensures of { IsSearchOf result.now self.now.done }
+        ensures works { self.now.stopped ≡ None → IsFalse result.now.failed }
     {
         &self.search
     }
