@@ -1,7 +1,8 @@
 -- Lists of any kind: filters, pairs, splits.
-use Rattle.std.proofs.Common.{◌≡◌, ℕ, zero, suc, ◌<◌, Bool, true, false, List, [], ◌∷◌, ◌++◌, map, length, get_or, refl, sym, ap, arith}
-use Rattle.std.specs.Prelude.{All}
+use Rattle.std.proofs.Common.{◌≡◌, ℕ, zero, suc, ◌+◌, ◌-◌, ◌<◌, ◌≤◌, Bool, true, false, List, [], ◌∷◌, ◌++◌, map, length, get_or, take, refl, sym, ap, ◌∙◌, arith}
+use Rattle.std.specs.Prelude.{All, slice_set}
 use Rattle.std.specs.List.{AllPairs, filter}
+use Rattle.std.proofs.lemmas.List.{get_or-append_right, length-map, length-take-le, map-append, set-append_right, take_more}
 use Rattle.std.proofs.lemmas.List.Elements.{All-append, All-cons, All-head, All-nil, All-tail}
 use Rattle.std.proofs.lemmas.List.Kept.{AllPairs-cons}
 
@@ -43,6 +44,28 @@ module _ {X : Type 0} where
   of_kept P p (x ∷ xs) all = let one = one_kept P p x xs (p x) refl all in
       All-cons (λ y. p y ≡ true → P y) x xs one.0 (of_kept P p xs one.1)
 
+  -- the two parts of a list of which something holds everywhere
+  pub all_front : (P : X → Type 0) (xs ys : List X) → All P (xs ++ ys) → All P xs
+  all_front P [] ys all = All-nil P
+  all_front P (x ∷ xs) ys all = All-cons P x xs (All-head P x (xs ++ ys) all) (all_front P xs ys (All-tail P x (xs ++ ys) all))
+
+  pub all_back : (P : X → Type 0) (xs ys : List X) → All P (xs ++ ys) → All P ys
+  all_back P [] ys all = all
+  all_back P (x ∷ xs) ys all = all_back P xs ys (All-tail P x (xs ++ ys) all)
+
+  -- the item behind some others
+  pub at_seam : (xs : List X) (y : X) (ys : List X) (n : ℕ) (d : X) → length xs ≡ n → get_or (xs ++ y ∷ ys) n d ≡ y
+  at_seam xs y ys n d e = get_or-append_right xs (y ∷ ys) n n d e (omega arith) ∙ ap (λ (k : ℕ). get_or (y ∷ ys) k d) (none_left n)
+    where
+      none_left : (a : ℕ) → a - a ≡ 0
+      none_left a = omega arith
+
+  pub set_seam : (xs : List X) (y : X) (ys : List X) (n : ℕ) (z : X) → length xs ≡ n → slice_set (xs ++ y ∷ ys) n z ≡ xs ++ z ∷ ys
+  set_seam xs y ys n z e = set-append_right xs (y ∷ ys) n n z e (omega arith) ∙ ap (λ (k : ℕ). xs ++ slice_set (y ∷ ys) k z) (none_left n)
+    where
+      none_left : (a : ℕ) → a - a ≡ 0
+      none_left a = omega arith
+
   pub pairs_nil : (R : X → X → Type 0) → AllPairs R []
   pairs_nil R i j d low within = absurd (omega arith)
 
@@ -51,6 +74,10 @@ module _ {X : Type 0} where
 
   pub pairs_tail : (R : X → X → Type 0) (x : X) (xs : List X) → AllPairs R (x ∷ xs) → AllPairs R xs
   pairs_tail R x xs r i j d low within = r (suc i) (suc j) d (omega arith) (omega arith)
+
+  pub pairs_front : (R : X → X → Type 0) (xs ys : List X) → AllPairs R (xs ++ ys) → AllPairs R xs
+  pairs_front R [] ys r = pairs_nil R
+  pairs_front R (x ∷ xs) ys r = AllPairs-cons R x xs (all_front (R x) xs ys (pairs_head R x (xs ++ ys) r)) (pairs_front R xs ys (pairs_tail R x (xs ++ ys) r))
 
   -- pairs of two lists in a row
   pub pairs_append : (R : X → X → Type 0) (xs ys : List X) → AllPairs R xs → AllPairs R ys → All (λ x. All (R x) ys) xs → AllPairs R (xs ++ ys)
@@ -69,6 +96,12 @@ module _ {X Y : Type 0} (f : X → Y) where
   at_map [] i d e low = absurd (omega arith)
   at_map (x ∷ xs) zero d e low = refl
   at_map (x ∷ xs) (suc i) d e low = at_map xs i d e (omega arith)
+
+  pub map_more : (xs : List X) (i : ℕ) (d : X) → i < length xs → map f (take (i + 1) xs) ≡ map f (take i xs) ++ f (get_or xs i d) ∷ []
+  map_more xs i d low = ap (map f) (take_more xs i d low) ∙ map-append f (take i xs) (get_or xs i d ∷ [])
+
+  pub length_map_take : (xs : List X) (i : ℕ) → i ≤ length xs → length (map f (take i xs)) ≡ i
+  length_map_take xs i low = length-map (take i xs) f ∙ length-take-le i xs low
 
   one_mapped : (p : Y → Bool) (x : X) (xs : List X) (b : Bool) → p (f x) ≡ b → filter p (map f xs) ≡ map f (filter (λ y. p (f y)) xs)
       → filter p (map f (x ∷ xs)) ≡ map f (filter (λ y. p (f y)) (x ∷ xs))

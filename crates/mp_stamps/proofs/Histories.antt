@@ -15,7 +15,7 @@ use Rattle.mp_stamps.specs.Sorting.{AreSorted}
 use Rattle.mp_stamps.specs.declared.stamped.Stamped.{Stamped}
 use Rattle.mp_stamps.proofs.Filters.{pairs_behind, split_map}
 use Rattle.mp_stamps.proofs.Parts.{all_own, flat, is_of, own_in_order}
-use Rattle.mp_stamps.proofs.Sorted.{From, NotLater, not_later}
+use Rattle.mp_stamps.proofs.Sorted.{From, NotLater}
 
 abbrev bytes_of : List Mail → List (List ℕ)
 bytes_of ms = map (λ (m : Mail). m.bytes) ms
@@ -158,7 +158,7 @@ module _ (lists : List (List Stamped)) (m : Matched lists) (order : List Stamped
       here (x ∷ xs) all = here xs (All-tail (λ (y : Stamped). IsAgentOf (length lists) (agent_of y.entry) × IsOwn (length lists) (agent_of y.entry) y.entry) x (xs ++ s ∷ after) all)
 
   late : All (From s.stamp) after
-  late = pairs_behind NotLater before s after (subst (AllPairs NotLater) is (not_later order sorted.rise))
+  late = pairs_behind NotLater before s after (subst (AllPairs NotLater) is sorted.rise)
 
   took : (r j : ℕ) (bytes : List ℕ) → s.entry ≡ Took r j bytes → IsAgentOf (length lists) r → IsAgentOf (length lists) j
       → slice_get (drop (length (received j r (entries before))) (sent j r (entries before))) 0 ≡ Some bytes

@@ -6,3 +6,7 @@ pub mod Sorted
 pub mod Parts
 -- the merged log is legal
 pub mod Histories
+-- what a turn takes, and which comes next
+pub mod Turns
+-- a merge by turns, from the first to the last
+pub mod ByTurns

@@ -3,7 +3,7 @@ use Rattle.std.proofs.Common.{◌≡◌, ◌≢◌, ℕ, suc, ◌+◌, ◌-◌, 
 use Rattle.std.specs.Prelude.{All, ◌==◌}
 use Rattle.std.specs.List.{AllPairs, filter, flat_map}
 use Rattle.std.proofs.lemmas.List.{append-nil}
-use Rattle.std.proofs.lemmas.List.Elements.{All-append, All-cons, All-head, All-nil, All-tail, All-weaker, filter-append}
+use Rattle.std.proofs.lemmas.List.Elements.{All-append, All-cons, All-from_get_or, All-head, All-nil, All-tail, All-weaker, filter-append}
 use Rattle.std.proofs.lemmas.List.Kept.{AllPairs-filter}
 use Rattle.std.proofs.lemmas.List.Sorted as sorting
 use native.Mathlib.Decide.{ℕ_discrete}
@@ -11,12 +11,12 @@ use mathlib.Core.Logic.{dite}
 use Rattle.mp_messages.specs.declared.history.Entry.{Entry}
 use Rattle.mp_messages.specs.declared.history.Entry.TheVariants.{Act, Put, Took}
 use Rattle.mp_messages.specs.History.{agent_of, part}
-use Rattle.mp_stamps.specs.Lists.{IsAgentOf, IsOwn, Matched, entries, list_of}
+use Rattle.mp_stamps.specs.Lists.{IsAgentOf, IsOwn, Matched, Rises, entries, list_of}
 use Rattle.mp_stamps.specs.Merged.{Merged}
 use Rattle.mp_stamps.specs.Sorting.{AreSorted, has_stamp}
 use Rattle.mp_stamps.specs.declared.stamped.Stamped.{Stamped}
 use Rattle.mp_stamps.proofs.Filters.{filter_all, filter_comm, filter_mapped, filter_none, pairs_append}
-use Rattle.mp_stamps.proofs.Sorted.{NotAfter, NotLater, in_order, not_later, same_sorted}
+use Rattle.mp_stamps.proofs.Sorted.{NotAfter, NotLater, in_order, same_sorted}
 
 abbrev pub is_of : ℕ → Stamped → Bool
 is_of agent s = agent_of s.entry == agent
@@ -52,6 +52,12 @@ pub of_agents : (lists : List (List Stamped)) → Matched lists → OfAgentsFrom
 of_agents lists m = agents_from 1 lists (λ k low. All-weaker (λ (s : Stamped). IsOwn (length lists) (1 + k) s.entry) (λ (s : Stamped). agent_of s.entry ≡ 1 + k)
     (λ s is. own_agent (length lists) (1 + k) s.entry is) (get_or lists k [])
     (subst (λ j. All (λ (s : Stamped). IsOwn (length lists) (1 + k) s.entry) (get_or lists j [])) (less_one k) (m.own (1 + k) (record { from_1 = omega arith; at_most = omega arith }))))
+  where
+    less_one : (k : ℕ) → 1 + k - 1 ≡ k
+    less_one k = omega arith
+
+pub all_rise : (lists : List (List Stamped)) → Matched lists → All Rises lists
+all_rise lists m = All-from_get_or Rises lists [] (λ i low. subst (λ j. Rises (get_or lists j [])) (less_one i) (m.rise (1 + i) (record { from_1 = omega arith; at_most = omega arith })))
   where
     less_one : (k : ℕ) → 1 + k - 1 ≡ k
     less_one k = omega arith
@@ -109,14 +115,11 @@ flat_own agents n (list ∷ lists) low each = All-append (λ (s : Stamped). IsAg
     next a b = omega arith
 
 module _ (lists : List (List Stamped)) (m : Matched lists) (order : List Stamped) (sorted : AreSorted (flat lists) order) where
-  later : AllPairs NotLater order
-  later = not_later order sorted.rise
-
   pub is_merged : Merged lists (entries order)
   is_merged = record {
     order = order;
     same = sorted.same;
-    in_order = in_order order later (λ t. subst (AllPairs NotAfter) (sym (sorted.stay t)) (AllPairs-filter NotAfter (has_stamp t) (flat lists) (by_agents 1 lists (of_agents lists m))));
+    in_order = in_order order sorted.rise (λ t. subst (AllPairs NotAfter) (sym (sorted.stay t)) (AllPairs-filter NotAfter (has_stamp t) (flat lists) (by_agents 1 lists (of_agents lists m))));
     log_is = refl;
   }
 
@@ -134,7 +137,7 @@ module _ (lists : List (List Stamped)) (m : Matched lists) (order : List Stamped
   -- an agent's entries of the log are its list
   pub own_in_order : (agent : ℕ) → IsAgentOf (length lists) agent → filter (is_of agent) order ≡ list_of lists agent
   own_in_order agent is = same_sorted (filter (is_of agent) order) (list_of lists agent)
-      (AllPairs-filter NotLater (is_of agent) order later)
+      (AllPairs-filter NotLater (is_of agent) order sorted.rise)
       (λ i j d low within. let r = m.rise agent is i j d low within in omega arith)
       (λ t. filter_comm (has_stamp t) (is_of agent) order
       ∙ (ap (filter (is_of agent)) (sorted.stay t)

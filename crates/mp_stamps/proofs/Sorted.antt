@@ -1,65 +1,23 @@
 -- A list in the order of stamps is known by what it has of each stamp.
-use Rattle.std.proofs.Common.{◌≡◌, ℕ, ◌<◌, ◌≤◌, inl, inr, ⊎_elim, ◌&&◌, not, eqb, eq-eqb, ne_eqb, Bool, true, false, List, [], ◌∷◌, map, length, get_or, refl, sym, ap, subst, ◌∙◌, arith}
-use Rattle.std.specs.Prelude.{All, ◌==◌}
+use Rattle.std.proofs.Common.{◌≡◌, ℕ, ◌<◌, ◌≤◌, inl, inr, ⊎_elim, eqb, eq-eqb, ne_eqb, Bool, true, false, List, [], ◌∷◌, get_or, refl, sym, ap, subst, ◌∙◌, arith}
+use Rattle.std.specs.Prelude.{All}
 use Rattle.std.specs.List.{AllPairs, filter}
-use Rattle.std.specs.List.Sorted.{IsNonDecreasingBy, IsPermutation, ties}
-use Rattle.std.specs.Ordering.{is_lt, nat_cmp}
 use Rattle.std.proofs.lemmas.Bool.{cases_lt}
-use Rattle.std.proofs.lemmas.Bool.Decides.{nat_tests}
-use Rattle.std.proofs.lemmas.List.Elements.{All-cons, All-weaker, filter_agree}
+use Rattle.std.proofs.lemmas.List.Elements.{All-cons, All-weaker}
 use Rattle.std.proofs.lemmas.List.Kept.{AllPairs-cons}
-use Rattle.std.proofs.lemmas.List.Sorted.{IsPermutation-map, length_permutation}
 use native.Mathlib.Decide.{ℕ_discrete}
 use mathlib.Core.Logic.{dite}
 use Rattle.mp_messages.specs.History.{agent_of}
 use Rattle.mp_stamps.specs.Merged.{IsInOrder}
-use Rattle.mp_stamps.specs.Sorting.{AreSorted, has_stamp, stamped_of}
-use Rattle.mp_stamps.specs.declared.merging.Item.{Item}
+use Rattle.mp_stamps.specs.Sorting.{has_stamp}
 use Rattle.mp_stamps.specs.declared.stamped.Stamped.{Stamped}
-use Rattle.mp_stamps.proofs.Filters.{at_map, filter_mapped, filter_none, of_kept, pairs_head, pairs_tail}
+use Rattle.mp_stamps.proofs.Filters.{filter_none, of_kept, pairs_head, pairs_tail}
 
 abbrev pub NotLater : Stamped → Stamped → Type 0
 NotLater a b = a.stamp ≤ b.stamp
 
 abbrev pub From : ℕ → Stamped → Type 0
 From n s = n ≤ s.stamp
-
-pub not_later : (xs : List Stamped) → IsNonDecreasingBy (λ (s : Stamped). s.stamp) xs → AllPairs NotLater xs
-not_later xs r i j d low within = r i j d (omega arith) within
-
--- ---- from the clauses of the sort
-
-same_stamp : (a b : ℕ) → (not (is_lt (nat_cmp a b)) && not (is_lt (nat_cmp b a))) ≡ (b == a)
-same_stamp a b = grind (arith, nat_tests)
-
-pub sorted_items : (xs ys : List Item) → IsPermutation xs ys → IsNonDecreasingBy (λ (i : Item). i.stamp) ys
-    → ((x : Item) → filter (ties (λ (a b : Item). is_lt (nat_cmp a.stamp b.stamp)) x) ys ≡ filter (ties (λ (a b : Item). is_lt (nat_cmp a.stamp b.stamp)) x) xs)
-    → AreSorted (map stamped_of xs) (map stamped_of ys)
-sorted_items xs ys same rise stay = record {
-  same = IsPermutation-map stamped_of xs ys same;
-  rise = rising ys rise;
-  stay = λ stamp. filter_mapped stamped_of (has_stamp stamp) ys ∙ (ap (map stamped_of) (staying stamp xs ys same stay) ∙ sym (filter_mapped stamped_of (has_stamp stamp) xs));
-}
-  where
-    rising : (zs : List Item) → IsNonDecreasingBy (λ (i : Item). i.stamp) zs → IsNonDecreasingBy (λ (s : Stamped). s.stamp) (map stamped_of zs)
-    rising [] r i j d low within = absurd (omega arith)
-    rising (z ∷ zs) r i j d low within =
-        let long : length (map stamped_of (z ∷ zs)) ≡ length (z ∷ zs) = lib.ListN.length-map (z ∷ zs) stamped_of in
-        let first = ap (λ (s : Stamped). s.stamp) (at_map stamped_of (z ∷ zs) i d z (omega arith)) in
-        let second = ap (λ (s : Stamped). s.stamp) (at_map stamped_of (z ∷ zs) j d z (omega arith)) in
-        let rises = r i j z low (omega arith) in
-        omega arith
-
-    by_stamp : (x : Item) (zs : List Item) → filter (ties (λ (a b : Item). is_lt (nat_cmp a.stamp b.stamp)) x) zs ≡ filter (λ (i : Item). i.stamp == x.stamp) zs
-    by_stamp x zs = filter_agree (ties (λ (a b : Item). is_lt (nat_cmp a.stamp b.stamp)) x) (λ (i : Item). i.stamp == x.stamp) (λ i. same_stamp x.stamp i.stamp) zs
-
-    staying : (stamp : ℕ) (us vs : List Item) → IsPermutation us vs
-        → ((x : Item) → filter (ties (λ (a b : Item). is_lt (nat_cmp a.stamp b.stamp)) x) vs ≡ filter (ties (λ (a b : Item). is_lt (nat_cmp a.stamp b.stamp)) x) us)
-        → filter (λ (i : Item). i.stamp == stamp) vs ≡ filter (λ (i : Item). i.stamp == stamp) us
-    staying stamp [] vs p e = let short = length_permutation [] vs p in
-        ap (filter (λ (i : Item). i.stamp == stamp)) (Rattle.std.proofs.lemmas.List.nil_from_length vs short)
-    staying stamp (u ∷ us) vs p e =
-        sym (by_stamp (record { stamp = stamp; entry = u.entry }) vs) ∙ (e (record { stamp = stamp; entry = u.entry }) ∙ by_stamp (record { stamp = stamp; entry = u.entry }) (u ∷ us))
 
 -- ---- lists in order that have the same of each stamp are one
 

@@ -4,5 +4,7 @@ pub mod Mail
 pub mod Lists
 -- one log of all lists
 pub mod Merged
--- a sort by stamps
+-- entries of several lists, sorted by stamps
 pub mod Sorting
+-- a merge by turns
+pub mod Turns
