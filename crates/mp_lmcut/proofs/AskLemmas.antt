@@ -1,4 +1,4 @@
--- The near side asked for backwards: what a search back from a fact finds, and what is learnt of supports.
+-- The near side asked for backwards: what a search back from a fact finds, and marks of it.
 use Rattle.std.proofs.Common.{◌≡◌, ℕ, zero, suc, ◌<◌, ◌≤◌, Bool, true, false, not, eqb, ◌&&◌, ◌||◌, None, Some, List, length, get_or, All, refl, sym, ap, ◌∙◌, subst, ⊎_elim, arith}
 use Rattle.std.proofs.lemmas.Bool.{and_from, and_parts, both_ways, cases_Bool, eq-eqb, false_from_ne_true, false≢true, lt-ltb, not-true, not_from_false, or_cases, or_left, or_right}
 use Rattle.std.proofs.lemmas.List.{get_or_default}
@@ -16,10 +16,8 @@ use Rattle.mp_lmcut.specs.Laws.Supports.IsSupport.{none, one}
 use Rattle.mp_lmcut.specs.Laws.Round.{near_is_beside}
 use Rattle.mp_lmcut.specs.Marks.{MarkLists}
 use Rattle.mp_lmcut.specs.Marked.{HasGrown, is_marked}
-use Rattle.mp_lmcut.specs.Sides.{AreLearnt, AreNear, AreValuesFor, HasSource, IsBehind, IsLearnt, IsLearntOf, IsNearBehind, IsTraced, IsZone, Learns, Supports, TracesBack, is_cheap, is_source}
+use Rattle.mp_lmcut.specs.Sides.{AreNearFacts, AreValuesFor, HasSource, IsBehind, IsTraced, IsZone, TracesBack, is_cheap, is_source}
 use Rattle.mp_lmcut.proofs.CheapLemmas.{cheap_near}
-use Rattle.mp_lmcut.proofs.ListedLemmas.{one_passing}
-use Rattle.mp_lmcut.proofs.MarkLemmas.{marked_below}
 use Rattle.mp_lmcut.proofs.NearLemmas.{Forward, near_forward, near_least, near_start, support_passes}
 use Rattle.mp_lmcut.proofs.ZoneLemmas.{at_times, list_all_more, times_any}
 
@@ -149,52 +147,11 @@ traces_from_adders v most os zone x adders flags has done = λ i d lt adding.
     subst (λ (o : Operator). (is_source v most o ≡ false) × IsTraced v zone o flags) (sym same)
     (at_times (λ j. (is_source v most (operator_at os j) ≡ false) × IsTraced v zone (operator_at os j) flags) i adders done (omega arith))
 
--- what is learnt
+-- marks of what was found
 
-module _ (v : Values) (os : List Operator) (goals : List ℕ) (most : ℕ) where
-  pub learns_refl : (flags : List Bool) → Learns v os goals most flags flags
-  learns_refl flags = record { sized = refl; kept = λ x h. h; sound = λ s h all. all }
-
-  pub learns_trans : (a b c : List Bool) → Learns v os goals most a b → Learns v os goals most b c → Learns v os goals most a c
-  learns_trans a b c first next = record {
-    sized = next.sized ∙ first.sized;
-    kept = λ x h. next.kept x (first.kept x h);
-    sound = λ s h all. next.sound s h (first.sound s h all);
-  }
-
-  pub learns_one : (x : ℕ) (before after : MarkLists) → ((s : Numbers) → AreValuesFor v os goals most s → true ≡ is_near v os goals s x) → HasGrown (λ y. y ≡ x) before after → Learns v os goals most before.flags after.flags
-  learns_one x before after found grown = record {
-    sized = grown.sized;
-    kept = grown.kept;
-    sound = λ s h all y m. ⊎_elim
-        (λ was. all y was)
-        (λ new. subst (λ z. is_near v os goals s z ≡ true) (sym new.0) (sym (found s h)))
-        (grown.only y m);
-  }
-
-  pub learnt_kept : (x : ℕ) (a b : List Bool) → ((y : ℕ) → is_marked a y ≡ true → is_marked b y ≡ true) → IsLearnt v os goals most x a → IsLearnt v os goals most x b
-  learnt_kept x a b kept learnt = λ s h here. kept x (learnt s h here)
-
-  pub learnt_of_kept : (o : Operator) (a b : List Bool) → ((y : ℕ) → is_marked a y ≡ true → is_marked b y ≡ true) → IsLearntOf v os goals most o a → IsLearntOf v os goals most o b
-  learnt_of_kept o a b kept learnt = λ valued x sup s h here. kept x (learnt valued x sup s h here)
-
-  pub learnt_none : (x : ℕ) (flags : List Bool) → ((s : Numbers) → AreValuesFor v os goals most s → false ≡ is_near v os goals s x) → IsLearnt v os goals most x flags
-  learnt_none x flags far = λ s h here. absurd (false≢true (far s h ∙ here))
-
-  -- marks that are learnt of all supports behind the zone
-  pub near_behind : (zone flags : List Bool) → ((s : Numbers) → AreValuesFor v os goals most s → AreNear v os goals s flags) → ((x : ℕ) → x < length zone → is_marked zone x ≡ true → AreLearnt v os goals most x flags) → (s : Numbers) → AreValuesFor v os goals most s → IsNearBehind v os goals s zone flags
-  near_behind zone flags sound seen s h = λ k lt adding valued.
-      let first = one_passing (is_marked zone) (operator_at os k).add adding in
-      by (operator_at os k).pre (seen first.0 (marked_below zone first.0 first.2) first.2 k lt first.1 valued) (supported v (operator_at os k).pre)
-    where
-      by : (pre : List ℕ) → ((x : ℕ) → Supports v pre x → IsLearnt v os goals most x flags) → IsSupport v pre (support v pre) → list_all (is_marked flags) (support v pre) ≡ list_all (is_near v os goals s) (support v pre)
-      by pre learnt (none e is) = ap (list_all (is_marked flags)) is ∙ sym (ap (list_all (is_near v os goals s)) is)
-      by pre learnt (one q is member value) =
-          let there : Supports v pre q = ap (list_any (λ z. eqb z q)) is ∙ or_left (eqb q q) false (eq-eqb q q refl) in
-          ap (list_all (is_marked flags)) is ∙ ap (λ b. b && true) (both q (learnt q there)) ∙ sym (ap (list_all (is_near v os goals s)) is)
-        where
-          both : (q : ℕ) → IsLearnt v os goals most q flags → is_marked flags q ≡ is_near v os goals s q
-          both q known = ⊎_elim
-              (λ m. m ∙ sym (sound s h q m))
-              (λ m. m ∙ sym (false_from_ne_true (is_near v os goals s q) (λ here. both_ways (is_marked flags q) m (known s h here))))
-              (cases_Bool (is_marked flags q))
+module _ (v : Values) (os : List Operator) (goals : List ℕ) (most x : ℕ) (before after : MarkLists) (found : Bool) where
+  pub found_marks : ((s : Numbers) → AreValuesFor v os goals most s → found ≡ is_near v os goals s x) → HasGrown (λ y. (y ≡ x) × (found ≡ true)) before after → AreNearFacts v os goals most before.flags → AreNearFacts v os goals most after.flags
+  found_marks is grown all = λ s h y m. ⊎_elim
+      (λ was. all s h y was)
+      (λ new. subst (λ z. is_near v os goals s z ≡ true) (sym new.0.0) (sym (is s h) ∙ new.0.1))
+      (grown.only y m)

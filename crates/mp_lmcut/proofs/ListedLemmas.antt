@@ -1,24 +1,23 @@
 -- The operators of a cut as a list, and that they alone get cheaper.
-use Rattle.std.proofs.Common.{◌≡◌, ℕ, zero, suc, ◌-◌, ◌<◌, ◌≤◌, Bool, true, false, cond, eqb, ◌||◌, Some, List, [], ◌∷◌, ◌++◌, length, map, get_or, All, Contains, refl, sym, ap, ◌∙◌, subst, ⊎_elim, arith}
+use Rattle.std.proofs.Common.{◌≡◌, ℕ, zero, suc, ◌-◌, ◌<◌, ◌≤◌, Bool, true, false, cond, eqb, ◌&&◌, ◌||◌, Some, List, [], ◌∷◌, ◌++◌, length, map, get_or, All, Contains, refl, sym, ap, ◌∙◌, subst, ⊎_elim, arith}
 use Rattle.std.proofs.lemmas.Bool.{and_parts, both_ways, cases_Bool, eq-eqb, false≢true, false_from_ne_true, or_left, or_right}
 use Rattle.std.proofs.lemmas.List.{get_or_default, map-append}
 use Rattle.std.proofs.lemmas.List.Elements.{All-append, All-cons, All-contains, All-filter, All-map, All-nil, Contains-append_left, Contains-push, filter_passes}
-use Rattle.std.specs.List.{filter, list_any}
+use Rattle.std.specs.List.{filter, list_all, list_any}
 use Rattle.std.specs.Option.{unwrap_or}
+use Rattle.mp_sets.specs.Numbers.{Numbers}
 use Rattle.mp_sets.proofs.NumbersLemmas.{All_at}
 use Rattle.mp_task.specs.Strips.{Operator}
 use Rattle.mp_estimates.specs.Estimates.{AtMost, Values}
 use Rattle.mp_estimates.specs.Laws.Order.{AtMost-antisym}
-use Rattle.mp_relaxed.specs.Relaxed.{AreCheaper, RelaxedProblem, operator_at}
+use Rattle.mp_relaxed.specs.Relaxed.{AreCheaper, HasAdders, RelaxedProblem, operator_at}
 use Rattle.mp_relaxed.proofs.TimesLemmas.{times_contained}
-use Rattle.mp_lmcut.specs.Cut.{cheaper_where, least, priced_by}
-use Rattle.mp_lmcut.specs.Laws.Lists.{All_filtered, All_mapped}
-use Rattle.mp_lmcut.specs.Marked.{is_marked}
-use Rattle.mp_lmcut.specs.Sides.{AreListed, AreNoted, HaveNoted, is_between, least_where, lowered_at}
+use Rattle.mp_lmcut.specs.Cut.{all_valued, cheaper_where, in_cut, in_zone, is_near, least, priced_by, support}
+use Rattle.mp_lmcut.specs.Laws.Lists.{All_filtered, All_mapped, any_passes}
+use Rattle.mp_lmcut.specs.Sides.{AreListed, AreNoted, HaveNoted, is_from_near, least_where, lowered_at}
 use Rattle.mp_lmcut.proofs.CostLemmas.{add_at, length-priced_by}
 use Rattle.mp_lmcut.proofs.CutLemmas.{least_high, least_low, lowered_same}
-use Rattle.mp_lmcut.proofs.MarkLemmas.{marked_below}
-use Rattle.mp_lmcut.proofs.ZoneLemmas.{any_times}
+use Rattle.mp_lmcut.proofs.ZoneLemmas.{adder_adds, any_times, at_times}
 
 module _ (such : Operator → Bool) (os : List Operator) where
   pub listed_none : AreListed such os [] []
@@ -127,11 +126,34 @@ one_passing p (x ∷ xs) h = by (p x) refl h (one_passing p xs)
     by true e _ rest = (x, or_left (eqb x x) _ (eq-eqb x x refl), e)
     by false e k rest = let one = rest k in (one.0, or_right (eqb x one.0) _ one.1, one.2)
 
--- where the adders of each fact of the zone are noted, all operators of the cut are
-pub all_noted : (v : Values) (zone near : List Bool) (os : List Operator) (cut : List ℕ) → ((x : ℕ) → x < length zone → is_marked zone x ≡ true → AreNoted (is_between v zone near) os x cut) → (k : ℕ) → k < length os → is_between v zone near (operator_at os k) ≡ true → Contains cut k
-all_noted v zone near os cut seen k lt e =
-    let one = one_passing (is_marked zone) (operator_at os k).add ((and_parts _ _ e).0) in
-    seen one.0 (marked_below zone one.0 one.2) one.2 k lt one.1 e
+both_true : (a b c : Bool) → c ≡ true → (a && b) ≡ (a && (b && c))
+both_true false b c e = refl
+both_true true false c e = refl
+both_true true true c e = sym e
+
+module _ (v : Values) (os : List Operator) (goals : List ℕ) (s : Numbers) where
+  -- of the operators that add a fact of the zone those with an edge from the near side are in the cut
+  pub cut_from : (o : Operator) → list_any (in_zone v os goals) o.add ≡ true → is_from_near v os goals s o ≡ in_cut v os goals s o
+  unfolding in_cut
+  cut_from o enters =
+      both_true (all_valued v o.pre) (list_all (is_near v os goals s) (support v o.pre)) (list_any (in_zone v os goals) o.add) enters
+
+  enters : (o : Operator) → in_cut v os goals s o ≡ true → list_any (in_zone v os goals) o.add ≡ true
+  unfolding in_cut
+  enters o e = (and_parts (list_all (is_near v os goals s) (support v o.pre)) (list_any (in_zone v os goals) o.add) ((and_parts (all_valued v o.pre) _ e).1)).1
+
+  -- where the adders of each fact of the zone are noted, all operators of the cut are
+  pub all_noted : (inside cut : List ℕ) → ((x : ℕ) → in_zone v os goals x ≡ true → Contains inside x) → ((j : ℕ) → j < length inside → AreNoted (in_cut v os goals s) os (get_or inside j 0) cut) → (k : ℕ) → k < length os → in_cut v os goals s (operator_at os k) ≡ true → Contains cut k
+  all_noted inside cut has seen k lt e =
+      let one = one_passing (in_zone v os goals) (operator_at os k).add (enters (operator_at os k) e) in
+      at_times (λ x. AreNoted (in_cut v os goals s) os x cut) one.0 inside seen (times_contained one.0 inside (has one.0 one.2)) k lt one.1 e
+
+-- the adders of a fact of the zone add one
+pub adders_enter : (v : Values) (os : List Operator) (goals : List ℕ) (x : ℕ) (adders : List ℕ) → HasAdders os x adders → All (λ k. k < length os) adders → in_zone v os goals x ≡ true → All (λ k. list_any (in_zone v os goals) (operator_at os k).add ≡ true) adders
+adders_enter v os goals x adders has below inside = λ j d lt.
+    let same : get_or adders j 0 ≡ get_or adders j d = get_or_default adders j 0 d lt in
+    subst (λ k. list_any (in_zone v os goals) (operator_at os k).add ≡ true) same
+    (any_passes (in_zone v os goals) x (operator_at os (get_or adders j 0)).add (adder_adds v os goals x adders j has lt (below j 0 lt)) inside)
 
 pre_at : (cost : Operator → ℕ) (os : List Operator) (k : ℕ) → (operator_at (priced_by cost os) k).pre ≡ (operator_at os k).pre
 pre_at cost [] k = refl

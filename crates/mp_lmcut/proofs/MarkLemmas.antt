@@ -115,6 +115,13 @@ module _ (m : MarkLists) (n : ℕ) (within : n < length m.flags) where
 
 -- a search
 
+pub reaching_wider : (Such : ℕ → Type 0) (Follows Other : ℕ → List Bool → Type 0) → ((x : ℕ) (flags : List Bool) → Follows x flags → Other x flags) → (m : MarkLists) → IsReaching Such Follows m → IsReaching Such Other m
+reaching_wider Such Follows Other f m s = record {
+  sound = s.sound;
+  known = s.known;
+  followed = λ x h. ⊎_elim (λ done. inl (f x m.flags done)) (λ waits. inr waits) (s.followed x h);
+}
+
 module _ (Such : ℕ → Type 0) (Follows : ℕ → List Bool → Type 0) (more : (x : ℕ) (a b : List Bool) → ((y : ℕ) → is_marked a y ≡ true → is_marked b y ≡ true) → Follows x a → Follows x b) where
   -- it begins without marks
   pub reaching_none : (m : MarkLists) → All (λ b. b ≡ false) m.flags → m.todo ≡ [] → IsReaching Such Follows m

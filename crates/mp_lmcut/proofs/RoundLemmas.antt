@@ -1,70 +1,33 @@
--- Rounds: what the marks say of the cut, and what is left after a round.
+-- Rounds: the cut by the numbers that were found, and what is left after a round.
 use Rattle.std.proofs.Common.{◌≡◌, ℕ, suc, ◌+◌, ◌-◌, ◌<◌, ◌≤◌, Bool, true, false, cond, ◌&&◌, Option, Some, None, option_map, List, [], ◌∷◌, length, map, All, refl, sym, ap, ◌∙◌, arith}
 use Rattle.std.proofs.lemmas.Bool.{false≢true, ltb-true}
 use Rattle.std.proofs.lemmas.List.Elements.{All-filter, All-map}
-use Rattle.std.specs.List.{filter, list_all, list_any}
 use Rattle.std.specs.Option.{unwrap_or}
 use Rattle.mp_sets.specs.Numbers.{Numbers}
 use Rattle.mp_task.specs.AgentTask.{AgentTask}
 use Rattle.mp_task.specs.Projected.{projected, projected_state}
 use Rattle.mp_task.specs.Strips.{Operator}
-use Rattle.mp_relaxed.specs.Relaxed.{RelaxedProblem, delete_relaxation, operator_at, state_of}
+use Rattle.mp_relaxed.specs.Relaxed.{RelaxedProblem, delete_relaxation, state_of}
 use Rattle.mp_estimates.specs.Lowering.{value_at}
 use Rattle.mp_relaxed.specs.Values.{fact_values, greatest}
-use Rattle.mp_lmcut.specs.Cut.{all_valued, cheaper_where, cut_cost, cuts, in_cut, is_near, is_positive, least, lmcut, lmcut_of, lowered, support}
-use Rattle.mp_lmcut.specs.Marked.{is_marked}
-use Rattle.mp_lmcut.specs.Sides.{IsNearBehind, IsZone, is_between, least_where}
+use Rattle.mp_lmcut.specs.Cut.{cheaper_where, cut_cost, cuts, in_cut, is_positive, lmcut, lmcut_of, lowered}
+use Rattle.mp_lmcut.specs.Sides.{least_where}
 use Rattle.mp_lmcut.specs.Laws.Costs.{least_small}
 use Rattle.mp_lmcut.proofs.DeleteLemmas.{lmcut_bare}
 
--- what is the same for each operator of a list
+module _ (r : RelaxedProblem) (s : Numbers) (numbers : List ℕ) (values : (x : ℕ) → value_at numbers x ≡ fact_values r.operators s x) where
+  abbrev inside : Operator → Bool
+  inside = in_cut (value_at numbers) r.operators r.goals s
 
-filter_same : (p q : Operator → Bool) (os : List Operator) → ((k : ℕ) → k < length os → p (operator_at os k) ≡ q (operator_at os k)) → filter p os ≡ filter q os
-filter_same p q [] same = refl
-filter_same p q (o ∷ os) same =
-    let rest = filter_same p q os (λ k lt. same (suc k) (omega (arith, lt))) in
-    λ i. cond (same 0 (omega arith) i) (o ∷ rest i) (rest i)
-
-cheaper_same : (p q : Operator → Bool) (by : ℕ) (os : List Operator) → ((k : ℕ) → k < length os → p (operator_at os k) ≡ q (operator_at os k)) → cheaper_where p by os ≡ cheaper_where q by os
-cheaper_same p q by [] same = refl
-cheaper_same p q by (o ∷ os) same =
-    let rest = cheaper_same p q by os (λ k lt. same (suc k) (omega (arith, lt))) in
-    λ i. record o { cost = cond (same 0 (omega arith) i) (o.cost - by) o.cost } ∷ rest i
-
-turned_round : (a b c d : Bool) → (a ≡ true → b ≡ true → c ≡ d) → (a && (b && c)) ≡ (b && (d && a))
-turned_round true true c d h = h refl refl ∙ by d
-  where
-    by : (e : Bool) → e ≡ (e && true)
-    by true = refl
-    by false = refl
-turned_round true false c d h = refl
-turned_round false true c true h = refl
-turned_round false true c false h = refl
-turned_round false false c d h = refl
-
-module _ (r : RelaxedProblem) (s : Numbers) (numbers : List ℕ) (zone near : List Bool) (values : (x : ℕ) → value_at numbers x ≡ fact_values r.operators s x) (zoned : IsZone (value_at numbers) r.operators r.goals zone) (neared : IsNearBehind (value_at numbers) r.operators r.goals s zone near) where
-  abbrev between : Operator → Bool
-  between = is_between (value_at numbers) zone near
-
-  same_cut : (k : ℕ) → k < length r.operators → between (operator_at r.operators k) ≡ in_cut (fact_values r.operators s) r.operators r.goals s (operator_at r.operators k)
-  unfolding in_cut
-  same_cut k lt =
-      let o : Operator = operator_at r.operators k in
-      turned_round (list_any (is_marked zone) o.add) (all_valued (value_at numbers) o.pre) (list_all (is_marked near) (support (value_at numbers) o.pre)) (list_all (is_near (value_at numbers) r.operators r.goals s) (support (value_at numbers) o.pre)) (neared k lt)
-      ∙ (λ i. all_valued (value_at numbers) o.pre && (list_all (is_near (value_at numbers) r.operators r.goals s) (support (value_at numbers) o.pre) && list_any (λ x. zoned x i) o.add))
-      ∙ (λ i. in_cut (λ x. values x i) r.operators r.goals s o)
-
-  pub cost_is : unwrap_or (least_where between r.operators) 0 ≡ cut_cost (fact_values r.operators s) r.operators r.goals s
+  pub cost_is : unwrap_or (least_where inside r.operators) 0 ≡ cut_cost (fact_values r.operators s) r.operators r.goals s
   unfolding cut_cost
   cost_is =
-      ap (λ os. unwrap_or (least (map (λ o. o.cost) os)) 0)
-      (filter_same between (in_cut (fact_values r.operators s) r.operators r.goals s) r.operators same_cut)
+      λ i. unwrap_or (least_where (in_cut (λ x. values x i) r.operators r.goals s) r.operators) 0
 
-  pub lowered_is : (c : ℕ) → c ≡ cut_cost (fact_values r.operators s) r.operators r.goals s → cheaper_where between c r.operators ≡ lowered (fact_values r.operators s) r.operators r.goals s
+  pub lowered_is : (c : ℕ) → c ≡ cut_cost (fact_values r.operators s) r.operators r.goals s → cheaper_where inside c r.operators ≡ lowered (fact_values r.operators s) r.operators r.goals s
   unfolding lowered
   lowered_is c e =
-      ap (λ n. cheaper_where between n r.operators) e
-      ∙ cheaper_same between (in_cut (fact_values r.operators s) r.operators r.goals s) (cut_cost (fact_values r.operators s) r.operators r.goals s) r.operators same_cut
+      λ i. cheaper_where (in_cut (λ x. values x i) r.operators r.goals s) (e i) r.operators
 
 -- the value of goals that cost something
 pub left_paid : (a : Option ℕ) → is_positive a ≡ true → a ≡ Some (unwrap_or a 0)

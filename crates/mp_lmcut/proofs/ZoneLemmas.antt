@@ -16,7 +16,7 @@ use Rattle.mp_relaxed.specs.Values.{adds}
 use Rattle.mp_relaxed.proofs.TimesLemmas.{times_contained}
 use Rattle.mp_lmcut.specs.Cut.{all_valued, edge, in_zone, possible, support, turned}
 use Rattle.mp_lmcut.specs.Marked.{is_marked}
-use Rattle.mp_lmcut.specs.Sides.{IsTurned, IsZone, Supports, TurnsBack, is_free}
+use Rattle.mp_lmcut.specs.Sides.{IsFollowed, IsTurned, IsZone, Supports, TurnsBack, is_free}
 use Rattle.mp_lmcut.specs.Laws.Lists.{All-flat_map, All_filtered, All_mapped}
 use Rattle.mp_lmcut.specs.Laws.Leading.{leads_on, leads_only, leads_to_start}
 
@@ -161,3 +161,6 @@ turned_kept v o a b kept done free = list_all_more (is_marked a) (is_marked b) (
 
 pub turns_kept : (v : Values) (os : List Operator) (x : ℕ) (a b : List Bool) → ((y : ℕ) → is_marked a y ≡ true → is_marked b y ≡ true) → TurnsBack v os x a → TurnsBack v os x b
 turns_kept v os x a b kept done = λ k d lt adding. turned_kept v (get_or os k d) a b kept (done k d lt adding)
+
+pub followed_kept : (v : Values) (os : List Operator) (inside : List ℕ) (x : ℕ) (a b : List Bool) → ((y : ℕ) → is_marked a y ≡ true → is_marked b y ≡ true) → IsFollowed v os inside x a → IsFollowed v os inside x b
+followed_kept v os inside x a b kept done = (turns_kept v os x a b kept done.0, done.1)

@@ -27,10 +27,20 @@ abbrev pub TurnsBack : Values → List Operator → ℕ → List Bool → Type 0
 TurnsBack values operators x flags =
     All (λ o. adds o x ≡ true → IsTurned values o flags) operators
 
+-- and the fact stands in a list
+abbrev pub IsFollowed : Values → List Operator → List ℕ → ℕ → List Bool → Type 0
+IsFollowed values operators inside x flags = TurnsBack values operators x flags × Contains inside x
+
 -- marks are those of the goal zone
 abbrev pub IsZone : Values → List Operator → List ℕ → List Bool → Type 0
 IsZone values operators goals flags =
     (x : ℕ) → is_marked flags x ≡ in_zone values operators goals x
+
+-- a list has the facts of the goal zone, and no others
+pub record HasZone (values : Values) (operators : List Operator) (goals : List ℕ) (facts : ℕ) (inside : List ℕ) : Type 0 where
+  pub below : All (λ x. x < facts) inside
+  pub alone : All (λ x. in_zone values operators goals x ≡ true) inside
+  pub all : (x : ℕ) → in_zone values operators goals x ≡ true → Contains inside x
 
 -- a fact is cheaper than a number
 abbrev pub is_cheap : Values → ℕ → ℕ → Bool
@@ -84,61 +94,23 @@ abbrev pub AreNear : Values → List Operator → List ℕ → Numbers → List 
 AreNear values operators goals s flags =
     (y : ℕ) → is_marked flags y ≡ true → is_near values operators goals s y ≡ true
 
--- near facts have been marked
-pub record Learns (values : Values) (operators : List Operator) (goals : List ℕ) (most : ℕ) (before after : List Bool) : Type 0 where
-  pub sized : length after ≡ length before
-  pub kept : (x : ℕ) → is_marked before x ≡ true → is_marked after x ≡ true
-  pub sound :
-      (s : Numbers)
-      → AreValuesFor values operators goals most s
-      → AreNear values operators goals s before
-      → AreNear values operators goals s after
-
--- a fact is marked where it is near
-abbrev pub IsLearnt : Values → List Operator → List ℕ → ℕ → ℕ → List Bool → Type 0
-IsLearnt values operators goals most x flags =
+-- and so for each state with these values
+abbrev pub AreNearFacts : Values → List Operator → List ℕ → ℕ → List Bool → Type 0
+AreNearFacts values operators goals most flags =
     (s : Numbers)
     → AreValuesFor values operators goals most s
-    → is_near values operators goals s x ≡ true
-    → is_marked flags x ≡ true
+    → AreNear values operators goals s flags
 
--- and so the support of an operator whose preconditions have values
-abbrev pub IsLearntOf : Values → List Operator → List ℕ → ℕ → Operator → List Bool → Type 0
-IsLearntOf values operators goals most o flags =
-    all_valued values o.pre ≡ true
-    → (x : ℕ)
-    → Supports values o.pre x
-    → IsLearnt values operators goals most x flags
-
--- and so for each operator that adds a fact
-abbrev pub AreLearnt : Values → List Operator → List ℕ → ℕ → ℕ → List Bool → Type 0
-AreLearnt values operators goals most x flags =
-    (k : ℕ)
-    → k < length operators
-    → adds (operator_at operators k) x ≡ true
-    → IsLearntOf values operators goals most (operator_at operators k) flags
-
--- marks tell of the support of each operator that adds a fact of the zone whether it is near
-abbrev pub IsNearBehind : Values → List Operator → List ℕ → Numbers → List Bool → List Bool → Type 0
-IsNearBehind values operators goals s zone flags =
-    (k : ℕ)
-    → k < length operators
-    → list_any (is_marked zone) (operator_at operators k).add ≡ true
-    → all_valued values (operator_at operators k).pre ≡ true
-    → list_all (is_marked flags) (support values (operator_at operators k).pre)
-    ≡ list_all (is_near values operators goals s) (support values (operator_at operators k).pre)
+-- an operator has edges from the near side, or from the start
+abbrev pub is_from_near : Values → List Operator → List ℕ → Numbers → Operator → Bool
+is_from_near values operators goals s o =
+    all_valued values o.pre && list_all (is_near values operators goals s) (support values o.pre)
 
 -- for each fact the operators that add it
 pub record AreAdders (operators : List Operator) (facts : ℕ) (lists : List (List ℕ)) : Type 0 where
   pub sized : length lists ≡ facts
   pub all : (x : ℕ) → HasAdders operators x (slice_index_or lists x [])
   pub below : All (All (λ k. k < length operators)) lists
-
--- whether an operator has an edge between two sides that are marked
-abbrev pub is_between : Values → List Bool → List Bool → Operator → Bool
-is_between values zone near o =
-    list_any (is_marked zone) o.add
-    && (all_valued values o.pre && list_all (is_marked near) (support values o.pre))
 
 -- a list has operators of which something holds, and a second one what each of them costs
 pub record AreListed (such : Operator → Bool) (operators : List Operator) (cut costs : List ℕ) : Type 0 where

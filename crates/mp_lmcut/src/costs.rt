@@ -1,44 +1,19 @@
 //! The cut of a round: which operators are in it, what it costs, and what they cost afterwards.
 
 ghost use Rattle.std.specs.Prelude.{◌≡◌, ◌<◌, ◌≤◌, ◌-◌, ◌==◌, ◌++◌, ◌∷◌, [], ℕ, All, Contains, OnOk, Some, false, length, map, true};
-ghost use Rattle.std.specs.List.{list_all, list_any};
+ghost use Rattle.std.specs.List.{list_any};
 ghost use Rattle.std.specs.Option.{unwrap_or};
+ghost use Rattle.mp_sets.specs.Numbers.{Numbers};
 ghost use Rattle.mp_estimates.specs.Estimates.{lesser};
-ghost use Rattle.mp_relaxed.specs.Relaxed.{HasAdders, operator_at, with_cheaper};
+ghost use Rattle.mp_relaxed.specs.Relaxed.{operator_at, with_cheaper};
 ghost use Rattle.mp_estimates.specs.Lowering.{value_at};
-ghost use Rattle.mp_lmcut.specs.Cut.{least, support};
-ghost use Rattle.mp_lmcut.specs.Marked.{is_marked};
-ghost use Rattle.mp_lmcut.specs.Sides.{AreAdders, AreListed, AreNoted, HaveNoted, is_between, lowered_at};
+ghost use Rattle.mp_lmcut.specs.Cut.{in_cut, in_zone, least};
+ghost use Rattle.mp_lmcut.specs.Sides.{AreAdders, AreListed, AreNearFacts, AreNoted, AreValuesFor, HasZone, HaveNoted, IsZone, lowered_at};
 
 use crate::marks::Marks;
-use crate::supports::{are_valued, support_of};
+use crate::near::has_near_edge;
 use mp_list::{List, OutOfMemory};
 use mp_relaxed::Relaxed;
-
-/// Whether the support of some preconditions is marked, or there is none.
-fn is_from(numbers: &[u64], pre: &[u32], near: &Marks) -> bool
-    requires inside { All (λ x. x < length numbers.now) pre.now }
-    requires near { length near.now.flags ≡ length numbers.now }
-    ensures { result ≡ list_all (is_marked near.now.flags) (support (value_at numbers.now) pre.now) }
-{
-    match support_of(numbers, pre) {
-        Some(x) => near.has(x),
-        None => true,
-    }
-}
-
-/// Whether an operator is in the cut. Few add a fact of the zone, so this is asked first.
-fn is_in_cut(problem: &Relaxed, numbers: &[u64], zone: &Marks, near: &Marks, k: u32) -> bool
-    requires operator { k < length problem.now.operators }
-    requires sized { length numbers.now ≡ problem.now.facts }
-    requires zone { length zone.now.flags ≡ problem.now.facts }
-    requires near { length near.now.flags ≡ problem.now.facts }
-    ensures { result ≡ is_between (value_at numbers.now) zone.now.flags near.now.flags
-        (operator_at problem.now.operators k) }
-{
-    zone.has_one_of(problem.add(k))
-        && (are_valued(numbers, problem.pre(k)) && is_from(numbers, problem.pre(k), near))
-}
 
 /// The lesser one of a cost, if there is one, and another.
 fn lesser_of(known: Option<u64>, cost: u64) -> u64
@@ -50,88 +25,153 @@ fn lesser_of(known: Option<u64>, cost: u64) -> u64
     }
 }
 
-/// Puts an operator and its cost at the ends of two lists where it is in the cut.
-fn note(
+/// Puts an operator and its cost at the ends of two lists where it was found.
+fn put(
     problem: &Relaxed,
-    numbers: &[u64],
-    zone: &Marks,
-    near: &Marks,
+    found: bool,
     k: u32,
     cut: &mut Vec<u32>,
     costs: &mut Vec<u64>,
 ) -> Result<(), OutOfMemory>
     requires operator { k < length problem.now.operators }
-    requires sized { length numbers.now ≡ problem.now.facts }
-    requires zone { length zone.now.flags ≡ problem.now.facts }
-    requires near { length near.now.flags ≡ problem.now.facts }
-    ensures inside { is_between (value_at numbers.now) zone.now.flags near.now.flags
-        (operator_at problem.now.operators k) ≡ true
-        → OnOk result ((cut.new.items ≡ cut.old.items ++ k ∷ [])
+    ensures inside { found ≡ true → OnOk result ((cut.new.items ≡ cut.old.items ++ k ∷ [])
         × (costs.new.items ≡ costs.old.items ++ (operator_at problem.now.operators k).cost ∷ [])) }
-    ensures outside { is_between (value_at numbers.now) zone.now.flags near.now.flags
-        (operator_at problem.now.operators k) ≡ false
+    ensures outside { found ≡ false
         → OnOk result ((cut.new.items ≡ cut.old.items) × (costs.new.items ≡ costs.old.items)) }
 {
-    if is_in_cut(problem, numbers, zone, near, k) {
+    if found {
         cut.push(k)?;
         costs.push(problem.cost(k))?;
     }
     Ok(())
 }
 
-/// Lists those of some operators that are in the cut, with their costs.
+/// Puts an operator that adds a fact of the zone, and its cost, at the ends of two lists where it is in the cut.
+fn note(
+    problem: &Relaxed,
+    numbers: &[u64],
+    adders: &[List<u32>],
+    zone: &Marks,
+    most: u64,
+    k: u32,
+    asked: &mut Marks,
+    near: &mut Marks,
+    cut: &mut Vec<u32>,
+    costs: &mut Vec<u64>,
+) -> Result<(), OutOfMemory>
+    requires operator { k < length problem.now.operators }
+    requires enters { list_any (in_zone (value_at numbers.now) problem.now.operators problem.now.goals)
+        (operator_at problem.now.operators k).add ≡ true }
+    requires adders { AreAdders problem.now.operators problem.now.facts adders.now }
+    requires sized { length numbers.now ≡ problem.now.facts }
+    requires len { length zone.now.flags ≡ problem.now.facts }
+    requires zone { IsZone (value_at numbers.now) problem.now.operators problem.now.goals
+        zone.now.flags }
+    requires near { length near.old.flags ≡ problem.now.facts }
+    requires marks { AreNearFacts (value_at numbers.now) problem.now.operators problem.now.goals most
+        near.old.flags }
+    ensures noted { OnOk result ((s : Numbers)
+        → AreValuesFor (value_at numbers.now) problem.now.operators problem.now.goals most s
+        → HaveNoted (in_cut (value_at numbers.now) problem.now.operators problem.now.goals s) problem.now.operators
+        cut.old.items costs.old.items cut.new.items costs.new.items) }
+    ensures here { OnOk result ((s : Numbers)
+        → AreValuesFor (value_at numbers.now) problem.now.operators problem.now.goals most s
+        → in_cut (value_at numbers.now) problem.now.operators problem.now.goals s
+        (operator_at problem.now.operators k) ≡ true → Contains cut.new.items k) }
+    ensures near { OnOk result (length near.new.flags ≡ problem.now.facts) }
+    ensures marks { OnOk result (AreNearFacts (value_at numbers.now) problem.now.operators problem.now.goals most
+        near.new.flags) }
+{
+    let found = has_near_edge(problem, numbers, adders, zone, most, k, asked, near)?;
+    put(problem, found, k, cut, costs)?;
+    Ok(())
+}
+
+/// Lists those of some operators that are in the cut, with their costs. Each of them adds a fact of the zone.
 fn note_each(
     problem: &Relaxed,
     numbers: &[u64],
+    adders: &[List<u32>],
     zone: &Marks,
-    near: &Marks,
+    most: u64,
     operators: &[u32],
+    asked: &mut Marks,
+    near: &mut Marks,
     cut: &mut Vec<u32>,
     costs: &mut Vec<u64>,
 ) -> Result<(), OutOfMemory>
     requires operators { All (λ k. k < length problem.now.operators) operators.now }
+    requires enter { All (λ k. list_any
+        (in_zone (value_at numbers.now) problem.now.operators problem.now.goals)
+        (operator_at problem.now.operators k).add ≡ true) operators.now }
+    requires adders { AreAdders problem.now.operators problem.now.facts adders.now }
     requires sized { length numbers.now ≡ problem.now.facts }
-    requires zone { length zone.now.flags ≡ problem.now.facts }
-    requires near { length near.now.flags ≡ problem.now.facts }
-    ensures noted { OnOk result (HaveNoted
-        (is_between (value_at numbers.now) zone.now.flags near.now.flags) problem.now.operators
+    requires len { length zone.now.flags ≡ problem.now.facts }
+    requires zone { IsZone (value_at numbers.now) problem.now.operators problem.now.goals
+        zone.now.flags }
+    requires near { length near.old.flags ≡ problem.now.facts }
+    requires marks { AreNearFacts (value_at numbers.now) problem.now.operators problem.now.goals most
+        near.old.flags }
+    ensures noted { OnOk result ((s : Numbers)
+        → AreValuesFor (value_at numbers.now) problem.now.operators problem.now.goals most s
+        → HaveNoted (in_cut (value_at numbers.now) problem.now.operators problem.now.goals s) problem.now.operators
         cut.old.items costs.old.items cut.new.items costs.new.items) }
-    ensures each { OnOk result ((k : ℕ) → Contains operators.now k
-        → is_between (value_at numbers.now) zone.now.flags near.now.flags
+    ensures each { OnOk result ((s : Numbers)
+        → AreValuesFor (value_at numbers.now) problem.now.operators problem.now.goals most s
+        → (k : ℕ) → Contains operators.now k
+        → in_cut (value_at numbers.now) problem.now.operators problem.now.goals s
         (operator_at problem.now.operators k) ≡ true → Contains cut.new.items k) }
+    ensures near { OnOk result (length near.new.flags ≡ problem.now.facts) }
+    ensures marks { OnOk result (AreNearFacts (value_at numbers.now) problem.now.operators problem.now.goals most
+        near.new.flags) }
 {
     for k in operators {
-        note(problem, numbers, zone, near, *k, cut, costs)?;
+        note(
+            problem, numbers, adders, zone, most, *k, asked, near, cut, costs,
+        )?;
     }
     Ok(())
 }
 
-/// Lists those of the operators that add a fact that are in the cut, where the fact is in the zone.
+/// Lists those of the operators that add a fact of the zone that are in the cut, with their costs.
 fn note_adders(
     problem: &Relaxed,
     numbers: &[u64],
+    adders: &[List<u32>],
     zone: &Marks,
-    near: &Marks,
+    most: u64,
     x: u32,
-    adders: &[u32],
+    asked: &mut Marks,
+    near: &mut Marks,
     cut: &mut Vec<u32>,
     costs: &mut Vec<u64>,
 ) -> Result<(), OutOfMemory>
     requires fact { x < problem.now.facts }
-    requires operators { All (λ k. k < length problem.now.operators) adders.now }
-    requires adders { HasAdders problem.now.operators x adders.now }
+    requires inside { in_zone (value_at numbers.now) problem.now.operators problem.now.goals x ≡ true }
+    requires adders { AreAdders problem.now.operators problem.now.facts adders.now }
     requires sized { length numbers.now ≡ problem.now.facts }
-    requires zone { length zone.now.flags ≡ problem.now.facts }
-    requires near { length near.now.flags ≡ problem.now.facts }
-    ensures noted { OnOk result (HaveNoted
-        (is_between (value_at numbers.now) zone.now.flags near.now.flags) problem.now.operators
+    requires len { length zone.now.flags ≡ problem.now.facts }
+    requires zone { IsZone (value_at numbers.now) problem.now.operators problem.now.goals
+        zone.now.flags }
+    requires near { length near.old.flags ≡ problem.now.facts }
+    requires marks { AreNearFacts (value_at numbers.now) problem.now.operators problem.now.goals most
+        near.old.flags }
+    ensures noted { OnOk result ((s : Numbers)
+        → AreValuesFor (value_at numbers.now) problem.now.operators problem.now.goals most s
+        → HaveNoted (in_cut (value_at numbers.now) problem.now.operators problem.now.goals s) problem.now.operators
         cut.old.items costs.old.items cut.new.items costs.new.items) }
-    ensures each { OnOk result (is_marked zone.now.flags x ≡ true → AreNoted
-        (is_between (value_at numbers.now) zone.now.flags near.now.flags) problem.now.operators x cut.new.items) }
+    ensures each { OnOk result ((s : Numbers)
+        → AreValuesFor (value_at numbers.now) problem.now.operators problem.now.goals most s
+        → AreNoted (in_cut (value_at numbers.now) problem.now.operators problem.now.goals s)
+        problem.now.operators x cut.new.items) }
+    ensures near { OnOk result (length near.new.flags ≡ problem.now.facts) }
+    ensures marks { OnOk result (AreNearFacts (value_at numbers.now) problem.now.operators problem.now.goals most
+        near.new.flags) }
 {
-    if zone.has(x) {
-        note_each(problem, numbers, zone, near, adders, cut, costs)?;
-    }
+    let row = adders[x as usize].as_slice();
+    note_each(
+        problem, numbers, adders, zone, most, row, asked, near, cut, costs,
+    )?;
     Ok(())
 }
 
@@ -151,25 +191,36 @@ pub(crate) fn list_cut(
     numbers: &[u64],
     adders: &[List<u32>],
     zone: &Marks,
-    near: &Marks,
+    most: u64,
+    inside: &[u32],
+    asked: &mut Marks,
+    near: &mut Marks,
     cut: &mut Vec<u32>,
     costs: &mut Vec<u64>,
 ) -> Result<(), OutOfMemory>
     requires adders { AreAdders problem.now.operators problem.now.facts adders.now }
     requires sized { length numbers.now ≡ problem.now.facts }
-    requires zone { length zone.now.flags ≡ problem.now.facts }
-    requires near { length near.now.flags ≡ problem.now.facts }
-    ensures listed { OnOk result (AreListed
-        (is_between (value_at numbers.now) zone.now.flags near.now.flags)
+    requires len { length zone.now.flags ≡ problem.now.facts }
+    requires zone { IsZone (value_at numbers.now) problem.now.operators problem.now.goals
+        zone.now.flags }
+    requires inside { HasZone (value_at numbers.now) problem.now.operators problem.now.goals
+        problem.now.facts inside.now }
+    ensures listed { OnOk result ((s : Numbers)
+        → AreValuesFor (value_at numbers.now) problem.now.operators problem.now.goals most s
+        → AreListed (in_cut (value_at numbers.now) problem.now.operators problem.now.goals s)
         problem.now.operators cut.new.items costs.new.items) }
-    ensures all { OnOk result ((k : ℕ) → k < length problem.now.operators
-        → is_between (value_at numbers.now) zone.now.flags near.now.flags
+    ensures all { OnOk result ((s : Numbers)
+        → AreValuesFor (value_at numbers.now) problem.now.operators problem.now.goals most s
+        → (k : ℕ) → k < length problem.now.operators
+        → in_cut (value_at numbers.now) problem.now.operators problem.now.goals s
         (operator_at problem.now.operators k) ≡ true → Contains cut.new.items k) }
 {
+    near.begin(problem.facts())?;
     empty(cut, costs);
-    for x in 0..problem.facts() {
-        let row = adders[x as usize].as_slice();
-        note_adders(problem, numbers, zone, near, x, row, cut, costs)?;
+    for x in inside {
+        note_adders(
+            problem, numbers, adders, zone, most, *x, asked, near, cut, costs,
+        )?;
     }
     Ok(())
 }

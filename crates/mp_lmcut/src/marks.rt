@@ -1,7 +1,6 @@
 //! Facts that are marked, and those of them that are still to be followed.
 
 ghost use Rattle.std.specs.Prelude.{◌≡◌, ◌++◌, ◌∷◌, ◌<◌, [], ℕ, true, false, All, IfNone, IfSome, OnOk, length, slice_set};
-ghost use Rattle.std.specs.List.{list_any};
 ghost use Rattle.mp_lmcut.specs.Marked.{HasGrown, is_marked};
 
 use mp_list::OutOfMemory;
@@ -50,19 +49,6 @@ impl Marks {
         ensures { result ≡ is_marked self.now.flags x }
     {
         self.flags[x as usize]
-    }
-
-    /// Whether one of some facts is marked.
-    pub(crate) fn has_one_of(&self, facts: &[u32]) -> bool
-        requires { All (λ x. x < length self.now.flags) facts.now }
-        ensures { result ≡ list_any (is_marked self.now.flags) facts.now }
-    {
-        for x in facts {
-            if self.has(*x) {
-                return true;
-            }
-        }
-        false
     }
 
     /// Marks a fact, and puts it among those to do where it is new. Refuses only for want of memory.

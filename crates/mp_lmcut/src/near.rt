@@ -2,14 +2,14 @@
 //! out for the supports of operators that add a fact of the zone alone, and backwards: a fact that is cheaper than the goals is
 //! near (`proofs/CheapLemmas.antt`), so a search from a dearer one ends at the first such fact.
 
-ghost use Rattle.std.specs.Prelude.{◌≡◌, ◌<◌, ◌||◌, ℕ, All, Contains, IfOk, OnOk, false, length, true};
+ghost use Rattle.std.specs.Prelude.{◌≡◌, ◌<◌, ◌||◌, ℕ, All, IfOk, OnOk, false, length, true};
 ghost use Rattle.std.specs.List.{list_all, list_any};
 ghost use Rattle.mp_sets.specs.Numbers.{Numbers};
 ghost use Rattle.mp_relaxed.specs.Relaxed.{HasAdders, operator_at};
 ghost use Rattle.mp_estimates.specs.Lowering.{value_at};
 ghost use Rattle.mp_lmcut.specs.Cut.{is_near, support};
 ghost use Rattle.mp_lmcut.specs.Marked.{HasGrown, is_marked};
-ghost use Rattle.mp_lmcut.specs.Sides.{AreAdders, AreLearnt, AreValuesFor, HasSource, IsBehind, IsLearnt, IsLearntOf, IsNearBehind, IsTraced, IsTracedFrom, IsZone, Learns, Supports, TracesBack, is_cheap as is_cheap_for, is_source};
+ghost use Rattle.mp_lmcut.specs.Sides.{AreAdders, AreNearFacts, AreValuesFor, HasSource, IsBehind, IsTraced, IsTracedFrom, IsZone, Supports, TracesBack, is_cheap as is_cheap_for, is_from_near, is_source};
 
 use crate::marks::Marks;
 use crate::supports::{are_valued, support_of};
@@ -211,7 +211,18 @@ fn is_near_fact(
     is_reached(problem, numbers, adders, zone, most, x, asked)
 }
 
-/// Marks a fact where it is near.
+/// Marks a fact that was found.
+fn mark_found(found: bool, x: u32, near: &mut Marks) -> Result<(), OutOfMemory>
+    requires { x < length near.old.flags }
+    ensures { OnOk result (HasGrown (λ y. (y ≡ x) × (found ≡ true)) near.old near.new) }
+{
+    if found {
+        near.mark(x)?;
+    }
+    Ok(())
+}
+
+/// Whether a fact is near. One that is gets a mark, so that it is not asked for twice.
 fn learn(
     problem: &Relaxed,
     numbers: &[u64],
@@ -221,7 +232,7 @@ fn learn(
     x: u32,
     asked: &mut Marks,
     near: &mut Marks,
-) -> Result<(), OutOfMemory>
+) -> Result<bool, OutOfMemory>
     requires fact { x < problem.now.facts }
     requires adders { AreAdders problem.now.operators problem.now.facts adders.now }
     requires sized { length numbers.now ≡ problem.now.facts }
@@ -229,23 +240,59 @@ fn learn(
     requires zone { IsZone (value_at numbers.now) problem.now.operators problem.now.goals
         zone.now.flags }
     requires near { length near.old.flags ≡ problem.now.facts }
-    ensures learns { OnOk result (Learns (value_at numbers.now) problem.now.operators
-        problem.now.goals most near.old.flags near.new.flags) }
-    ensures here { OnOk result (IsLearnt (value_at numbers.now) problem.now.operators
-        problem.now.goals most x near.new.flags) }
+    requires marks { AreNearFacts (value_at numbers.now) problem.now.operators problem.now.goals most
+        near.old.flags }
+    ensures value { IfOk result (λ found. (s : Numbers)
+        → AreValuesFor (value_at numbers.now) problem.now.operators problem.now.goals most s
+        → found ≡ is_near (value_at numbers.now) problem.now.operators problem.now.goals s x) }
+    ensures near { OnOk result (length near.new.flags ≡ problem.now.facts) }
+    ensures marks { OnOk result (AreNearFacts (value_at numbers.now) problem.now.operators problem.now.goals most
+        near.new.flags) }
 {
     if near.has(x) {
-        return Ok(());
+        return Ok(true);
     }
     let found = is_near_fact(problem, numbers, adders, zone, most, x, asked)?;
-    if found {
-        near.mark(x)?;
-    }
-    Ok(())
+    mark_found(found, x, near)?;
+    Ok(found)
 }
 
-/// Marks the support of an operator where it is near.
-fn learn_support(
+/// Whether the support of some preconditions is near, or there is none.
+fn is_from(
+    problem: &Relaxed,
+    numbers: &[u64],
+    adders: &[List<u32>],
+    zone: &Marks,
+    most: u64,
+    pre: &[u32],
+    asked: &mut Marks,
+    near: &mut Marks,
+) -> Result<bool, OutOfMemory>
+    requires inside { All (λ x. x < length numbers.now) pre.now }
+    requires adders { AreAdders problem.now.operators problem.now.facts adders.now }
+    requires sized { length numbers.now ≡ problem.now.facts }
+    requires len { length zone.now.flags ≡ problem.now.facts }
+    requires zone { IsZone (value_at numbers.now) problem.now.operators problem.now.goals
+        zone.now.flags }
+    requires near { length near.old.flags ≡ problem.now.facts }
+    requires marks { AreNearFacts (value_at numbers.now) problem.now.operators problem.now.goals most
+        near.old.flags }
+    ensures value { IfOk result (λ found. (s : Numbers)
+        → AreValuesFor (value_at numbers.now) problem.now.operators problem.now.goals most s
+        → found ≡ list_all (is_near (value_at numbers.now) problem.now.operators problem.now.goals s)
+        (support (value_at numbers.now) pre.now)) }
+    ensures near { OnOk result (length near.new.flags ≡ problem.now.facts) }
+    ensures marks { OnOk result (AreNearFacts (value_at numbers.now) problem.now.operators problem.now.goals most
+        near.new.flags) }
+{
+    match support_of(numbers, pre) {
+        Some(x) => learn(problem, numbers, adders, zone, most, x, asked, near),
+        None => Ok(true),
+    }
+}
+
+/// Whether an operator has edges from the near side, or from the start.
+pub(crate) fn has_near_edge(
     problem: &Relaxed,
     numbers: &[u64],
     adders: &[List<u32>],
@@ -254,7 +301,7 @@ fn learn_support(
     k: u32,
     asked: &mut Marks,
     near: &mut Marks,
-) -> Result<(), OutOfMemory>
+) -> Result<bool, OutOfMemory>
     requires operator { k < length problem.now.operators }
     requires adders { AreAdders problem.now.operators problem.now.facts adders.now }
     requires sized { length numbers.now ≡ problem.now.facts }
@@ -262,104 +309,27 @@ fn learn_support(
     requires zone { IsZone (value_at numbers.now) problem.now.operators problem.now.goals
         zone.now.flags }
     requires near { length near.old.flags ≡ problem.now.facts }
-    ensures learns { OnOk result (Learns (value_at numbers.now) problem.now.operators
-        problem.now.goals most near.old.flags near.new.flags) }
-    ensures here { OnOk result (IsLearntOf (value_at numbers.now) problem.now.operators
-        problem.now.goals most (operator_at problem.now.operators k) near.new.flags) }
+    requires marks { AreNearFacts (value_at numbers.now) problem.now.operators problem.now.goals most
+        near.old.flags }
+    ensures value { IfOk result (λ found. (s : Numbers)
+        → AreValuesFor (value_at numbers.now) problem.now.operators problem.now.goals most s
+        → found ≡ is_from_near (value_at numbers.now) problem.now.operators problem.now.goals s
+        (operator_at problem.now.operators k)) }
+    ensures near { OnOk result (length near.new.flags ≡ problem.now.facts) }
+    ensures marks { OnOk result (AreNearFacts (value_at numbers.now) problem.now.operators problem.now.goals most
+        near.new.flags) }
 {
     if !are_valued(numbers, problem.pre(k)) {
-        return Ok(());
+        return Ok(false);
     }
-    if let Some(x) = support_of(numbers, problem.pre(k)) {
-        learn(problem, numbers, adders, zone, most, x, asked, near)?;
-    }
-    Ok(())
-}
-
-/// Marks the supports of some operators where they are near.
-fn learn_each(
-    problem: &Relaxed,
-    numbers: &[u64],
-    adders: &[List<u32>],
-    zone: &Marks,
-    most: u64,
-    operators: &[u32],
-    asked: &mut Marks,
-    near: &mut Marks,
-) -> Result<(), OutOfMemory>
-    requires operators { All (λ k. k < length problem.now.operators) operators.now }
-    requires adders { AreAdders problem.now.operators problem.now.facts adders.now }
-    requires sized { length numbers.now ≡ problem.now.facts }
-    requires len { length zone.now.flags ≡ problem.now.facts }
-    requires zone { IsZone (value_at numbers.now) problem.now.operators problem.now.goals
-        zone.now.flags }
-    requires near { length near.old.flags ≡ problem.now.facts }
-    ensures learns { OnOk result (Learns (value_at numbers.now) problem.now.operators
-        problem.now.goals most near.old.flags near.new.flags) }
-    ensures each { OnOk result ((k : ℕ) → Contains operators.now k
-        → IsLearntOf (value_at numbers.now) problem.now.operators
-        problem.now.goals most (operator_at problem.now.operators k) near.new.flags) }
-{
-    for k in operators {
-        learn_support(problem, numbers, adders, zone, most, *k, asked, near)?;
-    }
-    Ok(())
-}
-
-/// Marks the supports of the operators that add a fact, where the fact is in the zone, and they are near.
-fn learn_adders(
-    problem: &Relaxed,
-    numbers: &[u64],
-    adders: &[List<u32>],
-    zone: &Marks,
-    most: u64,
-    x: u32,
-    asked: &mut Marks,
-    near: &mut Marks,
-) -> Result<(), OutOfMemory>
-    requires fact { x < problem.now.facts }
-    requires adders { AreAdders problem.now.operators problem.now.facts adders.now }
-    requires sized { length numbers.now ≡ problem.now.facts }
-    requires len { length zone.now.flags ≡ problem.now.facts }
-    requires zone { IsZone (value_at numbers.now) problem.now.operators problem.now.goals
-        zone.now.flags }
-    requires near { length near.old.flags ≡ problem.now.facts }
-    ensures learns { OnOk result (Learns (value_at numbers.now) problem.now.operators
-        problem.now.goals most near.old.flags near.new.flags) }
-    ensures each { OnOk result (is_marked zone.now.flags x ≡ true
-        → AreLearnt (value_at numbers.now) problem.now.operators problem.now.goals most x near.new.flags) }
-{
-    if zone.has(x) {
-        let row = adders[x as usize].as_slice();
-        learn_each(problem, numbers, adders, zone, most, row, asked, near)?;
-    }
-    Ok(())
-}
-
-/// Marks those supports of operators that add a fact of the zone that are near.
-pub(crate) fn mark_near(
-    problem: &Relaxed,
-    numbers: &[u64],
-    adders: &[List<u32>],
-    zone: &Marks,
-    most: u64,
-    asked: &mut Marks,
-    near: &mut Marks,
-) -> Result<(), OutOfMemory>
-    requires adders { AreAdders problem.now.operators problem.now.facts adders.now }
-    requires sized { length numbers.now ≡ problem.now.facts }
-    requires len { length zone.now.flags ≡ problem.now.facts }
-    requires zone { IsZone (value_at numbers.now) problem.now.operators problem.now.goals
-        zone.now.flags }
-    ensures near { OnOk result ((s : Numbers)
-        → AreValuesFor (value_at numbers.now) problem.now.operators problem.now.goals most s
-        → IsNearBehind (value_at numbers.now) problem.now.operators problem.now.goals s
-        zone.now.flags near.new.flags) }
-    ensures len { OnOk result (length near.new.flags ≡ problem.now.facts) }
-{
-    near.begin(problem.facts())?;
-    for x in 0..problem.facts() {
-        learn_adders(problem, numbers, adders, zone, most, x, asked, near)?;
-    }
-    Ok(())
+    is_from(
+        problem,
+        numbers,
+        adders,
+        zone,
+        most,
+        problem.pre(k),
+        asked,
+        near,
+    )
 }

@@ -10,7 +10,6 @@ ghost use Rattle.mp_lmcut.specs.Cut.{cut_cost, cuts, is_positive, lmcut_of, lowe
 ghost use Rattle.mp_lmcut.specs.Sides.{AreAdders, costless};
 
 use crate::costs::{list_cut, pay};
-use crate::near::mark_near;
 use crate::sides::Sides;
 use crate::zone::mark_zone;
 use mp_list::{List, OutOfMemory};
@@ -61,22 +60,16 @@ fn lower(
     ensures below { OnOk result (All (λ k. k < length problem.new.operators) sides.new.cut.items) }
     ensures kept { costless problem.new ≡ costless problem.old }
 {
-    mark_zone(problem, numbers, adders, &mut sides.zone)?;
-    mark_near(
-        problem,
-        numbers,
-        adders,
-        &sides.zone,
-        most,
-        &mut sides.asked,
-        &mut sides.near,
-    )?;
+    mark_zone(problem, numbers, adders, &mut sides.zone, &mut sides.inside)?;
     list_cut(
         problem,
         numbers,
         adders,
         &sides.zone,
-        &sides.near,
+        most,
+        sides.inside.as_slice(),
+        &mut sides.asked,
+        &mut sides.near,
         &mut sides.cut,
         &mut sides.costs,
     )?;

@@ -1,12 +1,12 @@
 //! The goal zone: the facts from which operators without a cost lead to the dearest goal.
 
-ghost use Rattle.std.specs.Prelude.{◌≡◌, ◌<◌, ◌≤◌, ◌&&◌, ◌==◌, ◌+◌, ℕ, All, List as ListOf, OnOk, length, slice_index_or, true};
+ghost use Rattle.std.specs.Prelude.{◌≡◌, ◌<◌, ◌≤◌, ◌&&◌, ◌==◌, ◌+◌, ◌++◌, ◌∷◌, [], ℕ, All, List as ListOf, OnOk, length, slice_index_or, true};
 ghost use Rattle.std.specs.List.{list_all, list_any};
 ghost use Rattle.mp_relaxed.specs.Relaxed.{HasAdders, operator_at};
 ghost use Rattle.mp_estimates.specs.Lowering.{value_at};
 ghost use Rattle.mp_lmcut.specs.Cut.{in_zone, support};
 ghost use Rattle.mp_lmcut.specs.Marked.{HasGrown, IsReaching, is_marked, weight};
-ghost use Rattle.mp_lmcut.specs.Sides.{AreAdders, IsTurned, IsZone, Supports, TurnsBack, is_free as is_free_edge};
+ghost use Rattle.mp_lmcut.specs.Sides.{AreAdders, HasZone, IsFollowed, IsTurned, IsZone, Supports, TurnsBack, is_free as is_free_edge};
 
 use crate::marks::Marks;
 use crate::supports::{are_valued, support_of};
@@ -84,47 +84,72 @@ fn turn_all(
     Ok(())
 }
 
-/// Marks all from which operators without a cost lead to what is marked.
+/// Empties a list of facts.
+fn empty(inside: &mut Vec<u32>)
+    ensures { inside.new.items ≡ [] }
+{
+    inside.clear();
+}
+
+/// Puts a fact at the end of a list.
+fn put(x: u32, inside: &mut Vec<u32>) -> Result<(), OutOfMemory>
+    ensures { OnOk result (inside.new.items ≡ inside.old.items ++ x ∷ []) }
+{
+    inside.push(x)?;
+    Ok(())
+}
+
+/// Marks all from which operators without a cost lead to what is marked, and lists it.
 fn spread(
     problem: &Relaxed,
     numbers: &[u64],
     adders: &[List<u32>],
     marks: &mut Marks,
+    inside: &mut Vec<u32>,
 ) -> Result<(), OutOfMemory>
     requires adders { AreAdders problem.now.operators problem.now.facts adders.now }
     requires sized { length numbers.now ≡ problem.now.facts }
     requires flags { length marks.old.flags ≡ length numbers.now }
     requires reaching { IsReaching
         (λ y. in_zone (value_at numbers.now) problem.now.operators problem.now.goals y ≡ true)
-        (TurnsBack (value_at numbers.now) problem.now.operators) marks.old }
+        (IsFollowed (value_at numbers.now) problem.now.operators inside.old.items) marks.old }
+    requires inside { All
+        (λ y. in_zone (value_at numbers.now) problem.now.operators problem.now.goals y ≡ true) inside.old.items }
     ensures kept { OnOk result ((x : ℕ) → is_marked marks.old.flags x ≡ true
         → is_marked marks.new.flags x ≡ true) }
     ensures all { OnOk result ((x : ℕ) → is_marked marks.new.flags x ≡ true
         → (in_zone (value_at numbers.now) problem.now.operators problem.now.goals x ≡ true)
-        × TurnsBack (value_at numbers.now) problem.now.operators x marks.new.flags) }
+        × IsFollowed (value_at numbers.now) problem.now.operators inside.new.items x marks.new.flags) }
+    ensures inside { OnOk result (All
+        (λ y. in_zone (value_at numbers.now) problem.now.operators problem.now.goals y ≡ true) inside.new.items) }
     ensures len { OnOk result (length marks.new.flags ≡ length marks.old.flags) }
 {
     'facts: while let Some(x) = marks.next() {
+        put(x, inside)?;
         turn_all(problem, numbers, adders[x as usize].as_slice(), x, marks)?;
     }
     Ok(())
 }
 
-/// Marks the goal zone.
+/// Marks the goal zone, and lists its facts. Refuses only for want of memory.
 pub(crate) fn mark_zone(
     problem: &Relaxed,
     numbers: &[u64],
     adders: &[List<u32>],
     marks: &mut Marks,
+    inside: &mut Vec<u32>,
 ) -> Result<(), OutOfMemory>
     requires adders { AreAdders problem.now.operators problem.now.facts adders.now }
     requires sized { length numbers.now ≡ problem.now.facts }
     ensures zone { OnOk result
         (IsZone (value_at numbers.now) problem.now.operators problem.now.goals marks.new.flags) }
+    ensures listed { OnOk result (HasZone (value_at numbers.now) problem.now.operators problem.now.goals
+        problem.now.facts inside.new.items) }
     ensures len { OnOk result (length marks.new.flags ≡ problem.now.facts) }
 {
     marks.begin(problem.facts())?;
+    empty(inside);
     mark_support(numbers, problem.goals(), marks)?;
-    spread(problem, numbers, adders, marks)?;
+    spread(problem, numbers, adders, marks, inside)?;
     Ok(())
 }
