@@ -1,0 +1,2 @@
+-- rounds in which no agent expands
+pub mod Quiet
