@@ -1,3 +1,4 @@
+pub mod Acts
 pub mod Files
 pub mod Known
 pub mod Losing

@@ -1,5 +1,5 @@
 -- Known bytes that get fewer, from the front.
-use Rattle.std.proofs.Common.{ℕ, ◌+◌, ◌≤◌, List, length, drop, Option, Some, None, refl, sym, ap, ◌∙◌, arith}
+use Rattle.std.proofs.Common.{ℕ, ◌+◌, ◌≤◌, List, ◌++◌, append_assoc, length, drop, Option, Some, None, refl, sym, ap, ◌∙◌, arith}
 use Rattle.std.proofs.Math.Seq.{drop-append-add, drop-append_seam}
 use Rattle.std.specs.Io.KnownBytes.{Consumes}
 use Rattle.mp_outside.specs.Source.{LosesAtMost}
@@ -23,3 +23,10 @@ loses_more (Some xs) (Some ys) (Some zs) taken m n h lost le =
 pub loses_none : (a : Option (List ℕ)) (n : ℕ) → LosesAtMost a a n
 loses_none None n = tt
 loses_none (Some xs) n = (0, omega arith, refl)
+
+-- what was taken, and what was taken then
+pub consumes_more : (a b c : Option (List ℕ)) (taken more : List ℕ) → Consumes a b taken → Consumes b c more → Consumes a c (taken ++ more)
+consumes_more None b c taken more h k = tt
+consumes_more (Some xs) None c taken more h k = absurd h
+consumes_more (Some xs) (Some ys) None taken more h k = absurd k
+consumes_more (Some xs) (Some ys) (Some zs) taken more h k = h ∙ ap (λ rest. taken ++ rest) k ∙ sym (append_assoc taken more zs)

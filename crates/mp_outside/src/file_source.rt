@@ -45,6 +45,8 @@ impl<R: Files> Source for FileSource<'_, R> {
 
     ghost faults = { λ s. s.faults };
 
+    ghost acts = { λ _. None };
+
     fn begin(&mut self, name: &str) -> Result<bool, Failed> {
         self.file = None;
         if self.faults == u64::MAX {

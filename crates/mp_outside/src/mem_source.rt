@@ -1,21 +1,25 @@
 //! A source in memory.
 
-ghost use Rattle.std.specs.Prelude.{◌≡◌, ◌≢◌, ◌<◌, ◌≤◌, ◌+◌, ◌↔◌, true, false, Some, None, Ok, IfSome, IfNone, IsSome, IfOk, IsErr, is_err, OnErr, IsTrue, if◌then◌else◌, length, min, take, drop, vec_items};
+ghost use Rattle.std.specs.Prelude.{◌≡◌, ◌≢◌, ◌<◌, ◌≤◌, ◌+◌, ◌↔◌, true, false, Some, None, [], Ok, IfSome, IfNone, IsSome, IfOk, IsErr, is_err, OnErr, IsTrue, if◌then◌else◌, length, min, take, drop, vec_items};
 ghost use Rattle.std.specs.Io.KnownBytes.{Consumes, IsAtEnd};
 ghost use Rattle.mp_outside.specs.Calls.{after_call, next_fails};
 ghost use Rattle.std.specs.Option.{option_and_then};
 ghost use Rattle.mp_outside.specs.Memory.{held_in, name_at, rest_at};
+ghost use Rattle.mp_outside.specs.Acts.{Does, Begins, Takes, TakesUpTo};
+ghost use Rattle.mp_outside.specs.Noted.{acts_of};
 ghost use Rattle.mp_outside.specs.Source.{LosesAtMost};
 
 use crate::calls::Calls;
 use crate::failed::Failed;
 use crate::named_text::NamedText;
+use crate::notes::{Note, Notes};
 use crate::source::Source;
 use mp_list::List;
 
 /// A source that holds files in memory, for tests: it gives at most so many bytes at a read, and fails at the
 /// calls, of `begin` and `read` counted together from 1, that are to fail. A name that it does not hold it
-/// answers by false, at a failing call too; of two files of one name it holds the first. It tells everything.
+/// answers by false, at a failing call too; of two files of one name it holds the first. It tells everything, and what
+/// is done at it as long as there is memory to note that.
 #[derive(Drop)]
 pub struct MemSource {
     files: List<NamedText>,
@@ -28,6 +32,7 @@ pub struct MemSource {
     given: usize,
     // The file at which the last fault came.
     fault_at: Option<usize>,
+    notes: Notes,
     ghost some: { 0 < greatest },
     ghost counted: { faults ≤ calls.made },
 }
@@ -44,7 +49,9 @@ impl MemSource {
         ensures faults { result.faults ≡ 0 }
         ensures begun { result.begun ≡ false }
         ensures fault_at { result.fault_at ≡ None }
+        ensures notes { acts_of result.files result.notes ≡ Some [] }
     {
+        let notes = Notes::new(*failing.allocator());
         MemSource {
             files,
             greatest,
@@ -54,6 +61,7 @@ impl MemSource {
             file: 0,
             given: 0,
             fault_at: None,
+            notes,
         }
     }
 
@@ -78,6 +86,8 @@ impl Source for MemSource {
 
     ghost faults = { λ s. s.faults };
 
+    ghost acts = { λ s. acts_of s.files s.notes };
+
     fn begin(&mut self, name: &str) -> Result<bool, Failed>
         ensures files { self.new.files ≡ self.old.files }
         ensures absent { (result ≡ Ok false) ↔ (held_in self.old.files name.now ≡ None) }
@@ -87,6 +97,8 @@ impl Source for MemSource {
         ensures whole { result ≡ Ok true → rest_at self.new.files self.new.file self.new.given ≡ held_in self.old.files name.now }
         ensures name { result ≡ Ok true → name_at self.new.files self.new.file ≡ Some name.now }
         ensures at { OnErr result (option_and_then (name_at self.new.files) self.new.fault_at ≡ Some name.now) }
+        ensures act { result ≡ Ok true → Does (Begins name.now) (acts_of self.old.files self.old.notes) (acts_of self.new.files self.new.notes) }
+        ensures no_act { result ≢ Ok true → self.new.notes ≡ self.old.notes }
 
         // The calls that are to fail do, and no others; each call is counted, and each fault.
         ensures fails { IsErr result ↔ (IsSome (held_in self.old.files name.now) × IsTrue (next_fails self.old.calls.made self.old.calls.failing.items)) }
@@ -106,6 +118,7 @@ impl Source for MemSource {
         self.begun = true;
         self.file = file;
         self.given = 0;
+        self.notes.add(Note::Began(file));
         Ok(true)
     }
 
@@ -121,6 +134,42 @@ impl Source for MemSource {
 
         ensures no_fault { IfOk result (λ _. self.new.faults ≡ self.old.faults) }
         ensures lost { OnErr result (LosesAtMost (rest_at self.old.files self.old.file self.old.given) (rest_at self.new.files self.new.file self.new.given) (length buf.old)) }
+
+        ensures act { IfOk result (λ n. Does (Takes n) (acts_of self.old.files self.old.notes) (acts_of self.new.files self.new.notes)) }
+        ensures failed_act { OnErr result (Does (TakesUpTo (length buf.old)) (acts_of self.old.files self.old.notes) (acts_of self.new.files self.new.notes)) }
+
+        // A failing call takes nothing; another one takes as much as it may.
+        ensures kept { OnErr result (self.new.given ≡ self.old.given) }
+        ensures most { IfOk result (λ n. IfSome (rest_at self.old.files self.old.file self.old.given) (λ rest. n ≡ min (min (length rest) (length buf.old)) self.old.greatest)) }
+
+        // The calls that are to fail do, and no others; each call is counted, and each fault.
+        ensures fails { IsErr result ↔ IsTrue (next_fails self.old.calls.made self.old.calls.failing.items) }
+        ensures made { self.new.calls.made ≡ after_call self.old.calls.made }
+        ensures raised { self.new.faults ≡ self.old.faults + (if is_err result then 1 else 0) }
+        ensures same { (self.new.greatest ≡ self.old.greatest) × (self.new.calls.failing ≡ self.old.calls.failing) }
+    {
+        let answer = self.give(buf);
+        self.notes.add(Note::Took(taken(answer)));
+        answer
+    }
+}
+
+impl MemSource {
+    // What a read gives, without a note of it.
+    fn give(&mut self, buf: &mut [u8]) -> Result<usize, Failed>
+        requires room { 0 < length buf.old }
+        requires begun { self.old.begun ≡ true }
+        ensures files { self.new.files ≡ self.old.files }
+        ensures count { IfOk result (λ n. n ≤ length buf.old) }
+        ensures bytes { IfOk result (λ n. Consumes (rest_at self.old.files self.old.file self.old.given) (rest_at self.new.files self.new.file self.new.given) (take n buf.new)) }
+        ensures end { IfOk result (λ n. n ≡ 0 → IsAtEnd (rest_at self.old.files self.old.file self.old.given)) }
+        ensures still { (self.new.begun ≡ self.old.begun) × (self.new.file ≡ self.old.file) }
+        ensures at { OnErr result (option_and_then (name_at self.new.files) self.new.fault_at ≡ name_at self.old.files self.old.file) }
+
+        ensures no_fault { IfOk result (λ _. self.new.faults ≡ self.old.faults) }
+        ensures lost { OnErr result (LosesAtMost (rest_at self.old.files self.old.file self.old.given) (rest_at self.new.files self.new.file self.new.given) (length buf.old)) }
+
+        ensures notes { self.new.notes ≡ self.old.notes }
 
         // A failing call takes nothing; another one takes as much as it may.
         ensures kept { OnErr result (self.new.given ≡ self.old.given) }
@@ -148,6 +197,17 @@ impl Source for MemSource {
         );
         self.given += count;
         Ok(count)
+    }
+}
+
+// How many bytes a read took.
+fn taken(answer: Result<usize, Failed>) -> usize
+    ensures count { IfOk answer (λ n. result ≡ n) }
+    ensures none { OnErr answer (result ≡ 0) }
+{
+    match answer {
+        Ok(count) => count,
+        Err(_) => 0,
     }
 }
 

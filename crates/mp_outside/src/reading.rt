@@ -1,6 +1,7 @@
 //! Reading a whole file, up to a limit.
 
 ghost use Rattle.std.specs.Prelude.{◌≡◌, ◌≢◌, ◌+◌, ◌^◌, ◌<◌, ◌≤◌, ◌↔◌, true, take, vec_len, vec_items, IfSome, IfOk, IfErr, Some};
+ghost use Rattle.mp_outside.specs.Acts.{AreReads, FileAsked, Does, IsReadOnce};
 ghost use Rattle.mp_outside.specs.Source.{Lacks, LosesAtMost, TakesAtMost, FaultAt, IsFrontOf};
 
 use crate::source::Source;
@@ -25,7 +26,8 @@ pub enum FetchRefusal {
 }
 
 /// The first bytes of the file of this name, at most `limit + 1` of them, so that the caller sees whether the
-/// file is longer than the limit. Whatever it answers, no more of the file is taken from the source. `Absent`
+/// file is longer than the limit. Whatever it answers, no more of the file is taken from the source, and where the
+/// source tells what is done at it, each read but the last took at least one byte. `Absent`
 /// exactly where the source tells that it does not hold the name; `Failed` exactly where its count of faults rose,
 /// at this name; `OutOfMemory` for want of memory.
 pub fn fetch<S: Source>(
@@ -43,6 +45,7 @@ pub fn fetch<S: Source>(
     ensures at { result ≡ Err FetchRefusal.Failed → FaultAt (S.held source.old) (S.fault_at source.new) (Some name.now) }
     ensures later { S.faults source.old ≤ S.faults source.new }
     ensures held { S.held source.new ≡ S.held source.old }
+    ensures acts { Does (IsReadOnce (record { name = name.now; longest = limit })) (S.acts source.old) (S.acts source.new) }
 {
     match source.begin(name) {
         Ok(true) => read_front(alloc, source, limit + 1),
@@ -52,6 +55,7 @@ pub fn fetch<S: Source>(
 }
 
 // The next bytes of the file that was begun, at most so many of them.
+#[tactic(auto, using(crate::proofs::Acts::none_yet))]
 fn read_front<S: Source>(
     alloc: Global,
     source: &mut S,
@@ -67,6 +71,7 @@ fn read_front<S: Source>(
     ensures at { IfErr result (λ e. e ≡ FetchRefusal.Failed → FaultAt (S.held source.old) (S.fault_at source.new) (S.begun source.old)) }
     ensures later { S.faults source.old ≤ S.faults source.new }
     ensures held { S.held source.new ≡ S.held source.old }
+    ensures acts { Does (AreReads most) (S.acts source.old) (S.acts source.new) }
 {
     let mut piece = [0; PIECE];
     let mut bytes = Vec::new(alloc);

@@ -1,5 +1,7 @@
 use Rattle.std.proofs.Common.{◌≡◌, ◌+◌, true, vec_len}
 use Rattle.std.specs.Io.KnownBytes.{Consumes}
+use Rattle.mp_outside.specs.Acts.{Does}
+use Rattle.mp_outside.proofs.Acts.{HaveTaken}
 use Rattle.mp_outside.proofs.reading.read_front.Given as goal
 
 -- what was taken so far is the beginning of what was left, and the room and it make up the whole room
@@ -11,6 +13,7 @@ invariant-loop-room g l = record {
   begun : g.S.Source.begun l.source ≡ g.S.Source.begun l.fn.source;
   took : Consumes (g.S.Source.left l.fn.source) (g.S.Source.left l.source) l.bytes.items;
   room : vec_len l.bytes + l.room ≡ l.fn.most;
+  acts : Does (HaveTaken (vec_len l.bytes)) (g.S.Source.acts l.fn.source) (g.S.Source.acts l.source);
 }
 
 abbrev pub decreases-loop-room : goal.decreases-loop-room
