@@ -1,0 +1,6 @@
+-- what a certificate says, and when it shows that no plan is cheaper
+pub mod Audited
+-- which certificates may be audited
+pub mod Fits
+-- what an audit finds
+pub mod Failures
