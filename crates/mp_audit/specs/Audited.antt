@@ -1,6 +1,6 @@
 -- Certificates that no plan is cheaper (Mugdan, Christen and Eriksson 2023, Optimality Certificates for Classical Planning:
 -- bounds that are consistent along each step), for a team whose agents search by themselves.
-use Rattle.std.specs.Prelude.{◌≡◌, ◌≢◌, ℕ, ◌+◌, ◌≤◌, ◌==◌, ◌&&◌, Bool, List, map, find, Contains}
+use Rattle.std.specs.Prelude.{◌≢◌, ℕ, ◌+◌, ◌≤◌, ◌==◌, ◌&&◌, Bool, List, map, find, Contains}
 use Rattle.std.specs.Cmp.Lexicographic.{pointwise}
 use Rattle.std.specs.List.{AllPairs}
 use Rattle.std.specs.Option.{option_map_or}

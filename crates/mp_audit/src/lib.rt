@@ -2,7 +2,9 @@
 #![tactic(auto)]
 
 mod certificate;
+mod laws;
 mod verdict;
 
 pub use certificate::{Bound, BoundList, Certificate, FactLists};
+pub use laws::no_plan_is_cheaper;
 pub use verdict::AuditVerdict;
