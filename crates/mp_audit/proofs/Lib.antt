@@ -6,3 +6,11 @@ pub mod BoundLemmas
 pub mod PotentialLemmas
 -- no plan is cheaper
 pub mod Soundness
+-- lists of failures that are empty
+pub mod EmptyLemmas
+-- entries that repeat earlier ones
+pub mod DoubleLemmas
+-- no failure where a certificate is audited, and none but there
+pub mod VerdictLemmas
+pub mod FailureLemmas
+pub mod HoldsLemmas

@@ -6,5 +6,5 @@ mod laws;
 mod verdict;
 
 pub use certificate::{Bound, BoundList, Certificate, FactLists};
-pub use laws::no_plan_is_cheaper;
+pub use laws::{failures_are_what_is_wrong, no_plan_is_cheaper};
 pub use verdict::AuditVerdict;
