@@ -14,3 +14,11 @@ pub mod DoubleLemmas
 pub mod VerdictLemmas
 pub mod FailureLemmas
 pub mod HoldsLemmas
+-- pairs of items of joined and mapped lists
+pub mod PairLemmas
+-- what a run is worth in the world after its last cut
+pub mod CutLemmas
+-- entries that were noted are those after the cut
+pub mod NotedLemmas
+-- the bounds of a last cut pass the audit
+pub mod PassingLemmas

@@ -4,3 +4,5 @@ pub mod Audited
 pub mod Fits
 -- what an audit finds
 pub mod Failures
+-- what a finished run shows at its last cut
+pub mod LastCut

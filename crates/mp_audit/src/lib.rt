@@ -2,9 +2,11 @@
 #![tactic(auto)]
 
 mod certificate;
+mod complete;
 mod laws;
 mod verdict;
 
 pub use certificate::{Bound, BoundList, Certificate, FactLists};
+pub use complete::last_cuts_pass_the_audit;
 pub use laws::{failures_are_what_is_wrong, no_plan_is_cheaper};
 pub use verdict::AuditVerdict;
