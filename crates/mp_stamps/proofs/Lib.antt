@@ -10,3 +10,7 @@ pub mod Histories
 pub mod Turns
 -- a merge by turns, from the first to the last
 pub mod ByTurns
+-- what goes over to a log
+pub mod Moves
+-- what holds of a log
+pub mod OfLogs

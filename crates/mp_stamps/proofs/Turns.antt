@@ -24,16 +24,16 @@ Earlier a b = a.stamp < b.stamp
 -- ---- the entries up to a stamp, and the others
 
 module _ (last : ℕ) where
-  ended : (s : Stamped) (ss : List Stamped) → nat_lt last s.stamp ≡ true → up_to last (s ∷ ss) ≡ []
+  pub ended : (s : Stamped) (ss : List Stamped) → nat_lt last s.stamp ≡ true → up_to last (s ∷ ss) ≡ []
   ended s ss e = rw e refl
 
-  taken : (s : Stamped) (ss : List Stamped) → nat_lt last s.stamp ≡ false → up_to last (s ∷ ss) ≡ s ∷ up_to last ss
+  pub taken : (s : Stamped) (ss : List Stamped) → nat_lt last s.stamp ≡ false → up_to last (s ∷ ss) ≡ s ∷ up_to last ss
   taken s ss e = rw e refl
 
-  kept : (s : Stamped) (ss : List Stamped) → nat_lt last s.stamp ≡ true → left_behind last (s ∷ ss) ≡ s ∷ ss
+  pub kept : (s : Stamped) (ss : List Stamped) → nat_lt last s.stamp ≡ true → left_behind last (s ∷ ss) ≡ s ∷ ss
   kept s ss e = rw e refl
 
-  passed : (s : Stamped) (ss : List Stamped) → nat_lt last s.stamp ≡ false → left_behind last (s ∷ ss) ≡ left_behind last ss
+  pub passed : (s : Stamped) (ss : List Stamped) → nat_lt last s.stamp ≡ false → left_behind last (s ∷ ss) ≡ left_behind last ss
   passed s ss e = rw e refl
 
   one_split : (s : Stamped) (ss : List Stamped) (b : Bool) → nat_lt last s.stamp ≡ b → up_to last ss ++ left_behind last ss ≡ ss

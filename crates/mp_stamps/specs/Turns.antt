@@ -1,5 +1,5 @@
 -- A merge by turns: the list that begins with the least stamp gives its entries until another list's turn comes.
-use Rattle.std.specs.Prelude.{◌≡◌, ◌<◌, ◌≤◌, ℕ, All, List, [], ◌∷◌, ◌++◌, length, nat_lt, Option, Some, None, if◌then◌else◌}
+use Rattle.std.specs.Prelude.{◌≡◌, ◌<◌, ◌≤◌, ℕ, All, List, [], ◌∷◌, ◌++◌, length, nat_lt, Bool, false, not, Option, Some, None, if◌then◌else◌}
 use Rattle.mp_stamps.specs.declared.merging.Turn.{Turn}
 use Rattle.mp_stamps.specs.declared.stamped.Stamped.{Stamped}
 
@@ -16,6 +16,16 @@ left_behind last (s ∷ ss) = if nat_lt last s.stamp then s ∷ ss else left_beh
 abbrev pub Begins : ℕ → List Stamped → Type 0
 Begins stamp [] = ⊥
 Begins stamp (s ∷ ss) = s.stamp ≡ stamp
+
+-- the stamp with which a list begins, none where it has no entry
+abbrev pub BeginsWith : Option ℕ → List Stamped → Type 0
+BeginsWith None list = list ≡ []
+BeginsWith (Some stamp) list = Begins stamp list
+
+-- a list begins up to a stamp
+abbrev pub begins_up_to : ℕ → List Stamped → Bool
+begins_up_to last [] = false
+begins_up_to last (s ∷ ss) = not (nat_lt last s.stamp)
 
 -- no list begins up to a stamp, or before it
 abbrev pub BeginsAfter : ℕ → List Stamped → Type 0

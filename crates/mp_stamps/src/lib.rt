@@ -2,7 +2,9 @@
 #![tactic(auto)]
 
 mod merging;
+mod moving;
 mod stamped;
 
 pub use merging::merge_stamped;
+pub use moving::merge_moved;
 pub use stamped::{Stamped, StampedList, StampedLists};

@@ -14,13 +14,13 @@ use mp_messages::Log;
 
 /// Whose turn it is, and up to which stamp.
 #[derive(Clone, Copy)]
-struct Turn {
+pub(crate) struct Turn {
     /// The place of the list that begins with the least stamp, the first one of several.
-    at: usize,
+    pub(crate) at: usize,
     /// That stamp.
-    stamp: u64,
+    pub(crate) stamp: u64,
     /// The greatest stamp up to which no other list's turn comes.
-    last: u64,
+    pub(crate) last: u64,
 }
 
 /// The log of all lists, in the order of stamps, and of agents where stamps are equal: a legal history, of
@@ -52,7 +52,7 @@ fn merged(lists: &StampedLists) -> Result<Log, OutOfMemory>
 }
 
 /// The number of all entries.
-fn count_of(lists: &[StampedList]) -> usize {
+pub(crate) fn count_of(lists: &[StampedList]) -> usize {
     let mut count: usize = 0;
     for list in lists {
         count = count.saturating_add(list.len());
@@ -93,7 +93,7 @@ fn turn_with(turn: Option<Turn>, at: usize, rest: &[Stamped]) -> Option<Turn>
 }
 
 /// The turn among some lists and one more behind them that begins with a stamp.
-fn turn_with_stamp(turn: Option<Turn>, at: usize, stamp: u64) -> Turn
+pub(crate) fn turn_with_stamp(turn: Option<Turn>, at: usize, stamp: u64) -> Turn
     ensures { (rests : List (List Item)) (list : List Item) → length rests ≡ at → Begins stamp list
         → IsTurn rests turn → IsTurnOf (rests ++ list ∷ []) result }
 {

@@ -123,6 +123,13 @@ impl StampedLists {
         std::mem::replace(&mut self.lists[at], list)
     }
 
+    /// The lists themselves, that of agent 1 first.
+    pub(crate) fn into_lists(self) -> Vec<StampedList>
+        ensures { result.items ≡ self }
+    {
+        self.lists
+    }
+
     pub(crate) fn allocator(&self) -> Global {
         *self.lists.allocator()
     }
