@@ -14,3 +14,5 @@ pub mod ByTurns
 pub mod Moves
 -- what holds of a log
 pub mod OfLogs
+-- worked lists fit each other
+pub mod Examples

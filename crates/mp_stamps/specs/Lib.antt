@@ -8,3 +8,5 @@ pub mod Merged
 pub mod Sorting
 -- a merge by turns
 pub mod Turns
+-- worked lists
+pub mod Examples

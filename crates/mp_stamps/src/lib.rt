@@ -4,6 +4,8 @@
 mod merging;
 mod moving;
 mod stamped;
+#[cfg(test)]
+mod tests;
 
 pub use merging::merge_stamped;
 pub use moving::merge_moved;
