@@ -1,7 +1,7 @@
 //! The name of a step's action and its arguments.
 
 ghost use Rattle.std.specs.Prelude.{◌≡◌, ◌∷◌, [], ◌==◌, ◌≤◌, ◌<◌, IfOk, IfSome, length, not};
-ghost use Rattle.std.specs.List.{list_all, prefix_len, slice_split};
+ghost use Rattle.std.specs.List.{count_by, list_all, prefix_len, slice_split};
 ghost use Rattle.std.specs.Option.{option_map};
 ghost use Rattle.mp_factor.specs.Kinds.{is_name as is_name_text};
 ghost use Rattle.mp_factor.specs.Words.{is_letter as is_letter_byte, is_name_byte as is_name_byte_of, begins_with_letter as begins_with_letter_text};
@@ -87,11 +87,34 @@ pub(crate) fn first_word(text: &[u8]) -> (&[u8], Option<&[u8]>)
     }
 }
 
+/// How many blanks a text has.
+fn count_blanks(text: &[u8]) -> usize
+    ensures { result ≡ count_by is_blank text.now }
+{
+    let mut count = 0;
+    for byte in text {
+        if *byte == b' ' {
+            count += 1;
+        }
+    }
+    count
+}
+
+/// The empty list, with memory for the names of a text.
+fn room_for(alloc: Global, text: Option<&[u8]>) -> Result<NameList, OutOfMemory>
+    ensures { IfOk result (λ names. names ≡ []) }
+{
+    match text {
+        Some(words) => List::with_capacity(alloc, count_blanks(words).saturating_add(1)),
+        None => Ok(List::new(alloc)),
+    }
+}
+
 /// The names that the words of a text are, unless one is none.
 pub(crate) fn names_in(alloc: Global, text: Option<&[u8]>) -> Result<Option<NameList>, OutOfMemory>
     ensures { IfOk result (λ names. names ≡ if_names (words_left (option_map (λ x. x.now) text.entry))) }
 {
-    let mut names = List::new(alloc);
+    let mut names = room_for(alloc, text)?;
     let mut rest = text;
     while let Some(left) = rest {
         let (word, later) = first_word(left);
