@@ -1,0 +1,29 @@
+//! How a call ends.
+
+/// How a call of `maplan_explain` ends.
+#[derive(Clone, Copy, Debug, PartialEq, Eq)]
+pub enum Ending {
+    /// What was asked for is printed, and nothing is wrong with what it is about.
+    Fine,
+    /// `maplan` refuses the words that it is about, and what is wrong with them is printed.
+    Faulty,
+    /// The words are no command of `maplan_explain`.
+    Words,
+    /// A write to the output failed.
+    Write,
+    /// No memory was left.
+    Memory,
+}
+
+impl Ending {
+    /// The status that the program ends with.
+    pub fn code(self) -> u8 {
+        match self {
+            Ending::Fine => 0,
+            Ending::Faulty => 1,
+            Ending::Words => 3,
+            Ending::Write => 7,
+            Ending::Memory => 8,
+        }
+    }
+}
