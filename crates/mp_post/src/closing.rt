@@ -13,7 +13,7 @@ use crate::desk::Desk;
 use mp_list::{Copied, List, OutOfMemory};
 use mp_messages::Log;
 use mp_post_rule::{Posts, look_at_lists};
-use mp_stamps::{StampedList, StampedLists, merge_stamped};
+use mp_stamps::{StampedList, StampedLists, merge_moved, merge_stamped};
 use std::alloc::Global;
 
 /// What each agent signed, without stamps, that of agent 1 first.
@@ -43,8 +43,25 @@ fn all_entries(alloc: Global, lists: &StampedLists) -> Result<Lists, OutOfMemory
 
 impl Desk {
     /// The log of all that was signed, merged by stamps, of a desk that holds all agents: each agent's part of it is what it
-    /// signed. Refuses only for want of memory.
-    pub fn log(&mut self, posts: &Posts) -> Result<Log, OutOfMemory>
+    /// signed. The desk is gone, and its lists' entries go over to the log, without a copy of any. Refuses only for want of
+    /// memory.
+    pub fn into_log(self, posts: &Posts) -> Result<Log, OutOfMemory>
+        requires posts { ArePosts posts.now.shared.table_id posts.now.shared.key }
+        requires desk { IsDeskOf posts.now.shared.table_id posts.now.shared.key self }
+        requires all { HoldsAll posts.now.shared.key self.view }
+        ensures merged { IfOk result (Merged (lists_of self.view)) }
+        ensures legal { IfOk result IsHistory }
+        ensures parts { IfOk result (λ log. (agent : ℕ) → IsAgentOf posts.now.shared.key agent
+            → part log agent ≡ entries (list_at self.view agent)) }
+        ensures agents { IfOk result (All (λ e. IsAgentOf posts.now.shared.key (agent_of e))) }
+    {
+        let (mut seat, lists, _) = self.into_parts();
+        look_at_lists(posts, &mut seat);
+        merge_moved(lists)
+    }
+
+    /// The log of all that was signed, as `into_log` gives it, where the desk stays as it is.
+    fn log(&mut self, posts: &Posts) -> Result<Log, OutOfMemory>
         requires posts { ArePosts posts.now.shared.table_id posts.now.shared.key }
         requires desk { IsDeskOf posts.now.shared.table_id posts.now.shared.key self.old }
         requires all { HoldsAll posts.now.shared.key self.old.view }

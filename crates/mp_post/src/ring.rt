@@ -7,7 +7,6 @@ ghost use Rattle.mp_post_rule.specs.Table.{ArePosts};
 ghost use Rattle.mp_post.specs.Desks.{HoldsParty, IsDeskOf};
 
 use crate::halting::agent_at;
-use crate::tests::closed;
 use crate::{Batch, Desk, Posts, make};
 use mp_list::OutOfMemory;
 use mp_messages::{Bytes, Entry, Log};
@@ -327,7 +326,10 @@ fn ended(posts: Posts, desk: Desk) -> Option<usize>
     if !holds_all(&desk) {
         return None;
     }
-    closed(posts, desk)
+    match desk.into_log(&posts) {
+        Ok(log) => Some(log.len()),
+        Err(_) => None,
+    }
 }
 
 /// How many messages were taken in order by threads, and how many entries the log has in the end.

@@ -113,7 +113,7 @@ fn merged<R: Wait>(rt: &R, posts: &Posts, first: Desk, second: Desk, third: Desk
 }
 
 /// How many entries the log has in the end.
-pub(crate) fn closed(posts: Posts, desk: Desk) -> Option<usize>
+fn closed(posts: Posts, desk: Desk) -> Option<usize>
     requires posts { ArePosts posts.shared.table_id posts.shared.key }
     requires desk { IsDeskOf posts.shared.table_id posts.shared.key desk }
     requires all { HoldsAll posts.shared.key desk.view }

@@ -75,9 +75,9 @@ pub(crate) fn closed<H: Heuristic>(
     parts_make_a_log();
     no_receipt_is_bad();
     let Answered { work, served } = answered;
-    let Work { nodes, mut desk } = work;
+    let Work { nodes, desk } = work;
     let machines = machines_of(alloc, nodes)?;
-    let log = desk.log(&posts)?;
+    let log = desk.into_log(&posts)?;
     if !is_ended(served) {
         unreachable!()
     }

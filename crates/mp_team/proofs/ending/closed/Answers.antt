@@ -7,8 +7,8 @@ use Rattle.mp_team.proofs.Ended.{done_all, has_finished, history, numbered, reco
 use Rattle.mp_team.proofs.NoneBad.{all_ended, ended, has_served, holds, same, served_of}
 use Rattle.mp_team.proofs.ending.closed.Goals as goal
 
-pub log-requires-clause-all : goal.log-requires-clause-all
-log-requires-clause-all g c =
+pub into_log-requires-clause-all : goal.into_log-requires-clause-all
+into_log-requires-clause-all g c =
     let shared = c.args.posts.shared in
     holds g.H.Heuristic.value shared.table_id shared.key c.requires.all.0 c.args.answered c.requires.all.1 c.requires.enough
 
