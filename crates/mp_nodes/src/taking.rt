@@ -94,6 +94,18 @@ impl<H: Heuristic> Node<H> {
         }
     }
 
+    /// After a message of an agent was taken, whose post had counted so many before: whether it was the last one there for this node, which it
+    /// notes then, with the receipt counted. Where the post has counted more by now, it is looked at again.
+    fn took_last(&mut self, desk: &Desk, from: Agent, count: u64) -> bool
+        ensures { self.new ≡ self.old }
+    {
+        if desk.has_more() {
+            return false;
+        }
+        self.note_none(from, count.wrapping_add(1));
+        true
+    }
+
     /// Takes the messages of another agent, as long as there are any: whether there was one.
     fn take_all<R: Wait, G: Gate>(
         &mut self,
@@ -110,8 +122,14 @@ impl<H: Heuristic> Node<H> {
     {
         let mut took = false;
         for _ in rt.forever() {
+            let count = count_at(posts, from);
             match self.take_one(rt, posts, desk, from, gate) {
-                Ok(true) => took = true,
+                Ok(true) => {
+                    took = true;
+                    if self.took_last(desk, from, count) {
+                        return Ok(true);
+                    }
+                }
                 Ok(false) => return Ok(took),
                 Err(stop) => return Err(stop),
             }

@@ -54,4 +54,4 @@ marks_send : IsSend (as_row (vec_field bool heap ghosts))
 marks_send = as_row_send (vec_field bool heap ghosts) (vec_crosses.the_send bool heap ghosts (search sendable) heap_crosses.the_send frees)
 
 pub desk_sends : IsSend desk
-desk_sends = view_send _ _ _ _ _ (declared_send inside_type (seat_sends, (lists_send, (marks_send, tt))))
+desk_sends = view_send _ _ _ _ _ (declared_send inside_type (seat_sends, (lists_send, (marks_send, (search sendable, tt)))))

@@ -17,6 +17,8 @@ pub struct Desk {
     pub(crate) lists: StampedLists,
     /// Whom the desk holds.
     pub(crate) held: Vec<bool>,
+    /// Whether another message waited behind the one that was handed over last.
+    pub(crate) more: bool,
 }
 
 impl Drop for Desk {
@@ -25,6 +27,7 @@ impl Drop for Desk {
             seat: _,
             lists: _,
             held: _,
+            more: _,
         } = self;
     }
 }
@@ -48,8 +51,19 @@ impl Desk {
         ensures free { IsFree result.0.me }
         ensures lists { HasLists result.1 result.2.items result.0.me.0 }
     {
-        let Desk { seat, lists, held } = self;
+        let Desk {
+            seat,
+            lists,
+            held,
+            more: _,
+        } = self;
         (seat, lists, held)
+    }
+
+    /// Whether another message waited for the party that a turn of the desk handed one over to last, behind that one, at the same post.
+    /// It only says when it is worth while to look there again.
+    pub fn has_more(&self) -> bool {
+        self.more
     }
 }
 

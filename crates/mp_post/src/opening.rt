@@ -36,5 +36,13 @@ pub fn make(alloc: Global, agents: u16) -> Result<(Posts, Desk), OutOfMemory>
     let lists = StampedLists::new(alloc, count)?;
     let held = marks(alloc, count, true)?;
     let (posts, seat) = open_posts(alloc, agents)?;
-    Ok((posts, Desk { seat, lists, held }))
+    Ok((
+        posts,
+        Desk {
+            seat,
+            lists,
+            held,
+            more: false,
+        },
+    ))
 }

@@ -89,7 +89,12 @@ impl Desk {
             &mut held,
             party,
         );
-        Ok(Desk { seat, lists, held })
+        Ok(Desk {
+            seat,
+            lists,
+            held,
+            more: false,
+        })
     }
 
     /// A desk with the parties of both, which has seen whom either has seen halted. It takes no memory, and never

@@ -13,13 +13,20 @@ ghost use Rattle.mp_post.specs.Turns.{HasFoundNone, HasTakenOldest};
 use crate::locks::{give_back, take_turn};
 use crate::own::{add_receipt, stamp_after};
 use mp_messages::Bytes;
-use mp_post_rule::{Kept, PostSeat, Posts, release_turn, sign_receipt};
+use mp_post_rule::{Kept, PostSeat, Posts, Queues, release_turn, sign_receipt};
 use mp_sets::Agent;
 use mp_stamps::Stamped;
 use std::sync::Wait;
 
+/// Whether more than one message waits for an agent.
+fn more_than_one(waiting: &Queues, agent: Agent) -> bool
+    requires { agent - 1 < length waiting.now }
+{
+    waiting.waiting(usize::from(agent.number()) - 1) > 1
+}
+
 /// Takes the oldest message that waits for a party at a post whose turn the seat has, signs its receipt, and
-/// releases the turn. None exactly where no message waits. It takes no memory.
+/// releases the turn. None exactly where no message waits. It notes whether there are more, and takes no memory.
 fn hand_over(
     posts: &Posts,
     seat: &mut PostSeat,
@@ -27,6 +34,7 @@ fn hand_over(
     by: Agent,
     from: Agent,
     mut kept: Kept,
+    more: &mut bool,
 ) -> Option<Bytes>
     requires posts { ArePosts posts.now.shared.table_id posts.now.shared.key }
     requires table { seat.old.table_id ≡ posts.now.shared.table_id }
@@ -48,6 +56,7 @@ fn hand_over(
     ensures own { MatchOption result (own.new.items ≡ own.old.items)
         (λ _. own.new.items ≡ own.old.items ++ receipt_of (clock_is own.old.items) by from (waiting_for by kept)) }
 {
+    *more = more_than_one(&kept.waiting, by);
     match kept.waiting.pop(usize::from(by.number()) - 1) {
         Some(message) => {
             let stamp = stamp_after(own.as_slice(), &message);
@@ -63,7 +72,7 @@ fn hand_over(
 }
 
 /// Takes the turn of a sender's post, and the oldest message that waits there for a party. None exactly where no
-/// message waits. It takes no memory.
+/// message waits. It notes whether there are more, and takes no memory.
 pub(crate) fn receive<R: Wait>(
     rt: &R,
     posts: &Posts,
@@ -71,6 +80,7 @@ pub(crate) fn receive<R: Wait>(
     own: &mut Vec<Stamped>,
     by: Agent,
     from: Agent,
+    more: &mut bool,
 ) -> Option<Bytes>
     requires posts { ArePosts posts.now.shared.table_id posts.now.shared.key }
     requires table { seat.old.table_id ≡ posts.now.shared.table_id }
@@ -88,5 +98,5 @@ pub(crate) fn receive<R: Wait>(
     ensures list { HasNewList by own.new.items seat.old.me.0 seat.new.me.0 }
 {
     let kept = take_turn(rt, posts, seat, from);
-    hand_over(posts, seat, own, by, from, kept)
+    hand_over(posts, seat, own, by, from, kept, more)
 }

@@ -28,6 +28,7 @@ fn halves<R: Wait, G: Gate>(
     by: Agent,
     batch: Batch,
     from: Option<Agent>,
+    more: &mut bool,
     gate: &G,
 ) -> Result<Option<Bytes>, TurnRefusal>
     requires posts { ArePosts posts.now.shared.table_id posts.now.shared.key }
@@ -46,7 +47,7 @@ fn halves<R: Wait, G: Gate>(
     sign(rt, posts, seat, own, by, batch, gate)?;
     match from {
         None => Ok(None),
-        Some(from) => Ok(receive(rt, posts, seat, own, by, from)),
+        Some(from) => Ok(receive(rt, posts, seat, own, by, from, more)),
     }
 }
 
@@ -59,6 +60,7 @@ fn both_halves<R: Wait, G: Gate>(
     by: Agent,
     batch: Batch,
     from: Option<Agent>,
+    more: &mut bool,
     gate: &G,
 ) -> Result<Option<Bytes>, TurnRefusal>
     requires posts { ArePosts posts.now.shared.table_id posts.now.shared.key }
@@ -80,7 +82,7 @@ fn both_halves<R: Wait, G: Gate>(
     ensures holds { (agent : ℕ) → HoldsParty agent seat.old.me.0 → HoldsParty agent seat.new.me.0 }
     ensures list { HasNewList by own.new.items seat.old.me.0 seat.new.me.0 }
 {
-    halves(rt, posts, seat, own, by, batch, from, gate)
+    halves(rt, posts, seat, own, by, batch, from, more, gate)
 }
 
 impl Desk {
@@ -114,7 +116,17 @@ impl Desk {
     {
         let alloc = *self.held.allocator();
         let mut own = take_own(alloc, &mut self.lists, by);
-        let answer = both_halves(rt, posts, &mut self.seat, &mut own, by, batch, from, gate);
+        let answer = both_halves(
+            rt,
+            posts,
+            &mut self.seat,
+            &mut own,
+            by,
+            batch,
+            from,
+            &mut self.more,
+            gate,
+        );
         put_own(&mut self.lists, by, own);
         answer
     }

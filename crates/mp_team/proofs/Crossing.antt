@@ -46,7 +46,7 @@ padded_slot = padded Slot.the_row slot
 inside : IsSend Inside.the_row
 inside =
     let S = shape Inside.the_type in
-    let all : AllSend S.fields = (search (padded_slot, seat, sendable), (search (lists, sendable), (search (global, heap.frees, sendable, vec), tt))) in
+    let all : AllSend S.fields = (search (padded_slot, seat, sendable), (search (lists, sendable), (search (global, heap.frees, sendable, vec), (search sendable, tt)))) in
     recorded_send _ _ (Inside.the_type).to (Inside.the_type).to_one (struct_send S all)
 
 pub desk_crosses : IsSend Desk.the_row
