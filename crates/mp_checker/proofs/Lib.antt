@@ -18,11 +18,13 @@ pub mod CostLemmas
 pub mod VerdictLemmas
 -- the start and the goals, agent by agent
 pub mod StartLemmas
--- facts that are made false
-pub mod ChangeLemmas
 -- one step of one agent
 pub mod TakenLemmas
 -- places in a list of facts that grows
 pub mod PlaceLemmas
 -- steps in numbers
 pub mod StepLemmas
+-- which facts are true, by the marks of their numbers
+pub mod MarkLemmas
+-- literals that are looked at one after another
+pub mod AskLemmas

@@ -13,7 +13,7 @@ use Rattle.mp_checker.specs.declared.numbered.NumberedLiteral.{NumberedLiteral}
 use Rattle.mp_checker.specs.declared.numbered.ObjectNumber.{ObjectNumber}
 use Rattle.mp_checker.specs.At.{fact_at, is_true}
 use Rattle.mp_checker.specs.Keys.{same_numbers}
-use Rattle.mp_checker.specs.Places.{place, IsPlace, ArePlaces, HasGrown, asked_in}
+use Rattle.mp_checker.specs.Places.{place, IsPlace, ArePlaces, HasGrown, asked_in, asked_facts}
 use Rattle.mp_checker.proofs.SameNumbers.{Decides-numbers}
 
 -- ---- lists that grow
@@ -27,19 +27,19 @@ grown_again a b c g h = record {
   is = h.is ∙ ap (λ xs. xs ++ h.more) g.is ∙ append_assoc a g.more h.more;
 }
 
-both_pass : (a b : Bool) → a ≡ true → b ≡ true → (a && b) ≡ true
+pub both_pass : (a b : Bool) → a ≡ true → b ≡ true → (a && b) ≡ true
 both_pass a b p q = ap (λ x. x && b) p ∙ q
 
-first_passes : (a b : Bool) → (a && b) ≡ true → a ≡ true
+pub first_passes : (a b : Bool) → (a && b) ≡ true → a ≡ true
 first_passes true b h = refl
 first_passes false b h = absurd (false≢true h)
 
-other_passes : (a b : Bool) → (a && b) ≡ true → b ≡ true
+pub other_passes : (a b : Bool) → (a && b) ≡ true → b ≡ true
 other_passes true b h = h
 other_passes false b h = absurd (false≢true h)
 
 -- a fact that is there stays there
-any_more : (p : FactNumbers → Bool) (xs more : List FactNumbers) → list_any p xs ≡ true → list_any p (xs ++ more) ≡ true
+pub any_more : (p : FactNumbers → Bool) (xs more : List FactNumbers) → list_any p xs ≡ true → list_any p (xs ++ more) ≡ true
 any_more p [] more h = absurd (false≢true h)
 any_more p (x ∷ xs) more h =
     elim (cases_Bool (p x)) [
@@ -50,7 +50,7 @@ any_more p (x ∷ xs) more h =
     ]
 
 -- at its place
-place_stays : (p : FactNumbers → Bool) (xs more : List FactNumbers) → list_any p xs ≡ true → position_or_len p (xs ++ more) ≡ position_or_len p xs
+pub place_stays : (p : FactNumbers → Bool) (xs more : List FactNumbers) → list_any p xs ≡ true → position_or_len p (xs ++ more) ≡ position_or_len p xs
 place_stays p [] more h = absurd (false≢true h)
 place_stays p (x ∷ xs) more h =
     elim (cases_Bool (p x)) [
@@ -123,11 +123,7 @@ pub atoms_all : (agent : ℕ) (args : List ObjectNumber) (atoms : List NumberedA
     → ArePlaces facts (map (fact_at agent args) (take i atoms)) made → ArePlaces facts (map (fact_at agent args) atoms) made
 atoms_all agent args atoms i facts made past a = subst (λ as'. ArePlaces facts (map (fact_at agent args) as') made) (take_all i atoms past) a
 
--- the facts that literals ask for, or else against
-abbrev pub asked_facts : ℕ → List ObjectNumber → Bool → List NumberedLiteral → List FactNumbers
-asked_facts agent args positive literals = map (λ l. fact_at agent args l.atom) (filter (asked_in positive) literals)
-
-asked_next : (agent : ℕ) (args : List ObjectNumber) (positive : Bool) (before : List NumberedLiteral) (l : NumberedLiteral)
+pub asked_next : (agent : ℕ) (args : List ObjectNumber) (positive : Bool) (before : List NumberedLiteral) (l : NumberedLiteral)
     → asked_facts agent args positive (before ++ l ∷ []) ≡ asked_facts agent args positive before ++ asked_facts agent args positive (l ∷ [])
 asked_next agent args positive [] l = refl
 asked_next agent args positive (k ∷ ks) l =
@@ -142,43 +138,12 @@ asked_next agent args positive (k ∷ ks) l =
           ∙ sym (ap (λ b. map (λ (m : NumberedLiteral). fact_at agent args m.atom) (cond b (k ∷ filter (asked_in positive) ks) (filter (asked_in positive) ks)) ++ asked_facts agent args positive (l ∷ [])) fails)
     ]
 
-asked_at_place : (agent : ℕ) (args : List ObjectNumber) (positive : Bool) (literals : List NumberedLiteral) (i : ℕ) (l : NumberedLiteral)
-    → i < length literals → l ≡ get_or literals i l
-    → asked_facts agent args positive (take (i + 1) literals) ≡ asked_facts agent args positive (take i literals) ++ asked_facts agent args positive (l ∷ [])
-asked_at_place agent args positive literals i l lt is =
-    ap (asked_facts agent args positive) (one_more literals i l lt is) ∙ asked_next agent args positive (take i literals) l
-
--- a literal that passes, behind those facts that were first
-pub literal_more : (agent : ℕ) (args : List ObjectNumber) (positive : Bool) (literals : List NumberedLiteral) (i : ℕ) (l : NumberedLiteral)
-    (old new first : List FactNumbers) (made : List ℕ) (n : ℕ)
-    → i < length literals → l ≡ get_or literals i l → asked_in positive l ≡ true → HasGrown old new
-    → ArePlaces old (first ++ asked_facts agent args positive (take i literals)) made → IsPlace new (fact_at agent args l.atom) n
-    → ArePlaces new (first ++ asked_facts agent args positive (take (i + 1) literals)) (made ++ n ∷ [])
-literal_more agent args positive literals i l old new first made n lt is passes g so_far p =
-    let before = asked_facts agent args positive (take i literals) in
-    let one : asked_facts agent args positive (l ∷ []) ≡ fact_at agent args l.atom ∷ [] =
-    ap (λ b. map (λ (m : NumberedLiteral). fact_at agent args m.atom) (cond b (l ∷ []) [])) passes in
-    subst (λ these. ArePlaces new these (made ++ n ∷ []))
-    (append_assoc first before (fact_at agent args l.atom ∷ [])
-    ∙ ap (λ fs. first ++ (before ++ fs)) (sym one)
-    ∙ ap (λ fs. first ++ fs) (sym (asked_at_place agent args positive literals i l lt is)))
-    (one_place new (first ++ before) made (fact_at agent args l.atom) n (places_stay old new (first ++ before) made g so_far) p)
-
--- one that doesn't
-pub literal_same : (agent : ℕ) (args : List ObjectNumber) (positive : Bool) (literals : List NumberedLiteral) (i : ℕ) (l : NumberedLiteral)
-    (facts first : List FactNumbers) (made : List ℕ)
-    → i < length literals → l ≡ get_or literals i l → asked_in positive l ≡ false
-    → ArePlaces facts (first ++ asked_facts agent args positive (take i literals)) made
-    → ArePlaces facts (first ++ asked_facts agent args positive (take (i + 1) literals)) made
-literal_same agent args positive literals i l facts first made lt is fails so_far =
-    let before = asked_facts agent args positive (take i literals) in
-    let none : asked_facts agent args positive (l ∷ []) ≡ [] =
-    ap (λ b. map (λ (m : NumberedLiteral). fact_at agent args m.atom) (cond b (l ∷ []) [])) fails in
-    subst (λ these. ArePlaces facts (first ++ these) made)
-    (sym (asked_at_place agent args positive literals i l lt is ∙ ap (λ fs. before ++ fs) none ∙ append-nil before)) so_far
-
-pub literals_all : (agent : ℕ) (args : List ObjectNumber) (positive : Bool) (literals : List NumberedLiteral) (i : ℕ) (facts first : List FactNumbers) (made : List ℕ)
-    → length literals ≤ i → ArePlaces facts (first ++ asked_facts agent args positive (take i literals)) made
-    → ArePlaces facts (first ++ asked_facts agent args positive literals) made
-literals_all agent args positive literals i facts first made past a =
-    subst (λ ls. ArePlaces facts (first ++ asked_facts agent args positive ls) made) (take_all i literals past) a
+-- facts and others behind them
+pub joined_places : (facts these others : List FactNumbers) (numbers more : List ℕ) → ArePlaces facts these numbers → ArePlaces facts others more
+    → ArePlaces facts (these ++ others) (numbers ++ more)
+joined_places facts these others numbers more a b = record {
+  are = (λ i. a.are i ++ b.are i) ∙ sym (map-append (place facts) these others);
+  there =
+      list_all-append (is_true facts) these others
+      ∙ both_pass (list_all (is_true facts) these) (list_all (is_true facts) others) a.there b.there;
+}

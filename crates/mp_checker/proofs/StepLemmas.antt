@@ -1,9 +1,8 @@
 -- Steps in numbers: of an action, of a team, and of a plan.
 use Rattle.std.proofs.Common.{◌≡◌, ℕ, suc, zero, ◌+◌, ◌<◌, ◌≤◌, Bool, true, false, cond, not, ◌||◌, ◌&&◌, List, [], ◌∷◌, ◌++◌, map, length, get_or, take, Option, Some, None, refl, sym, ap, subst, ◌∙◌, inl, inr}
 use Rattle.std.specs.Prelude.{filter, slice_get, option_and_then}
-use Rattle.std.specs.List.{list_all, find, flat_map}
+use Rattle.std.specs.List.{list_all, flat_map}
 use Rattle.std.specs.Option.{option_map}
-use Rattle.std.specs.Str.{bytes_eq}
 use Rattle.std.proofs.lemmas.Bool.{false≢true, cases_Bool}
 use Rattle.std.proofs.lemmas.List.{map-append, take_all}
 use Rattle.std.proofs.lemmas.Option.{same_Some, none-some}
@@ -24,18 +23,21 @@ use Rattle.mp_checker.specs.declared.fact.FactNumbers.{FactNumbers}
 use Rattle.mp_checker.specs.declared.numbered.NumberedAction.{NumberedAction}
 use Rattle.mp_checker.specs.declared.numbered.NumberedLiteral.{NumberedLiteral}
 use Rattle.mp_checker.specs.declared.numbered.ObjectNumber.{ObjectNumber}
+use Rattle.mp_checker.specs.declared.room.StepPlaces.{StepPlaces}
 use Rattle.mp_checker.specs.declared.step.NumberedStep.{NumberedStep}
+use Rattle.mp_checker.specs.declared.taken.Taken.{Taken}
+use Rattle.mp_checker.specs.declared.taken.Taken.TheVariants.{NoAction, Fails, Done}
 use Rattle.mp_checker.specs.AgentView.{AgentView, views_from, at_agent, names_of, agent_of, factor_of}
 use Rattle.mp_checker.specs.At.{fact_at, numbers_of, is_true}
 use Rattle.mp_checker.specs.Found.{IsActionOf}
 use Rattle.mp_checker.specs.Numbering.{object_number, numbered_literal}
-use Rattle.mp_checker.specs.Places.{place, ArePlaces, HasGrown, asked_in}
-use Rattle.mp_checker.specs.Stepped.{AreFactsAt, IsStepped}
+use Rattle.mp_checker.specs.Places.{place, ArePlaces, HasGrown, AreAsked, asked_in, asked_facts}
+use Rattle.mp_checker.specs.Stepped.{AreFactsAt, IsStepped, step_in}
 use Rattle.mp_checker.specs.Steps.{AreNumbered, changes_fact, in_numbers, numbered_step}
-use Rattle.mp_checker.specs.Taken.{IsBound}
+use Rattle.mp_checker.specs.Taken.{IfDone, IsBound}
 use Rattle.mp_checker.proofs.AtomsAt.{atom_at, atoms_at, known_facts}
 use Rattle.mp_checker.proofs.CoversLemmas.{covers_left, covers_right}
-use Rattle.mp_checker.proofs.PlaceLemmas.{asked_facts, no_places, places_stay, same_place}
+use Rattle.mp_checker.proofs.PlaceLemmas.{joined_places, places_stay, same_place}
 use Rattle.mp_checker.proofs.SameNumbers.{Decides-fact, IsKnown, AreKnownFacts, same_known}
 use Rattle.mp_checker.proofs.TakenLemmas.{the_instance}
 use Rattle.mp_checker.proofs.TeamLemmas.{view_of, part_of}
@@ -101,42 +103,30 @@ asked_named names agent factor params objects positive (l ∷ ls) long =
           ∙ sym (ap (λ b. map (numbers_of names) (facts_of agent factor params objects (map (λ (k : Literal). k.atom) (cond b (l ∷ filter p ls) (filter p ls))))) fails)
     ]
 
-pub no_step : (names : List Text) (facts : List FactNumbers) (agent : ℕ) (o : Option Instance) (step : NumberedStep)
-    → o ≡ None → step ≡ record { agent = agent; needs = []; adds = []; dels = [] } → IsStepped names facts agent o step
-no_step names facts agent o step none is =
-    subst (λ p. IsStepped names facts agent p step) (sym none)
-    (subst (IsStepped names facts agent None) (sym is) (record {
-      by = refl;
-      needs = no_places facts;
-      adds = no_places facts;
-      dels = no_places facts;
-      apart = λ f g h e. absurd (false≢true h);
-    }))
-
--- of an agent whose number its factor keeps
-pub no_step_of : (v : AgentView) (own : ℕ) (facts : List FactNumbers) (step : PlanStep) (n : NumberedStep) → own ≡ agent_of v
-    → instance_at (agent_of v) (factor_of v) step.action step.args ≡ None → n ≡ record { agent = own; needs = []; adds = []; dels = [] }
-    → IsStepped (names_of v) facts (agent_of v) (instance_at (agent_of v) (factor_of v) step.action step.args) n
-no_step_of v own facts step n same none is =
-    no_step (names_of v) facts (agent_of v) (instance_at (agent_of v) (factor_of v) step.action step.args) n none
-    (is ∙ (λ i. record { agent = same i; needs = []; adds = []; dels = [] }))
-
-pub not_found : (agent : ℕ) (factor : Factor) (step : PlanStep) → find (λ (s : Schema). bytes_eq s.word.name step.action) factor.domain.schemas ≡ None
-    → instance_at agent factor step.action step.args ≡ None
-not_found agent factor step h = ap (option_and_then (instance_of_schema agent factor step.args)) h
-
 abbrev costs : Option Instance → Option ℕ
 costs o = option_map (λ (i : Instance). i.cost) o
 
-no_cost : (o : Option Instance) → None ≡ costs o → o ≡ None
-no_cost None h = refl
-no_cost (Some i) h = absurd (none-some i.cost h)
+-- its facts have these places
+pub facts_there : (old new : List FactNumbers) (agent number : ℕ) (args : List ObjectNumber) (action : NumberedAction) (places : StepPlaces) (needs against : List ℕ)
+    → agent ≡ number → HasGrown old new → AreAsked old agent args action.pre needs against → places.needs.items ≡ needs → places.against.items ≡ against
+    → ArePlaces new (map (fact_at number args) action.add) places.adds.items → ArePlaces new (map (fact_at number args) action.del) places.dels.items
+    → AreFactsAt new number args action (step_in agent places)
+facts_there old new agent number args action places needs against same g a n m adds dels =
+    let b = subst (λ x. AreAsked old x args action.pre needs against) same a in
+    record {
+      by = same;
+      needs =
+          subst (ArePlaces new (asked_facts number args true action.pre ++ asked_facts number args false action.pre)) (sym (λ i. n i ++ m i))
+          (places_stay old new (asked_facts number args true action.pre ++ asked_facts number args false action.pre) (needs ++ against) g
+          (joined_places old (asked_facts number args true action.pre) (asked_facts number args false action.pre) needs against b.positive b.negative));
+      adds = adds;
+      dels = dels;
+    }
 
-pub no_instance_there : (agent : ℕ) (factor : Factor) (schema : Schema) (step : PlanStep)
-    → find (λ (s : Schema). bytes_eq s.word.name step.action) factor.domain.schemas ≡ Some schema
-    → None ≡ costs (instance_of_schema agent factor step.args schema) → instance_at agent factor step.action step.args ≡ None
-no_instance_there agent factor schema step found h =
-    ap (option_and_then (instance_of_schema agent factor step.args)) found ∙ no_cost (instance_of_schema agent factor step.args schema) h
+pub if_done : (P Q : Type 0) (taken : Taken) → (P → Q) → IfDone taken P → IfDone taken Q
+if_done P Q NoAction f h = tt
+if_done P Q (Fails x) f h = tt
+if_done P Q (Done cost) f h = f h
 
 pub a_step : (v : AgentView) (own : ℕ) (schema : Schema) (action : NumberedAction) (step : PlanStep) (args : List ObjectNumber) (cost : ℕ) (facts : List FactNumbers) (n : NumberedStep)
     → IsActionOf v step.action schema action → own ≡ agent_of v → IsBound (names_of v) (factor_of v) schema.params step.args args
@@ -186,16 +176,6 @@ view_there : (names : List Text) (factors : List Factor) (team : List AgentView)
     → at_agent team agent ≡ option_map (λ (f : Factor). (names, agent, f)) (factor_at factors agent)
 view_there names factors team agent is = ap (λ (t : List AgentView). at_agent t agent) is ∙ view_of names agent factors
 
-no_factor : (o : Option Factor) (names : List Text) (step : PlanStep) → option_map {U = AgentView} (λ (f : Factor). (names, step.agent, f)) o ≡ None → at_factor step o ≡ None
-no_factor None names step h = refl
-no_factor (Some f) names step h = absurd (none-some _ (sym h))
-
-pub no_agent : (names : List Text) (factors : List Factor) (team : List AgentView) (step : PlanStep) → team ≡ views_from names 1 factors
-    → at_agent team step.agent ≡ None → instance_of (team_of factors) step ≡ None
-no_agent names factors team step is none =
-    instance_in_team factors step
-    ∙ no_factor (factor_at factors step.agent) names step (sym (view_there names factors team step.agent is) ∙ none)
-
 a_factor : (o : Option Factor) (names : List Text) (step : PlanStep) (v : AgentView) (facts : List FactNumbers) (n : NumberedStep)
     → option_map (λ (f : Factor). (names, step.agent, f)) o ≡ Some v
     → IsStepped (names_of v) facts (agent_of v) (instance_at (agent_of v) (factor_of v) step.action step.args) n
@@ -212,6 +192,11 @@ pub an_agent : (names : List Text) (factors : List Factor) (team : List AgentVie
 an_agent names factors team step v facts n is at h =
     subst (λ o. IsStepped names facts step.agent o n) (sym (instance_in_team factors step))
     (a_factor (factor_at factors step.agent) names step v facts n (sym (view_there names factors team step.agent is) ∙ at) h)
+
+-- numbered by its agent
+pub of_agent : (names : List Text) (facts : List FactNumbers) (agent own : ℕ) (o : Option Instance) (places : StepPlaces)
+    → IsStepped names facts agent o (step_in own places) → IsStepped names facts agent o (step_in agent places)
+of_agent names facts agent own o places s = subst (λ a. IsStepped names facts agent o (step_in a places)) s.by s
 
 -- ---- the steps of a plan
 

@@ -1,5 +1,5 @@
 -- The verdict on the rest of a plan, by what is found of its first step.
-use Rattle.std.proofs.Common.{◌≡◌, ℕ, ◌+◌, ◌<◌, ◌≤◌, ◌||◌, List, [], ◌∷◌, ◌++◌, length, get_or, drop, Option, Some, None, refl, sym, ap, subst, ◌∙◌}
+use Rattle.std.proofs.Common.{◌≡◌, ℕ, Bool, true, false, if◌then◌else◌, ◌+◌, ◌<◌, ◌≤◌, ◌||◌, List, [], ◌∷◌, ◌++◌, length, get_or, drop, Option, Some, None, refl, sym, ap, subst, ◌∙◌}
 use Rattle.std.specs.List.{list_any, flat_map}
 use Rattle.std.specs.Option.{option_map, option_map_or}
 use Rattle.std.specs.Prelude.{MatchOption, option_and_then}
@@ -22,6 +22,7 @@ use Rattle.mp_checker.specs.declared.taken.Taken.{Taken}
 use Rattle.mp_checker.specs.declared.taken.Taken.TheVariants.{NoAction, Fails, Done}
 use Rattle.mp_checker.specs.AgentView.{AgentView, views_from, at_agent, names_of, agent_of, factor_of as factor_in}
 use Rattle.mp_checker.specs.At.{named_state}
+use Rattle.mp_checker.specs.Checked.{IfValid}
 use Rattle.mp_checker.specs.Taken.{IsTaken, failing}
 use Rattle.mp_checker.specs.Team.{IsStep, starts, goals_of}
 use Rattle.mp_checker.proofs.TeamLemmas.{view_of, part_of}
@@ -147,3 +148,27 @@ end_is names factors team kept plan i time paid first is past h =
     ap (verdict_from factors s time paid) (drop_of_length-le plan past)
     ∙ ap (λ (o : Option SignedFact). option_map_or failing_goal o (verdicts.Valid paid))
     (ap (failing s) (sym (ap (flat_map goals_of) is ∙ goals_from_views names 1 factors)) ∙ sym h)
+
+-- ---- what is found of a plan that does not solve
+
+pub unless_step : (time : ℕ) (x : SignedFact) (P : Type 0) → IfValid (failing_step time x) P
+unless_step time x P = by x.positive refl
+  where
+    by : (b : Bool) → x.positive ≡ b → IfValid (failing_step time x) P
+    by true e = subst (λ b. IfValid (if b then verdicts.Missing time x.fact else verdicts.Forbidden time x.fact) P) (sym e) tt
+    by false e = subst (λ b. IfValid (if b then verdicts.Missing time x.fact else verdicts.Forbidden time x.fact) P) (sym e) tt
+
+pub unless_goal : (x : SignedFact) (P : Type 0) → IfValid (failing_goal x) P
+unless_goal x P = by x.positive refl
+  where
+    by : (b : Bool) → x.positive ≡ b → IfValid (failing_goal x) P
+    by true e = subst (λ b. IfValid (if b then verdicts.GoalMissing x.fact else verdicts.GoalForbidden x.fact) P) (sym e) tt
+    by false e = subst (λ b. IfValid (if b then verdicts.GoalMissing x.fact else verdicts.GoalForbidden x.fact) P) (sym e) tt
+
+pub if_valid : (P Q : Type 0) (v : CheckVerdict) → (P → Q) → IfValid v P → IfValid v Q
+if_valid P Q (verdicts.Valid cost) f h = f h
+if_valid P Q (verdicts.NoAction time) f h = tt
+if_valid P Q (verdicts.Missing time x) f h = tt
+if_valid P Q (verdicts.Forbidden time x) f h = tt
+if_valid P Q (verdicts.GoalMissing x) f h = tt
+if_valid P Q (verdicts.GoalForbidden x) f h = tt

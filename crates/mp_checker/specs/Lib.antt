@@ -14,3 +14,5 @@ pub mod Team
 pub mod Places
 pub mod Steps
 pub mod Stepped
+pub mod Marked
+pub mod Checked

@@ -6,10 +6,21 @@ use Rattle.mp_joint.specs.Instance.{Instance}
 use Rattle.mp_checker.specs.declared.fact.FactNumbers.{FactNumbers}
 use Rattle.mp_checker.specs.declared.numbered.NumberedAction.{NumberedAction}
 use Rattle.mp_checker.specs.declared.numbered.ObjectNumber.{ObjectNumber}
+use Rattle.mp_checker.specs.declared.room.StepPlaces.{StepPlaces}
 use Rattle.mp_checker.specs.declared.step.NumberedStep.{NumberedStep}
 use Rattle.mp_checker.specs.At.{fact_at, numbers_of}
 use Rattle.mp_checker.specs.Places.{ArePlaces, asked_in}
 use Rattle.mp_checker.specs.Steps.{changes_fact, in_numbers}
+
+-- the step of an agent whose facts have these numbers
+abbrev pub step_in : ℕ → StepPlaces → NumberedStep
+step_in agent places =
+    record {
+      agent = agent;
+      needs = places.needs.items ++ places.against.items;
+      adds = places.adds.items;
+      dels = places.dels.items;
+    }
 
 -- the facts of an action where these objects stand for its parameters, by their places
 pub record AreFactsAt

@@ -44,3 +44,9 @@ pub record IsBound (names : List Text) (factor : Factor) (params : List Typed) (
   pub long : length objects ≡ length params
   pub are : args ≡ map (object_number names (privates_of factor)) objects
   pub known : AreKnown names objects
+
+-- it holds where a step is taken
+abbrev pub IfDone : Taken → Type 0 → Type 0
+IfDone NoAction P = Unit {0}
+IfDone (Fails x) P = Unit {0}
+IfDone (Done cost) P = P

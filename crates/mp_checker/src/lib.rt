@@ -2,15 +2,19 @@
 #![tactic(auto)]
 
 mod actions;
+mod asked;
 mod at;
 mod atoms;
+mod changes;
 mod checks;
 mod cost;
 mod fact;
 mod factor;
+mod facts;
 mod found;
 mod goals;
 mod key;
+mod marks;
 mod members;
 mod mixed;
 mod numbered;
@@ -18,6 +22,7 @@ mod numbering;
 mod objects;
 mod places;
 mod privates;
+mod room;
 mod standing;
 mod start;
 mod step;
@@ -27,7 +32,6 @@ mod told;
 mod values;
 mod words;
 
-pub use checks::check;
+pub use checks::{CheckedSteps, check, check_with_steps};
 pub use mp_plan_verdict::CheckVerdict;
-pub use numbering::numbered_steps;
 pub use step::NumberedStep;

@@ -1,6 +1,9 @@
 //! Objects that may stand for parameters.
 
-ghost use Rattle.std.specs.Prelude.{◌≡◌, ◌++◌, true, IfOk};
+ghost use Rattle.std.specs.Prelude.{◌≡◌, ◌++◌, true, slice_index_or, IfOk, IfSome};
+ghost use Rattle.std.specs.Option.{is_some};
+ghost use Rattle.mp_names.specs.Numbers.{number_in};
+ghost use Rattle.mp_checker.specs.At.{nothing};
 ghost use Rattle.mp_checker.specs.Standing.{is_flagged as is_flagged_in, are_flagged, numbers_at};
 
 use crate::at::object_in;
@@ -10,14 +13,25 @@ use mp_list::OutOfMemory;
 use mp_names::NameTable;
 use mp_sexp::Name;
 
-/// Whether an object of a factor may stand for a parameter.
-fn is_flagged(objects: &NameTable<'_>, flags: &ObjectFlags, name: &Name) -> bool
-    ensures { result ≡ is_flagged_in objects.now flags.now name.now }
+/// The object of a factor that has a name, where it may stand for a parameter.
+#[tactic(auto, unfolding(mp_names::specs::Numbers::number_in))]
+fn flagged_object(
+    objects: &NameTable<'_>,
+    numbers: &[ObjectNumber],
+    flags: &ObjectFlags,
+    name: &Name,
+) -> Option<ObjectNumber>
+    ensures flagged { is_some result ≡ is_flagged_in objects.now flags.now name.now }
+    ensures object { IfSome result (λ object. object
+        ≡ slice_index_or numbers.now (number_in objects.now name.now) nothing) }
 {
-    match objects.find(name.as_slice()) {
-        Some(place) => flags.is_set(place),
-        None => false,
+    let Some(place) = objects.find(name.as_slice()) else {
+        return None;
+    };
+    if !flags.is_set(place) {
+        return None;
     }
+    Some(object_in(numbers, place))
 }
 
 /// Whether there is one object for each parameter that may stand for it; if so, these are added in numbers. Refuses only
@@ -38,10 +52,10 @@ pub fn add_standing(
         [flags, others @ ..] => match args {
             [] => Ok(false),
             [name, rest @ ..] => {
-                if !is_flagged(objects, flags, name) {
+                let Some(object) = flagged_object(objects, numbers, flags, name) else {
                     return Ok(false);
-                }
-                out.push(object_in(numbers, objects.number(name)))?;
+                };
+                out.push(object)?;
                 add_standing(out, objects, numbers, others, rest)
             }
         },

@@ -5,14 +5,14 @@ ghost use Rattle.std.specs.List.{list_any};
 ghost use Rattle.mp_joint.specs.declared.fact.NamedFact.{NamedFact as Named};
 ghost use Rattle.mp_checker.specs.AgentView.{AreOf, names_of};
 ghost use Rattle.mp_checker.specs.At.{is_true, numbers_of};
+ghost use Rattle.mp_checker.specs.Marked.{true_facts};
 ghost use Rattle.mp_checker.specs.Team.{starts};
 
-use crate::at::set;
 use crate::atoms::numbered_atom;
-use crate::fact::FactNumbers;
 use crate::factor::AgentFactor;
-use crate::taken::Room;
-use indexmap::IndexSet;
+use crate::facts::{Facts, no_facts};
+use crate::places::set;
+use crate::room::Room;
 use mp_list::{List, OutOfMemory};
 use std::alloc::Global;
 
@@ -20,11 +20,11 @@ use std::alloc::Global;
 fn add_start(
     alloc: Global,
     factor: &AgentFactor<'_, '_>,
-    facts: &mut IndexSet<FactNumbers>,
+    facts: &mut Facts,
     room: &mut Room,
 ) -> Result<(), OutOfMemory>
-    ensures { OnOk result ((f : Named) → is_true facts.new.keys (numbers_of (names_of factor.now) f)
-        ≡ (starts factor.now f || is_true facts.old.keys (numbers_of (names_of factor.now) f))) }
+    ensures { OnOk result ((f : Named) → is_true (true_facts facts.new) (numbers_of (names_of factor.now) f)
+        ≡ (starts factor.now f || is_true (true_facts facts.old) (numbers_of (names_of factor.now) f))) }
 {
     let params = List::new(alloc);
     for atom in factor.checked.factor().problem.init.as_slice() {
@@ -46,11 +46,11 @@ pub fn start(
     alloc: Global,
     team: &[AgentFactor<'_, '_>],
     room: &mut Room,
-) -> Result<IndexSet<FactNumbers>, OutOfMemory>
+) -> Result<Facts, OutOfMemory>
     ensures { IfOk result (λ facts. (names : ListOf (ListOf ℕ)) → AreOf names team.now → (f : Named)
-        → is_true facts.keys (numbers_of names f) ≡ list_any (λ v. starts v f) team.now) }
+        → is_true (true_facts facts) (numbers_of names f) ≡ list_any (λ v. starts v f) team.now) }
 {
-    let mut facts = IndexSet::new(alloc);
+    let mut facts = no_facts(alloc);
     for factor in team {
         add_start(alloc, factor, &mut facts, room)?;
     }

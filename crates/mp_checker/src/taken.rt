@@ -1,32 +1,34 @@
 //! One step of one agent.
 
-ghost use Rattle.std.specs.Prelude.{◌≡◌, ◌≤◌, ◌||◌, ◌&&◌, not, map, Some, None, IfOk, IfSome, OnOk, IsSome, MatchOption};
+ghost use Rattle.std.specs.Prelude.{◌≡◌, ◌≤◌, map, Some, None, IfOk, IfSome, OnOk, IsSome};
 ghost use Rattle.std.specs.List.{find};
 ghost use Rattle.std.specs.Option.{option_map};
 ghost use Rattle.std.specs.Str.{bytes_eq};
 ghost use Rattle.mp_factor.specs.Limits.{SchemaFits};
-ghost use Rattle.mp_joint.specs.FactorContribution.{privates_of, instance_of_schema};
+ghost use Rattle.mp_joint.specs.FactorContribution.{privates_of, instance_at, instance_of_schema};
 ghost use Rattle.mp_plan_verdict.specs.Written.{signed_facts};
-ghost use Rattle.mp_checker.specs.declared.fact.FactNumbers.{FactNumbers as Fact};
-ghost use Rattle.mp_checker.specs.At.{fact_at, is_true, is_one_of, named_state};
+ghost use Rattle.mp_checker.specs.At.{named_state};
 ghost use Rattle.mp_checker.specs.AgentView.{Covers, names_of, agent_of, factor_of};
+ghost use Rattle.mp_checker.specs.Marked.{HaveStayed, true_facts};
 ghost use Rattle.mp_checker.specs.Numbering.{numbered_action, numbered_literal};
-ghost use Rattle.mp_checker.specs.Taken.{IsTaken, IsBound, failing as failing_of};
+ghost use Rattle.mp_checker.specs.Places.{AreAsked, HasGrown};
+ghost use Rattle.mp_checker.specs.Stepped.{IsStepped, step_in};
+ghost use Rattle.mp_checker.specs.Taken.{IfDone, IsTaken, IsBound, failing as failing_of};
 ghost use Rattle.mp_checker.specs.Words.{names_of_schema};
 
-use crate::at::{clear_all, first_failing, set_all};
+use crate::asked::first_failing;
+use crate::changes::change;
 use crate::cost::cost_at;
-use crate::fact::FactNumbers;
 use crate::factor::AgentFactor;
+use crate::facts::Facts;
 use crate::found::found_action;
-use crate::numbered::{NumberedAction, NumberedLiteral, ObjectNumber};
+use crate::numbered::{NumberedAction, NumberedLiteral};
+use crate::room::Room;
 use crate::standing::add_standing;
 use crate::told::signed_fact;
-use indexmap::IndexSet;
 use mp_factor::{LiteralList, Schema, TypedList};
 use mp_joint::{PlanStep, SignedFact};
 use mp_list::{List, OutOfMemory};
-use mp_sets::Agent;
 use mp_sexp::NameList;
 use std::alloc::Global;
 
@@ -41,15 +43,6 @@ pub enum Taken {
     Done(u64),
 }
 
-/// Room for what is worked out in a step.
-#[derive(Drop)]
-pub struct Room {
-    /// The objects of the step.
-    pub args: Vec<ObjectNumber>,
-    /// The objects of one atom.
-    pub numbers: Vec<u32>,
-}
-
 /// A condition where objects stand for parameters.
 #[derive(Clone, Copy)]
 pub struct Asked<'s> {
@@ -60,11 +53,12 @@ pub struct Asked<'s> {
     pub objects: &'s NameList,
 }
 
-/// The first literal that does not hold, by its names: none where all hold. Refuses only for want of memory.
+/// The first literal that does not hold, by its names: none where all hold, and then the numbers of their facts are
+/// noted. Refuses only for want of memory.
 pub fn failing(
     alloc: Global,
     factor: &AgentFactor<'_, '_>,
-    facts: &IndexSet<FactNumbers>,
+    facts: &mut Facts,
     room: &mut Room,
     asked: Asked<'_>,
 ) -> Result<Option<SignedFact>, OutOfMemory>
@@ -73,53 +67,36 @@ pub fn failing(
     requires bound { IsBound (names_of factor.now) (factor_of factor.now)
         asked.params.now asked.objects.now room.old.args.items }
     ensures failing { IfOk result (λ first. first
-        ≡ failing_of (named_state (names_of factor.now) facts.now.keys)
+        ≡ failing_of (named_state (names_of factor.now) (true_facts facts.old))
         (signed_facts (agent_of factor.now) (factor_of factor.now)
         asked.entry.params.now asked.entry.objects.now asked.entry.written.now)) }
     ensures args { room.new.args.items ≡ room.old.args.items }
+    ensures grows { OnOk result (HasGrown facts.old.known.keys facts.new.known.keys) }
+    ensures stays { OnOk result (HaveStayed facts.old facts.new) }
+    ensures noted { IfOk result (λ first. first ≡ None
+        → AreAsked facts.new.known.keys (agent_of factor.now) room.old.args.items asked.entry.literals.now
+        room.new.places.needs.items room.new.places.against.items) }
 {
     let args = room.args.as_slice();
     let literals = asked.literals.as_slice();
-    let Some(place) = first_failing(facts, &mut room.numbers, factor.agent, args, literals)? else {
+    let agent = factor.agent;
+    let Some(place) = first_failing(
+        alloc,
+        facts,
+        &mut room.numbers,
+        agent,
+        args,
+        literals,
+        &mut room.places,
+    )?
+    else {
         return Ok(None);
     };
     let Some(literal) = asked.written.get(place) else {
         return Ok(None);
     };
     let privates = &factor.privates;
-    Ok(Some(signed_fact(
-        alloc,
-        factor.agent,
-        privates,
-        asked.params,
-        asked.objects,
-        literal,
-    )?))
-}
-
-/// Takes an action's deletes out and then puts its adds in.
-fn change(
-    alloc: Global,
-    facts: &mut IndexSet<FactNumbers>,
-    room: &mut Room,
-    agent: Agent,
-    action: &NumberedAction,
-) -> Result<(), OutOfMemory>
-    ensures { OnOk result ((f : Fact) → is_true facts.new.keys f
-        ≡ (is_one_of (map (fact_at agent room.old.args.items) action.now.add) f
-        || (is_true facts.old.keys f
-        && not (is_one_of (map (fact_at agent room.old.args.items) action.now.del) f)))) }
-{
-    let args = room.args.as_slice();
-    clear_all(facts, &mut room.numbers, agent, args, action.del.as_slice())?;
-    set_all(
-        alloc,
-        facts,
-        &mut room.numbers,
-        agent,
-        args,
-        action.add.as_slice(),
-    )
+    Ok(Some(signed_fact(alloc, agent, privates, asked.params, asked.objects, literal)?))
 }
 
 /// What an action costs with the objects of a step: none where it is no instance with them. The objects are left in
@@ -165,7 +142,7 @@ pub fn instance_cost(
 fn take_action(
     alloc: Global,
     factor: &AgentFactor<'_, '_>,
-    facts: &mut IndexSet<FactNumbers>,
+    facts: &mut Facts,
     room: &mut Room,
     schema: &Schema,
     action: &NumberedAction,
@@ -176,8 +153,14 @@ fn take_action(
     requires covers { Covers (names_of factor.now) (names_of_schema schema.now) }
     requires found { find (λ s. bytes_eq s.word.name step.now.action)
         (factor_of factor.now).domain.schemas ≡ Some schema.now }
-    ensures { IfOk result (IsTaken (agent_of factor.now) (factor_of factor.now)
-        (named_state (names_of factor.now) facts.old.keys) (named_state (names_of factor.now) facts.new.keys) step.now) }
+    ensures taken { IfOk result (IsTaken (agent_of factor.now) (factor_of factor.now)
+        (named_state (names_of factor.now) (true_facts facts.old))
+        (named_state (names_of factor.now) (true_facts facts.new)) step.now) }
+    ensures grows { OnOk result (HasGrown facts.old.known.keys facts.new.known.keys) }
+    ensures step { IfOk result (λ taken. IfDone taken (IsStepped (names_of factor.now) facts.new.known.keys
+        (agent_of factor.now)
+        (instance_at (agent_of factor.now) (factor_of factor.now) step.now.action step.now.args)
+        (step_in (agent_of factor.now) room.new.places))) }
 {
     let Some(cost) = instance_cost(factor, room, schema, action, &step.args)? else {
         return Ok(Taken::NoAction);
@@ -195,17 +178,23 @@ fn take_action(
     Ok(Taken::Done(cost))
 }
 
-/// A step of an agent: what is found of it, and, where all that it asks for holds, the state after it. Refuses only for
-/// want of memory.
+/// A step of an agent: what is found of it, and, where all that it asks for holds, the state after it and the numbers of
+/// its facts. Refuses only for want of memory.
 pub fn take(
     alloc: Global,
     factor: &AgentFactor<'_, '_>,
-    facts: &mut IndexSet<FactNumbers>,
+    facts: &mut Facts,
     room: &mut Room,
     step: &PlanStep,
 ) -> Result<Taken, OutOfMemory>
-    ensures { IfOk result (IsTaken (agent_of factor.now) (factor_of factor.now)
-        (named_state (names_of factor.now) facts.old.keys) (named_state (names_of factor.now) facts.new.keys) step.now) }
+    ensures taken { IfOk result (IsTaken (agent_of factor.now) (factor_of factor.now)
+        (named_state (names_of factor.now) (true_facts facts.old))
+        (named_state (names_of factor.now) (true_facts facts.new)) step.now) }
+    ensures grows { OnOk result (HasGrown facts.old.known.keys facts.new.known.keys) }
+    ensures step { IfOk result (λ taken. IfDone taken (IsStepped (names_of factor.now) facts.new.known.keys
+        (agent_of factor.now)
+        (instance_at (agent_of factor.now) (factor_of factor.now) step.now.action step.now.args)
+        (step_in (agent_of factor.now) room.new.places))) }
 {
     let Some(found) = found_action(factor, &step.action) else {
         return Ok(Taken::NoAction);

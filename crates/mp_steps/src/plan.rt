@@ -1,14 +1,20 @@
 //! The steps and the chain of a plan.
 
-ghost use Rattle.std.specs.Prelude.{◌≡◌, ◌≤◌, length, IfOk, IfErr, MatchOption};
+ghost use Rattle.std.specs.Prelude.{◌≡◌, ◌≤◌, List as ListOf, length, IfOk, IfErr, MatchOption};
+ghost use Rattle.mp_factor.specs.declared.factor.Factor.{Factor};
+ghost use Rattle.mp_joint.specs.declared.plan.PlanStep.{PlanStep};
 ghost use Rattle.mp_joint.specs.FactorContribution.{team_of};
+ghost use Rattle.mp_joint.specs.Plan.{Contribution};
+ghost use Rattle.mp_checker.specs.Checked.{IfValid};
+ghost use Rattle.mp_checker.specs.Steps.{AreNumbered};
+ghost use Rattle.mp_plan_verdict.specs.Verdict.{verdict};
 ghost use Rattle.mp_plan_verdict.specs.declared.verdict.CheckVerdict.TheVariants.{Valid};
 ghost use Rattle.mp_steps.specs.Packed.{IsNotValid, IsPacked, IsRefused};
 ghost use Rattle.mp_steps.specs.PlanSteps.{plan_chain, plan_steps};
 
 use crate::group::{StepLists, Times};
 use crate::packed::{NumberedPacking, pack_numbered};
-use mp_checker::{CheckVerdict, check, numbered_steps};
+use mp_checker::{CheckVerdict, CheckedSteps, NumberedStep, check_with_steps};
 use mp_joint::JointPlan;
 use mp_list::OutOfMemory;
 use mp_typing::CheckedFactor;
@@ -57,34 +63,32 @@ fn cost_of(found: &CheckVerdict) -> Option<u64>
     }
 }
 
-/// The steps and the chain of a plan, whatever is found of it.
-fn packing(
-    alloc: Global,
-    factors: &[CheckedFactor],
-    plan: &JointPlan,
-) -> Result<NumberedPacking, OutOfMemory>
-    requires few { length factors.now ≤ 16 }
-    ensures steps { IfOk result (λ packed. packed.steps ≡ plan_steps (team_of factors.now) plan.now) }
-    ensures chain { IfOk result (λ packed. packed.chain ≡ plan_chain (team_of factors.now) plan.now) }
+/// The steps and the chain of numbered actions, which are a plan's that solves at this cost.
+fn packed_at(alloc: Global, steps: &[NumberedStep], cost: u64) -> Result<Packed, OutOfMemory>
+    ensures cost { IfOk result (λ packed. packed.cost ≡ cost) }
+    ensures steps { IfOk result (λ packed. (team : ListOf Contribution) (plan : ListOf PlanStep)
+        → AreNumbered team plan steps.now → packed.steps ≡ plan_steps team plan) }
+    ensures chain { IfOk result (λ packed. (team : ListOf Contribution) (plan : ListOf PlanStep)
+        → AreNumbered team plan steps.now → packed.chain ≡ plan_chain team plan) }
 {
-    let steps = numbered_steps(alloc, factors, plan)?;
-    pack_numbered(alloc, steps.as_slice())
+    let packing = pack_numbered(alloc, steps)?;
+    let NumberedPacking { steps, chain } = packing;
+    Ok(Packed { cost, steps, chain })
 }
 
-/// The steps and the chain of a plan that solves at this cost.
-fn packed_at(
-    alloc: Global,
-    factors: &[CheckedFactor],
-    plan: &JointPlan,
-    cost: u64,
-) -> Result<Packed, OutOfMemory>
-    requires few { length factors.now ≤ 16 }
-    ensures cost { IfOk result (λ packed. packed.cost ≡ cost) }
-    ensures steps { IfOk result (λ packed. packed.steps ≡ plan_steps (team_of factors.now) plan.now) }
-    ensures chain { IfOk result (λ packed. packed.chain ≡ plan_chain (team_of factors.now) plan.now) }
+/// The steps and the chain of a plan that was checked, or what is found of it.
+fn pack_checked(alloc: Global, checked: CheckedSteps) -> Result<Packed, PackRefusal>
+    ensures packed { (factors : ListOf Factor) (plan : ListOf PlanStep) → checked.verdict ≡ verdict factors plan
+        → IfValid checked.verdict (AreNumbered (team_of factors) plan checked.steps.items)
+        → IfOk result (IsPacked factors plan) }
+    ensures refused { (factors : ListOf Factor) (plan : ListOf PlanStep) → checked.verdict ≡ verdict factors plan
+        → IfErr result (IsRefused factors plan) }
 {
-    let NumberedPacking { steps, chain } = packing(alloc, factors, plan)?;
-    Ok(Packed { cost, steps, chain })
+    let CheckedSteps { verdict, steps } = checked;
+    match cost_of(&verdict) {
+        Some(cost) => Ok(packed_at(alloc, steps.as_slice(), cost)?),
+        None => Err(PackRefusal::Invalid(verdict)),
+    }
 }
 
 /// Which actions of a plan of a team, whose first factor is that of agent 1, may be done at the same time, and a chain that
@@ -101,9 +105,6 @@ pub fn pack(
     ensures packed { IfOk result (IsPacked factors.now plan.now) }
     ensures refused { IfErr result (IsRefused factors.now plan.now) }
 {
-    let found = check(alloc, factors, plan)?;
-    match cost_of(&found) {
-        Some(cost) => Ok(packed_at(alloc, factors, plan, cost)?),
-        None => Err(PackRefusal::Invalid(found)),
-    }
+    let checked = check_with_steps(alloc, factors, plan)?;
+    pack_checked(alloc, checked)
 }

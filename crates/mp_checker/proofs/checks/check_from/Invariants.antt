@@ -1,14 +1,19 @@
-use Rattle.std.proofs.Common.{◌≡◌, ◌≤◌, ◌+◌, ◌*◌, List, drop}
+use Rattle.std.proofs.Common.{◌≡◌, ◌≤◌, ◌+◌, ◌*◌, true, [], List, drop, take}
 use Rattle.mp_factor.specs.declared.factor.Factor.{Factor}
 use Rattle.mp_joint.specs.Fact.{Text}
+use Rattle.mp_joint.specs.FactorContribution.{team_of}
 use Rattle.mp_plan_verdict.specs.Verdict.{verdict_from}
 use Rattle.mp_checker.specs.AgentView.{views_from}
 use Rattle.mp_checker.specs.At.{named_state}
+use Rattle.mp_checker.specs.Marked.{true_facts}
+use Rattle.mp_checker.proofs.StepLemmas.{AreStepped}
 use Rattle.mp_checker.proofs.checks.check_from.Given as goal
 
 abbrev pub invariant-loop-place : goal.invariant-loop-place
 invariant-loop-place l =
     (l.paid ≤ l.place * 16000000)
     × ((names : List Text) (factors : List Factor) → l.team ≡ views_from names 1 factors
-    → verdict_from factors (named_state names l.facts.keys) (l.place + 1) l.paid (drop l.place l.plan)
-    ≡ verdict_from factors (named_state names l.fn.facts.keys) 1 0 l.plan)
+    → verdict_from factors (named_state names (true_facts l.facts)) (l.place + 1) l.paid (drop l.place l.plan)
+    ≡ verdict_from factors (named_state names (true_facts l.fn.facts)) 1 0 l.plan)
+    × (l.keep ≡ true → l.fn.steps.items ≡ [] → (names : List Text) (factors : List Factor) → l.team ≡ views_from names 1 factors
+    → AreStepped names l.facts.known.keys (team_of factors) (take l.place l.plan) l.steps.items)

@@ -5,6 +5,7 @@ use Rattle.mp_checker.specs.declared.fact.FactNumbers.{FactNumbers}
 use Rattle.mp_checker.specs.AgentView.{AgentView, names_of, agent_of, factor_of}
 use Rattle.mp_checker.specs.At.{fact_at, is_true, numbers_of}
 use Rattle.mp_checker.specs.Keys.{same_numbers}
+use Rattle.mp_checker.specs.Marked.{true_facts}
 use Rattle.mp_checker.specs.Numbering.{numbered_atom}
 use Rattle.mp_checker.proofs.StartLemmas.{init_covered, start_more, start_all}
 use Rattle.mp_checker.proofs.TakenLemmas.{has_numbers}
@@ -24,9 +25,9 @@ loop-atom-preserved c = λ f.
     let lt = subst (λ (xs : List Atom). l.atom-index < length xs) init c.loop-atom-test.true in
     let is = subst (λ (xs : List Atom). a ≡ get_or xs l.atom-index a) init c.atom-item.is in
     let made = c.in_ok-numbered.ensures ∙ (λ i. numbered_atom (names i) (n.privates i) (c.new-params.ensures i) a) in
-    let changed = subst (λ m. (g : FactNumbers) → is_true c.set.new.facts.keys g
-    ≡ (if same_numbers (fact_at m [] c.in_ok-numbered.numbered) g then true else is_true l.facts.keys g)) agent c.in_ok-set.ensures in
-    start_more (names_of v) (agent_of v) (factor_of v) (factor_of v).problem.init l.atom-index a c.in_ok-numbered.numbered l.facts.keys c.set.new.facts.keys f
+    let changed = subst (λ m. (g : FactNumbers) → is_true (true_facts c.set.new.facts) g
+    ≡ (if same_numbers (fact_at m [] c.in_ok-numbered.numbered) g then true else is_true (true_facts l.facts) g)) agent c.in_ok-set.ensures in
+    start_more (names_of v) (agent_of v) (factor_of v) (factor_of v).problem.init l.atom-index a c.in_ok-numbered.numbered (true_facts l.facts) (true_facts c.set.new.facts) f
     lt is (init_covered (names_of v) (factor_of v) n.covers) made changed
     ∙ l.invariant f
 
@@ -38,4 +39,4 @@ returns c = λ f.
     let init : c.as_slice-atom-items.result.now ≡ (factor_of v).problem.init = c.as_slice-atom-items.ensures
     ∙ ap (λ (w : Factor). w.problem.init) c.behind-factor.view_is ∙ ap (λ (w : Factor). w.problem.init) checked in
     let past = subst (λ (xs : List Atom). length xs ≤ l.atom-index) init c.loop-atom-test.false in
-    sym (start_all (agent_of v) (factor_of v) (factor_of v).problem.init l.atom-index f (is_true l.facts.keys (numbers_of (names_of v) f)) past) ∙ l.invariant f
+    sym (start_all (agent_of v) (factor_of v) (factor_of v).problem.init l.atom-index f (is_true (true_facts l.facts) (numbers_of (names_of v) f)) past) ∙ l.invariant f
