@@ -59,7 +59,7 @@ fn placed_steps(
 fn all_steps(alloc: Global, slots: Vec<Option<PlanStep>>) -> Result<Option<JointPlan>, OutOfMemory>
     ensures { IfOk result (λ plan. plan ≡ all_there slots.items) }
 {
-    let mut plan = List::new(alloc);
+    let mut plan = List::with_capacity(alloc, slots.len())?;
     for slot in slots {
         match slot {
             Some(step) => plan.push(step)?,
