@@ -1,0 +1,16 @@
+//! Certificates that no plan is cheaper, as texts: written, and read from them (`specs/`).
+#![tactic(auto)]
+
+mod fact_lists;
+mod laws;
+mod lines;
+mod numbers;
+mod read;
+#[cfg(test)]
+mod tests;
+mod unread;
+mod write;
+
+pub use laws::texts_have_one_reading;
+pub use read::{CertificateRefusal, read_certificate};
+pub use write::certificate_text;
