@@ -24,7 +24,6 @@ use Rattle.mp_checker.specs.declared.numbered.NumberedAction.{NumberedAction}
 use Rattle.mp_checker.specs.declared.numbered.NumberedLiteral.{NumberedLiteral}
 use Rattle.mp_checker.specs.declared.numbered.ObjectNumber.{ObjectNumber}
 use Rattle.mp_checker.specs.declared.room.StepPlaces.{StepPlaces}
-use Rattle.mp_checker.specs.declared.step.NumberedStep.{NumberedStep}
 use Rattle.mp_checker.specs.declared.taken.Taken.{Taken}
 use Rattle.mp_checker.specs.declared.taken.Taken.TheVariants.{NoAction, Fails, Done}
 use Rattle.mp_checker.specs.AgentView.{AgentView, views_from, at_agent, names_of, agent_of, factor_of}
@@ -33,7 +32,7 @@ use Rattle.mp_checker.specs.Found.{IsActionOf}
 use Rattle.mp_checker.specs.Numbering.{object_number, numbered_literal}
 use Rattle.mp_checker.specs.Places.{place, ArePlaces, HasGrown, AreAsked, asked_in, asked_facts}
 use Rattle.mp_checker.specs.Stepped.{AreFactsAt, IsStepped, step_in}
-use Rattle.mp_checker.specs.Steps.{AreNumbered, changes_fact, in_numbers, numbered_step}
+use Rattle.mp_checker.specs.Steps.{AreNumbered, NumberedStep, changes_fact, in_numbers, numbered_step}
 use Rattle.mp_checker.specs.Taken.{IfDone, IsBound}
 use Rattle.mp_checker.proofs.AtomsAt.{atom_at, atoms_at, known_facts}
 use Rattle.mp_checker.proofs.CoversLemmas.{covers_left, covers_right}

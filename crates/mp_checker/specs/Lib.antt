@@ -13,6 +13,7 @@ pub mod Found
 pub mod Team
 pub mod Places
 pub mod Steps
+pub mod Sink
 pub mod Stepped
 pub mod Marked
 pub mod Checked

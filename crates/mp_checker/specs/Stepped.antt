@@ -7,10 +7,9 @@ use Rattle.mp_checker.specs.declared.fact.FactNumbers.{FactNumbers}
 use Rattle.mp_checker.specs.declared.numbered.NumberedAction.{NumberedAction}
 use Rattle.mp_checker.specs.declared.numbered.ObjectNumber.{ObjectNumber}
 use Rattle.mp_checker.specs.declared.room.StepPlaces.{StepPlaces}
-use Rattle.mp_checker.specs.declared.step.NumberedStep.{NumberedStep}
 use Rattle.mp_checker.specs.At.{fact_at, numbers_of}
 use Rattle.mp_checker.specs.Places.{ArePlaces, asked_in}
-use Rattle.mp_checker.specs.Steps.{changes_fact, in_numbers}
+use Rattle.mp_checker.specs.Steps.{NumberedStep, changes_fact, in_numbers}
 
 -- the step of an agent whose facts have these numbers
 abbrev pub step_in : ℕ → StepPlaces → NumberedStep

@@ -6,7 +6,13 @@ use Rattle.mp_joint.specs.declared.plan.PlanStep.{PlanStep}
 use Rattle.mp_joint.specs.Fact.{is_among}
 use Rattle.mp_joint.specs.Instance.{Instance}
 use Rattle.mp_joint.specs.Plan.{Contribution, instance_of}
-use Rattle.mp_checker.specs.declared.step.NumberedStep.{NumberedStep}
+
+-- an action of a plan: its agent, and the numbers of the facts that it asks for or against, adds and deletes
+pub record NumberedStep : Type 0 where
+  pub agent : ℕ
+  pub needs : List ℕ
+  pub adds : List ℕ
+  pub dels : List ℕ
 
 -- what stands for some of the facts of an instance; what is no instance has none
 abbrev pub in_numbers : {X : Type 0} → (NamedFact → X) → (Instance → List NamedFact) → Option Instance → List X

@@ -1,6 +1,6 @@
 //! The check of a plan.
 
-ghost use Rattle.std.specs.Prelude.{◌≡◌, ◌≤◌, [], true, ℕ, List as ListOf, length, IfOk, OnOk};
+ghost use Rattle.std.specs.Prelude.{◌≡◌, ◌≤◌, ◌++◌, ◌∷◌, [], ℕ, List as ListOf, length, IfOk, OnOk};
 ghost use Rattle.mp_factor.specs.declared.factor.Factor.{Factor as FactorParts};
 ghost use Rattle.mp_joint.specs.FactorContribution.{team_of};
 ghost use Rattle.mp_joint.specs.Plan.{instance_of};
@@ -11,23 +11,24 @@ ghost use Rattle.mp_checker.specs.Checked.{IfValid};
 ghost use Rattle.mp_checker.specs.Marked.{true_facts};
 ghost use Rattle.mp_checker.specs.Places.{HasGrown};
 ghost use Rattle.mp_checker.specs.Stepped.{IsStepped, step_in};
-ghost use Rattle.mp_checker.specs.Steps.{AreNumbered};
+ghost use Rattle.mp_checker.specs.Sink.{HasCome, HasPlanCome};
+ghost use Rattle.mp_checker.specs.Steps.{NumberedStep};
 ghost use Rattle.mp_checker.specs.Taken.{IfDone};
 ghost use Rattle.mp_checker.specs.Team.{IsStep};
 
 use crate::factor::AgentFactor;
 use crate::facts::Facts;
 use crate::goals::failing_goal;
-use crate::numbering::{keep_step, room_for_steps};
-use crate::room::{Room, empty_room};
+use crate::room::{Room, StepPlaces, empty_room, join_asked};
+use crate::sink::{NoSteps, StepSink};
 use crate::start::start;
-use crate::step::NumberedStep;
 use crate::taken::{Taken, take};
 use crate::team::{factor_of, numbered_team};
 use crate::words::team_names;
 use mp_joint::{JointPlan, PlanStep, SignedFact};
 use mp_list::OutOfMemory;
 use mp_plan_verdict::CheckVerdict;
+use mp_sets::Agent;
 use mp_typing::CheckedFactor;
 use std::alloc::Global;
 
@@ -74,24 +75,42 @@ fn take_step(
     }
 }
 
-/// What is found of a plan from a state on, and its steps with numbers, where they are kept.
-fn check_from(
+/// Hands an action of an agent over, whose facts have these numbers.
+fn hand_over<K: StepSink>(
+    sink: &mut K,
+    agent: Agent,
+    places: &mut StepPlaces,
+) -> Result<(), OutOfMemory>
+    requires { HasCome (K.have_come sink.old) }
+    ensures { (steps : ListOf NumberedStep) → K.have_come sink.old steps
+        → OnOk result (K.have_come sink.new (steps ++ step_in agent places.old ∷ [])) }
+{
+    join_asked(places)?;
+    sink.take(
+        agent.number(),
+        places.needs.as_slice(),
+        places.adds.as_slice(),
+        places.dels.as_slice(),
+    )
+}
+
+/// What is found of a plan from a state on. Each action up to what is found is handed over.
+fn check_from<K: StepSink>(
     alloc: Global,
     team: &[AgentFactor<'_, '_>],
     facts: &mut Facts,
     room: &mut Room,
     plan: &JointPlan,
-    keep: bool,
-    steps: &mut Vec<NumberedStep>,
+    sink: &mut K,
 ) -> Result<CheckVerdict, OutOfMemory>
-    requires { length plan.now ≤ 4194304 }
+    requires short { length plan.now ≤ 4194304 }
+    requires none_yet { K.have_come sink.old [] }
     ensures verdict { IfOk result (λ v. (names : ListOf (ListOf ℕ)) (factors : ListOf FactorParts)
         → team.now ≡ views_from names 1 factors
         → v ≡ verdict_from factors (named_state names (true_facts facts.old)) 1 0 plan.now) }
-    ensures steps { keep ≡ true → steps.old.items ≡ []
-        → IfOk result (λ v. IfValid v ((names : ListOf (ListOf ℕ)) (factors : ListOf FactorParts)
+    ensures steps { IfOk result (λ v. IfValid v ((names : ListOf (ListOf ℕ)) (factors : ListOf FactorParts)
         → team.now ≡ views_from names 1 factors
-        → AreNumbered (team_of factors) plan.now steps.new.items)) }
+        → HasPlanCome (K.have_come sink.new) (team_of factors) plan.now)) }
 {
     let mut paid = 0_u64;
     for (place, step) in plan.as_slice().iter().enumerate() {
@@ -101,7 +120,7 @@ fn check_from(
             Taken::Fails(first) => return Ok(failing_step(time, first)),
             Taken::Done(cost) => {
                 paid += cost;
-                keep_step(alloc, keep, step.agent, &room.places, steps)?;
+                hand_over(sink, step.agent, &mut room.places)?;
             }
         }
     }
@@ -111,43 +130,27 @@ fn check_from(
     }
 }
 
-/// What is found of a plan, and its steps with numbers for their facts.
-#[derive(Drop)]
-pub struct CheckedSteps {
-    pub verdict: CheckVerdict,
-    /// All steps of the plan where it solves.
-    pub steps: Vec<NumberedStep>,
-}
-
-/// What is found of a plan of a team, and its steps with numbers, where they are kept.
-fn check_keeping(
+/// What `check` finds of a plan. Each action up to what is found is handed over with numbers for its facts, so that all of
+/// the plan have come where it solves. Refuses only for want of memory.
+pub fn check_with_steps<K: StepSink>(
     alloc: Global,
     factors: &[CheckedFactor],
     plan: &JointPlan,
-    keep: bool,
-) -> Result<CheckedSteps, OutOfMemory>
+    sink: &mut K,
+) -> Result<CheckVerdict, OutOfMemory>
     requires team { 1 ≤ length factors.now }
     requires few { length factors.now ≤ 16 }
     requires short { length plan.now ≤ 4194304 }
-    ensures verdict { IfOk result (λ checked. checked.verdict ≡ verdict factors.now plan.now) }
-    ensures steps { keep ≡ true → IfOk result (λ checked.
-        IfValid checked.verdict (AreNumbered (team_of factors.now) plan.now checked.steps.items)) }
+    requires none_yet { K.have_come sink.old [] }
+    ensures verdict { IfOk result (λ v. v ≡ verdict factors.now plan.now) }
+    ensures steps { IfOk result (λ v.
+        IfValid v (HasPlanCome (K.have_come sink.new) (team_of factors.now) plan.now)) }
 {
     let names = team_names(alloc, factors)?;
     let team = numbered_team(alloc, &names, factors)?;
     let mut room = empty_room(alloc);
     let mut facts = start(alloc, team.as_slice(), &mut room)?;
-    let mut steps = room_for_steps(alloc, keep, plan.len())?;
-    let verdict = check_from(
-        alloc,
-        team.as_slice(),
-        &mut facts,
-        &mut room,
-        plan,
-        keep,
-        &mut steps,
-    )?;
-    Ok(CheckedSteps { verdict, steps })
+    check_from(alloc, team.as_slice(), &mut facts, &mut room, plan, sink)
 }
 
 /// What is found of a plan of a team, whose first factor is that of agent 1: the first step that is no instance or asks
@@ -163,23 +166,5 @@ pub fn check(
     requires short { length plan.now ≤ 4194304 }
     ensures { IfOk result (λ v. v ≡ verdict factors.now plan.now) }
 {
-    let CheckedSteps { verdict, steps: _ } = check_keeping(alloc, factors, plan, false)?;
-    Ok(verdict)
-}
-
-/// What `check` finds of a plan, and, where the plan solves, its steps with numbers for their facts. Refuses only for want
-/// of memory.
-pub fn check_with_steps(
-    alloc: Global,
-    factors: &[CheckedFactor],
-    plan: &JointPlan,
-) -> Result<CheckedSteps, OutOfMemory>
-    requires team { 1 ≤ length factors.now }
-    requires few { length factors.now ≤ 16 }
-    requires short { length plan.now ≤ 4194304 }
-    ensures verdict { IfOk result (λ checked. checked.verdict ≡ verdict factors.now plan.now) }
-    ensures steps { IfOk result (λ checked.
-        IfValid checked.verdict (AreNumbered (team_of factors.now) plan.now checked.steps.items)) }
-{
-    check_keeping(alloc, factors, plan, true)
+    check_with_steps(alloc, factors, plan, &mut NoSteps)
 }

@@ -1,6 +1,9 @@
 //! Room for what is worked out in a step.
 
+ghost use Rattle.std.specs.Prelude.{◌≡◌, ◌++◌, OnOk};
+
 use crate::numbered::ObjectNumber;
+use mp_list::OutOfMemory;
 use std::alloc::Global;
 
 /// The numbers of the facts of a step.
@@ -36,4 +39,17 @@ pub fn empty_room(alloc: Global) -> Room {
             dels: Vec::new(alloc),
         },
     }
+}
+
+/// Puts the numbers of the facts that a step asks against behind those that it asks for. Refuses only for want of memory.
+pub fn join_asked(places: &mut StepPlaces) -> Result<(), OutOfMemory>
+    ensures needs { OnOk result (places.new.needs.items ≡ places.old.needs.items ++ places.old.against.items) }
+    ensures adds { places.new.adds.items ≡ places.old.adds.items }
+    ensures dels { places.new.dels.items ≡ places.old.dels.items }
+{
+    // (seldom is there one)
+    if !places.against.is_empty() {
+        places.needs.extend_from_slice(places.against.as_slice())?;
+    }
+    Ok(())
 }

@@ -31,9 +31,9 @@ fn push_action(text: &mut Bytes, step: &PlanStep) -> Result<(), OutOfMemory>
     ensures { OnOk result (text.new ≡ text.old ++ (action_line step.now ++ 10 ∷ [])) }
 {
     push_number(text, u64::from(step.agent.number()))?;
-    text.extend_from_slice(b" ")?;
+    text.push(b' ')?;
     push_named(text, &step.action, step.args.as_slice())?;
-    text.extend_from_slice(b"\n")
+    text.push(b'\n')
 }
 
 /// Appends the line of the action of a time.
@@ -85,7 +85,7 @@ fn push_times(text: &mut Bytes, times: &[u64]) -> Result<(), OutOfMemory>
     ensures { OnOk result (text.new ≡ text.old ++ flat_map (λ t. codes " " ++ decimal t) times.now) }
 {
     for time in times {
-        text.extend_from_slice(b" ")?;
+        text.push(b' ')?;
         push_number(text, *time)?;
     }
     Ok(())

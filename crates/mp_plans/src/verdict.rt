@@ -17,7 +17,7 @@ fn push_arguments(text: &mut Bytes, args: &[Name]) -> Result<(), OutOfMemory>
     ensures { OnOk result (text.new ≡ text.old ++ flat_map (λ arg. 32 ∷ arg) args.now) }
 {
     for arg in args {
-        text.extend_from_slice(b" ")?;
+        text.push(b' ')?;
         text.extend_from_slice(arg.as_slice())?;
     }
     Ok(())
@@ -27,10 +27,10 @@ fn push_arguments(text: &mut Bytes, args: &[Name]) -> Result<(), OutOfMemory>
 pub(crate) fn push_named(text: &mut Bytes, name: &Name, args: &[Name]) -> Result<(), OutOfMemory>
     ensures { OnOk result (text.new ≡ text.old ++ named_text name.now args.now) }
 {
-    text.extend_from_slice(b"(")?;
+    text.push(b'(')?;
     text.extend_from_slice(name.as_slice())?;
     push_arguments(text, args)?;
-    text.extend_from_slice(b")")
+    text.push(b')')
 }
 
 /// Appends a fact.

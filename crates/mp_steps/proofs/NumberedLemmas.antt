@@ -7,12 +7,13 @@ use Rattle.std.proofs.lemmas.List.{take_more, map_push, length-map, length_push}
 use Rattle.std.proofs.lemmas.Option.{none-some, same_Some, slice_get-map, slice_get_within, get_or_from_slice_get}
 use Rattle.mp_steps.specs.declared.facts.FactMarks.{FactMarks}
 use Rattle.mp_steps.specs.declared.mark.Mark.{Mark}
-use Rattle.mp_checker.specs.declared.step.NumberedStep.{NumberedStep}
+use Rattle.mp_checker.specs.Steps.{NumberedStep}
 use Rattle.mp_steps.specs.declared.role.Role.{Role}
 use Rattle.mp_steps.specs.declared.role.Role.TheVariants.{Needed, Added, Deleted}
 use Rattle.mp_steps.specs.Levels.{level_at}
 use Rattle.mp_steps.specs.Marks.{no_mark, better, IsBest, AreMet, levels_after}
 use Rattle.mp_steps.specs.Numbered.{is_in, facts_in, has, has_against, meets, clashes, step_at, clash_at, marks_at, mark_in, mark_against, with_mark, best_against, marked_in, marked_by, met_by}
+use Rattle.mp_steps.specs.Levelled.{HasAgents, HasMarks, IsLevelled, of_agent}
 use Rattle.mp_steps.proofs.LevelLemmas.{level_kept, level_new}
 use Rattle.mp_steps.proofs.MarkLemmas.{twice_better, best_of_none, best_same, best_merge, best_over, best_without, best_with}
 use Rattle.mp_steps.proofs.MemberLemmas.{item_left, item_end, item_there}
@@ -96,36 +97,27 @@ in_role Deleted mark m false false false = refl
 -- ---- what marks say of earlier actions
 
 module _ (level : ℕ → ℕ) (n : ℕ) (at : ℕ → Option NumberedStep) where
-  abbrev pub HasMarks : (ℕ → FactMarks) → Type 0
-  HasMarks marks = (role : Role) (f : ℕ) → IsBest level n (λ t. has role (at t) f) (mark_in role (marks f))
-
-  abbrev pub of_agent : ℕ → ℕ → Bool
-  of_agent agent t = option_map_or (λ (other : NumberedStep). eqb other.agent agent) (at t) false
-
-  abbrev pub HasAgents : (ℕ → Mark) → Type 0
-  HasAgents agents = (agent : ℕ) → IsBest level n (of_agent agent) (agents agent)
-
-  against : (marks : ℕ → FactMarks) → HasMarks marks → (role : Role) (f : ℕ) → IsBest level n (λ t. has_against role (at t) f) (mark_against role (marks f))
+  against : (marks : ℕ → FactMarks) → HasMarks level n at marks → (role : Role) (f : ℕ) → IsBest level n (λ t. has_against role (at t) f) (mark_against role (marks f))
   against marks h Needed f = best_merge level n (λ t. has Added (at t) f) (λ t. has Deleted (at t) f) (marks f).added (marks f).deleted (h Added f) (h Deleted f)
   against marks h Added f = best_merge level n (λ t. has Needed (at t) f) (λ t. has Deleted (at t) f) (marks f).needed (marks f).deleted (h Needed f) (h Deleted f)
   against marks h Deleted f = best_merge level n (λ t. has Needed (at t) f) (λ t. has Added (at t) f) (marks f).needed (marks f).added (h Needed f) (h Added f)
 
-  over : (marks : List FactMarks) → HasMarks (marks_at marks) → (role : Role) (facts : List ℕ) (q : ℕ → Bool) (b : Mark) → IsBest level n q b
+  over : (marks : List FactMarks) → HasMarks level n at (marks_at marks) → (role : Role) (facts : List ℕ) (q : ℕ → Bool) (b : Mark) → IsBest level n q b
       → IsBest level n (λ t. q t || list_any (has_against role (at t)) facts) (best_against marks role facts b)
   unfolding best_against
   over marks h role facts q b best =
       best_over level n (λ f t. has_against role (at t) f) (λ f. mark_against role (marks_at marks f)) (against (marks_at marks) h role) q b facts best
 
   -- the greatest level of the earlier actions that an action clashes with
-  pub met_is : (marks : List FactMarks) (agents : ℕ → Mark) (x : NumberedStep) → HasMarks (marks_at marks) → HasAgents agents
+  pub met_is : (marks : List FactMarks) (agents : ℕ → Mark) (x : NumberedStep) → HasMarks level n at (marks_at marks) → HasAgents level n at agents
       → IsBest level n (λ t. clashes (at t) x)
       (best_against marks Deleted x.dels (best_against marks Added x.adds (best_against marks Needed x.needs (agents x.agent))))
   met_is marks agents x h own =
       best_same level n _ (λ t. clashes (at t) x) _
-      (λ t first within. regrouped (of_agent x.agent t) (meets (at t) Needed x) (meets (at t) Added x) (meets (at t) Deleted x))
-      (over marks h Deleted x.dels (λ t. (of_agent x.agent t || meets (at t) Needed x) || meets (at t) Added x) _
-      (over marks h Added x.adds (λ t. of_agent x.agent t || meets (at t) Needed x) _
-      (over marks h Needed x.needs (of_agent x.agent) (agents x.agent) (own x.agent))))
+      (λ t first within. regrouped (of_agent at x.agent t) (meets (at t) Needed x) (meets (at t) Added x) (meets (at t) Deleted x))
+      (over marks h Deleted x.dels (λ t. (of_agent at x.agent t || meets (at t) Needed x) || meets (at t) Added x) _
+      (over marks h Added x.adds (λ t. of_agent at x.agent t || meets (at t) Needed x) _
+      (over marks h Needed x.needs (of_agent at x.agent) (agents x.agent) (own x.agent))))
     where
       regrouped : (a b c d : Bool) → (((a || b) || c) || d) ≡ (a || (b || (c || d)))
       regrouped true b c d = refl
@@ -165,8 +157,8 @@ module _ (level more : ℕ → ℕ) (n l : ℕ) (at : ℕ → Option NumberedSte
   pub agents_more : (old new : ℕ → Mark) → HasAgents level n at old
       → ((a : ℕ) → new a ≡ cond (eqb x.agent a) (better (old x.agent) mark) (old a)) → HasAgents more (suc n) at new
   agents_more old new h changed a =
-      subst (IsBest more (suc n) (of_agent level n at a)) (same (eqb x.agent a) refl ∙ sym (changed a))
-      (with_one (of_agent level n at a) (old a) (eqb x.agent a) (ap (λ o. option_map_or (λ (other : NumberedStep). eqb other.agent a) o false) is) (h a))
+      subst (IsBest more (suc n) (of_agent at a)) (same (eqb x.agent a) refl ∙ sym (changed a))
+      (with_one (of_agent at a) (old a) (eqb x.agent a) (ap (λ o. option_map_or (λ (other : NumberedStep). eqb other.agent a) o false) is) (h a))
     where
       same : (b : Bool) → eqb x.agent a ≡ b → cond b (better (old a) mark) (old a) ≡ cond b (better (old x.agent) mark) (old a)
       same true e = ap (λ k. better (old k) mark) (sym (eqb-true x.agent a e))
@@ -174,20 +166,13 @@ module _ (level more : ℕ → ℕ) (n l : ℕ) (at : ℕ → Option NumberedSte
 
 -- ---- levels, action by action
 
-pub record IsLevelled (steps : List NumberedStep) (n : ℕ) (mets : List Mark) (marks : List FactMarks) (agents : List Mark) : Type 0 where
-  pub long : length mets ≡ n
-  pub low : (k : ℕ) (m : Mark) → slice_get mets k ≡ Some m → m.level ≤ k
-  pub met : AreMet (clash_at steps) mets
-  pub facts : HasMarks (level_at (levels_after mets)) n (step_at steps) (marks_at marks)
-  pub own : HasAgents (level_at (levels_after mets)) n (step_at steps) (λ a. get_or agents a no_mark)
-
 pub levelled_none : (steps : List NumberedStep) → IsLevelled steps 0 [] [] []
 levelled_none steps = record {
   long = refl;
   low = λ k m e. absurd (none-some m e);
   met = λ k m e. absurd (none-some m e);
   facts = λ role f. nothing role f;
-  own = λ a. best_of_none (level_at []) (of_agent (level_at []) 0 (step_at steps) a);
+  own = λ a. best_of_none (level_at []) (of_agent (step_at steps) a);
 }
   where
     nothing : (role : Role) (f : ℕ) → IsBest (level_at []) 0 (λ t. has role (step_at steps t) f) (mark_in role (marks_at [] f))
@@ -291,6 +276,42 @@ module _ (steps : List NumberedStep) (n : ℕ) (mets : List Mark) (marks : List 
     own = agents_more (level_at (levels_after mets)) (level_at (levels_after next)) n (the_met.level + 1) (step_at steps) x kept_level new_level at_n
         (λ a. get_or agents a no_mark) (λ a. get_or agents_new a no_mark) h.own changed;
   }
+
+-- what was kept of all actions is kept of them where one more comes
+module _ (steps : List NumberedStep) (x : NumberedStep) where
+  abbrev more : List NumberedStep
+  more = steps ++ x ∷ []
+
+  same_step : (t : ℕ) → t ≤ length steps → step_at steps t ≡ step_at more t
+  same_step zero within = refl
+  same_step (suc k) within = sym (item_left steps (x ∷ []) k (omega (arith, within)))
+
+  same_clash : (t k : ℕ) → t ≤ length steps → k < length steps → clash_at steps t (suc k) ≡ clash_at more t (suc k)
+  same_clash t k within inside =
+      λ i. option_map_or (clashes (same_step t within i)) (same_step (suc k) (omega (arith, inside)) i) false
+
+  pub levelled_before_more : (mets : List Mark) (marks : List FactMarks) (agents : List Mark)
+      → IsLevelled steps (length steps) mets marks agents → IsLevelled more (length steps) mets marks agents
+  levelled_before_more mets marks agents h =
+      let level = level_at (levels_after mets) in
+      record {
+        long = h.long;
+        low = h.low;
+        met = λ k m e.
+            let lt = slice_get_within mets k m e in
+            let long = h.long in
+            best_same level k (λ t. clash_at steps t (suc k)) (λ t. clash_at more t (suc k)) m
+            (λ t first within. same_clash t k (omega (arith, within, lt, long)) (omega (arith, lt, long))) (h.met k m e);
+        facts = λ role f.
+            best_same level (length steps) (λ t. has role (step_at steps t) f) (λ t. has role (step_at more t) f) (mark_in role (marks_at marks f))
+            (λ t first within. ap (λ o. has role o f) (same_step t within)) (h.facts role f);
+        own = λ a.
+            best_same level (length steps) (of_agent (step_at steps) a) (of_agent (step_at more) a) (get_or agents a no_mark)
+            (λ t first within. ap (λ o. option_map_or (λ (other : NumberedStep). eqb other.agent a) o false) (same_step t within)) (h.own a);
+      }
+
+  pub last_of_more : slice_get more (length steps) ≡ Some x
+  last_of_more = item_end steps x (length steps) refl
 
 -- the same, of what the code makes of one action
 pub levelled_next : (steps : List NumberedStep) (n : ℕ) (mets : List Mark) (marks : List FactMarks) (agents : List Mark) (x : NumberedStep) (met put : Mark)

@@ -12,11 +12,12 @@ use Rattle.mp_joint.specs.declared.plan.PlanStep.{PlanStep}
 use Rattle.mp_joint.specs.Fact.{same_fact, is_among}
 use Rattle.mp_joint.specs.Instance.{Instance}
 use Rattle.mp_joint.specs.Plan.{Contribution, instance_of}
-use Rattle.mp_checker.specs.declared.step.NumberedStep.{NumberedStep}
-use Rattle.mp_checker.specs.Steps.{AreNumbered, changes_fact, numbered_step}
+use Rattle.mp_checker.specs.Steps.{AreNumbered, NumberedStep, changes_fact, numbered_step}
 use Rattle.mp_checker.proofs.SameNumbers.{Decides-fact}
 use Rattle.mp_steps.specs.declared.role.Role.TheVariants.{Needed, Added, Deleted}
 use Rattle.mp_steps.specs.Interference.{share, needs, changes, conflict, in_conflict, interfere, at_time, interfere_at}
+use Rattle.mp_steps.specs.declared.mark.Mark.{Mark}
+use Rattle.mp_steps.specs.Levelled.{AreMetIn}
 use Rattle.mp_steps.specs.Levels.{levels}
 use Rattle.mp_steps.specs.PlanSteps.{plan_chain, plan_steps}
 use Rattle.mp_steps.specs.Steps.{chain, steps}
@@ -191,22 +192,17 @@ module _ (team : List Contribution) (plan : List PlanStep) (numbered : List Numb
   pub as_many : length numbered ≡ length plan
   as_many = ap length are.are ∙ length-map plan step_of
 
--- ---- of a slice of the steps
+-- ---- what the actions of a plan met
 
-steps_there : (team : List Contribution) (plan : List PlanStep) (numbered slice : List NumberedStep) → AreNumbered team plan numbered → slice ≡ numbered
-    → (clash_at slice ≡ interfere_at team plan) × (length slice ≡ length plan)
-steps_there team plan numbered slice are is =
-    let tests : clash_at numbered ≡ interfere_at team plan = λ i t u. clashes_as_plan team plan numbered are t u i in
-    (ap clash_at is ∙ tests, ap length is ∙ as_many team plan numbered are)
+module _ (team : List Contribution) (plan : List PlanStep) (mets : List Mark) (h : AreMetIn team plan mets) where
+  same_clash : clash_at h.steps ≡ interfere_at team plan
+  same_clash = λ i t u. clashes_as_plan team plan h.steps h.numbered t u i
 
-pub packed_steps : (team : List Contribution) (plan : List PlanStep) (numbered slice : List NumberedStep) → AreNumbered team plan numbered → slice ≡ numbered
-    → steps (levels (clash_at slice) (length slice)) (length slice) ≡ plan_steps team plan
-packed_steps team plan numbered slice are is =
-    let same = steps_there team plan numbered slice are is in
-    λ i. steps (levels (same.0 i) (same.1 i)) (same.1 i)
+  same_length : length mets ≡ length plan
+  same_length = h.long ∙ as_many team plan h.steps h.numbered
 
-pub packed_chain : (team : List Contribution) (plan : List PlanStep) (numbered slice : List NumberedStep) → AreNumbered team plan numbered → slice ≡ numbered
-    → chain (clash_at slice) (levels (clash_at slice) (length slice)) (length slice) ≡ plan_chain team plan
-packed_chain team plan numbered slice are is =
-    let same = steps_there team plan numbered slice are is in
-    λ i. chain (same.0 i) (levels (same.0 i) (same.1 i)) (same.1 i)
+  pub met_steps : steps (levels (clash_at h.steps) (length mets)) (length mets) ≡ plan_steps team plan
+  met_steps = λ i. steps (levels (same_clash i) (same_length i)) (same_length i)
+
+  pub met_chain : chain (clash_at h.steps) (levels (clash_at h.steps) (length mets)) (length mets) ≡ plan_chain team plan
+  met_chain = λ i. chain (same_clash i) (levels (same_clash i) (same_length i)) (same_length i)

@@ -5,5 +5,6 @@ pub mod Interference
 pub mod PlanSteps
 pub mod Marks
 pub mod Numbered
+pub mod Levelled
 pub mod Packed
 pub mod Examples

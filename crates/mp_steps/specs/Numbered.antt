@@ -3,7 +3,7 @@ use Rattle.std.specs.Prelude.{ℕ, zero, suc, ◌==◌, Bool, false, ◌||◌, L
 use Rattle.std.specs.List.{list_any}
 use Rattle.std.specs.Option.{option_map_or}
 use Rattle.mp_steps.specs.declared.mark.Mark.{Mark}
-use Rattle.mp_checker.specs.declared.step.NumberedStep.{NumberedStep}
+use Rattle.mp_checker.specs.Steps.{NumberedStep}
 use Rattle.mp_steps.specs.declared.role.Role.{Role}
 use Rattle.mp_steps.specs.declared.role.Role.TheVariants.{Needed, Added, Deleted}
 use Rattle.mp_steps.specs.declared.facts.FactMarks.{FactMarks}

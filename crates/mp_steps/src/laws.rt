@@ -3,7 +3,7 @@
 ghost use Rattle.std.specs.Prelude.{◌≡◌, ◌<◌, ◌≤◌, ◌+◌, ℕ, true, List, Some, Contains, length, slice_get};
 ghost use Rattle.mp_joint.specs.declared.plan.PlanStep.{PlanStep};
 ghost use Rattle.mp_joint.specs.Plan.{Contribution, Solves, cost};
-ghost use Rattle.mp_checker.specs.declared.step.NumberedStep.{NumberedStep};
+ghost use Rattle.mp_checker.specs.Steps.{NumberedStep};
 ghost use Rattle.mp_steps.specs.Interference.{interfere_at};
 ghost use Rattle.mp_steps.specs.Levels.{levels};
 ghost use Rattle.mp_steps.specs.Numbered.{clash_at};

@@ -19,6 +19,5 @@ pub use laws::{
     chains_keep_steps_apart, numbered_actions_stand_for_plans, orders_of_steps_solve,
     steps_are_a_packing,
 };
-pub use packed::{NumberedPacking, pack_numbered};
 pub use plan::{PackRefusal, Packed, pack};
 pub use worked::{worked_chains, worked_steps};

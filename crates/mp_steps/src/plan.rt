@@ -6,15 +6,17 @@ ghost use Rattle.mp_joint.specs.declared.plan.PlanStep.{PlanStep};
 ghost use Rattle.mp_joint.specs.FactorContribution.{team_of};
 ghost use Rattle.mp_joint.specs.Plan.{Contribution};
 ghost use Rattle.mp_checker.specs.Checked.{IfValid};
-ghost use Rattle.mp_checker.specs.Steps.{AreNumbered};
 ghost use Rattle.mp_plan_verdict.specs.Verdict.{verdict};
 ghost use Rattle.mp_plan_verdict.specs.declared.verdict.CheckVerdict.TheVariants.{Valid};
+ghost use Rattle.mp_steps.specs.Levelled.{AreMetIn};
 ghost use Rattle.mp_steps.specs.Packed.{IsNotValid, IsPacked, IsRefused};
 ghost use Rattle.mp_steps.specs.PlanSteps.{plan_chain, plan_steps};
 
 use crate::group::{StepLists, Times};
-use crate::packed::{NumberedPacking, pack_numbered};
-use mp_checker::{CheckVerdict, CheckedSteps, NumberedStep, check_with_steps};
+use crate::level::no_levels;
+use crate::mark::Mark;
+use crate::packed::{Packing, packing_of};
+use mp_checker::{CheckVerdict, check_with_steps};
 use mp_joint::JointPlan;
 use mp_list::OutOfMemory;
 use mp_typing::CheckedFactor;
@@ -63,31 +65,30 @@ fn cost_of(found: &CheckVerdict) -> Option<u64>
     }
 }
 
-/// The steps and the chain of numbered actions, which are a plan's that solves at this cost.
-fn packed_at(alloc: Global, steps: &[NumberedStep], cost: u64) -> Result<Packed, OutOfMemory>
+/// The steps and the chain of the actions of a plan that solves at this cost, by what they met.
+fn packed_at(alloc: Global, mets: &[Mark], cost: u64) -> Result<Packed, OutOfMemory>
     ensures cost { IfOk result (λ packed. packed.cost ≡ cost) }
     ensures steps { IfOk result (λ packed. (team : ListOf Contribution) (plan : ListOf PlanStep)
-        → AreNumbered team plan steps.now → packed.steps ≡ plan_steps team plan) }
+        → AreMetIn team plan mets.now → packed.steps ≡ plan_steps team plan) }
     ensures chain { IfOk result (λ packed. (team : ListOf Contribution) (plan : ListOf PlanStep)
-        → AreNumbered team plan steps.now → packed.chain ≡ plan_chain team plan) }
+        → AreMetIn team plan mets.now → packed.chain ≡ plan_chain team plan) }
 {
-    let packing = pack_numbered(alloc, steps)?;
-    let NumberedPacking { steps, chain } = packing;
+    let packing = packing_of(alloc, mets)?;
+    let Packing { steps, chain } = packing;
     Ok(Packed { cost, steps, chain })
 }
 
-/// The steps and the chain of a plan that was checked, or what is found of it.
-fn pack_checked(alloc: Global, checked: CheckedSteps) -> Result<Packed, PackRefusal>
-    ensures packed { (factors : ListOf Factor) (plan : ListOf PlanStep) → checked.verdict ≡ verdict factors plan
-        → IfValid checked.verdict (AreNumbered (team_of factors) plan checked.steps.items)
+/// The steps and the chain of a plan, by what its actions met, or what was found of it.
+fn pack_checked(alloc: Global, found: CheckVerdict, mets: &[Mark]) -> Result<Packed, PackRefusal>
+    ensures packed { (factors : ListOf Factor) (plan : ListOf PlanStep) → found ≡ verdict factors plan
+        → IfValid found (AreMetIn (team_of factors) plan mets.now)
         → IfOk result (IsPacked factors plan) }
-    ensures refused { (factors : ListOf Factor) (plan : ListOf PlanStep) → checked.verdict ≡ verdict factors plan
+    ensures refused { (factors : ListOf Factor) (plan : ListOf PlanStep) → found ≡ verdict factors plan
         → IfErr result (IsRefused factors plan) }
 {
-    let CheckedSteps { verdict, steps } = checked;
-    match cost_of(&verdict) {
-        Some(cost) => Ok(packed_at(alloc, steps.as_slice(), cost)?),
-        None => Err(PackRefusal::Invalid(verdict)),
+    match cost_of(&found) {
+        Some(cost) => Ok(packed_at(alloc, mets, cost)?),
+        None => Err(PackRefusal::Invalid(found)),
     }
 }
 
@@ -105,6 +106,7 @@ pub fn pack(
     ensures packed { IfOk result (IsPacked factors.now plan.now) }
     ensures refused { IfErr result (IsRefused factors.now plan.now) }
 {
-    let checked = check_with_steps(alloc, factors, plan)?;
-    pack_checked(alloc, checked)
+    let mut levels = no_levels(alloc, plan.len())?;
+    let found = check_with_steps(alloc, factors, plan, &mut levels)?;
+    pack_checked(alloc, found, levels.mets.as_slice())
 }

@@ -1,13 +1,10 @@
-use Rattle.std.proofs.Common.{refl, ◌∙◌}
-use Rattle.mp_steps.proofs.StandLemmas.{packed_chain, packed_steps}
+use Rattle.std.proofs.Common.{◌∙◌}
+use Rattle.mp_steps.specs.Numbered.{clash_at}
+use Rattle.mp_steps.proofs.StandLemmas.{met_chain, met_steps}
 use Rattle.mp_steps.proofs.plan.packed_at.Goals as goal
 
 pub returns-clause-steps : goal.returns-clause-steps
-returns-clause-steps c = λ team plan numbered.
-    let s = c.args.steps.now in
-    c.in_ok-packing.ensures.steps ∙ packed_steps team plan s s numbered refl
+returns-clause-steps c = λ team plan h. c.in_ok-packing.ensures.steps (clash_at h.steps) h.met ∙ met_steps team plan c.args.mets.now h
 
 pub returns-clause-chain : goal.returns-clause-chain
-returns-clause-chain c = λ team plan numbered.
-    let s = c.args.steps.now in
-    c.in_ok-packing.ensures.chain ∙ packed_chain team plan s s numbered refl
+returns-clause-chain c = λ team plan h. c.in_ok-packing.ensures.chain (clash_at h.steps) h.met ∙ met_chain team plan c.args.mets.now h
