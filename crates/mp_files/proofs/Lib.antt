@@ -2,6 +2,8 @@
 pub mod Each
 -- from what was fetched to what the files hold
 pub mod Held
+-- what was done at a source
+pub mod Acts
 -- from texts to the factors of a team
 pub mod Texts
 -- readings one after another, and those that lead to one thing alone

@@ -4,6 +4,8 @@ pub mod Reading
 pub mod File
 -- what the files of a team lead to
 pub mod Team
+-- the files that a source is asked for
+pub mod Asked
 -- what is seen of a source, and what a refusal rests on
 pub mod Cause
 -- what was fetched

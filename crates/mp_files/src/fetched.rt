@@ -2,6 +2,8 @@
 
 ghost use Rattle.std.specs.Prelude.{◌≡◌, ◌+◌, ◌<◌, ◌≤◌};
 ghost use Rattle.std.specs.Prelude.{OnOk, IfOk, IfErr, IfSome, All, length, map, slice_get, Some, vec_len};
+ghost use Rattle.mp_outside.specs.Acts.{AreReadInTurn, Does, IsReadOnce};
+ghost use Rattle.mp_files.specs.Asked.{file_asked, team_asked, two_asked};
 ghost use Rattle.mp_files.specs.Cause.{AreFittingBefore, IsFittingBefore, IsOfReading, Rests, name_in, seen_source};
 ghost use Rattle.mp_files.specs.Fetched.{AreAllFetched, AreFetched, IsFetched, IsShort, IsTextOf, names_of, texts_of};
 ghost use Rattle.mp_files.specs.File.{longest_file};
@@ -40,8 +42,8 @@ fn name_of<'a>(names: &AgentFiles<'a>, file: File) -> &'a str
     }
 }
 
-/// The text of a file of an agent, where the files before it fit. At most one byte more is read than a factor file may
-/// have.
+/// The text of a file of an agent, where the files before it fit. It is read at most once, and at most one byte more of it than
+/// a factor file may have.
 fn text_of<S: Source>(
     alloc: Global,
     source: &mut S,
@@ -60,6 +62,7 @@ fn text_of<S: Source>(
     ensures no_fault { IfOk result (λ _. S.faults source.new ≡ S.faults source.old) }
     ensures fault { IfErr result (λ r. S.faults source.old < S.faults source.new → IsOfReading r) }
     ensures held { S.held source.new ≡ S.held source.old }
+    ensures acts { Does (IsReadOnce (file_asked (name_in (names_of names.now) file))) (S.acts source.old) (S.acts source.new) }
 {
     match fetch(alloc, source, name_of(names, file), LONGEST) {
         Ok(text) if text.len() > LONGEST => Err(Refusal::TooLarge(file_of(agent, file))),
@@ -87,6 +90,7 @@ fn texts_of_agent<S: Source>(
     ensures no_fault { IfOk result (λ _. S.faults source.new ≡ S.faults source.old) }
     ensures fault { IfErr result (λ r. S.faults source.old < S.faults source.new → IsOfReading r) }
     ensures held { S.held source.new ≡ S.held source.old }
+    ensures acts { Does (AreReadInTurn (two_asked (names_of names.now))) (S.acts source.old) (S.acts source.new) }
 {
     let domain = text_of(alloc, source, team, agent, names, File::Domain)?;
     let problem = text_of(alloc, source, team, agent, names, File::Problem)?;
@@ -113,12 +117,14 @@ fn fetch_next<S: Source>(
     ensures no_fault { OnOk result (S.faults source.new ≡ S.faults source.old) }
     ensures fault { IfErr result (λ r. S.faults source.old < S.faults source.new → IsOfReading r) }
     ensures held { S.held source.new ≡ S.held source.old }
+    ensures acts { Does (AreReadInTurn (two_asked (names_of names.now))) (S.acts source.old) (S.acts source.new) }
 {
     let more = texts_of_agent(alloc, source, team, texts.len(), names)?;
     push(texts, more)
 }
 
-/// The texts of the files of all agents.
+/// The texts of the files of all agents. Each file is read at most once, in the order of the names.
+#[tactic(auto, using(crate::proofs::Acts::none_asked))]
 pub(crate) fn team_texts<S: Source>(
     alloc: Global,
     source: &mut S,
@@ -133,6 +139,7 @@ pub(crate) fn team_texts<S: Source>(
     ensures no_fault { IfOk result (λ _. S.faults source.new ≡ S.faults source.old) }
     ensures fault { IfErr result (λ r. S.faults source.old < S.faults source.new → IsOfReading r) }
     ensures held { S.held source.new ≡ S.held source.old }
+    ensures acts { Does (AreReadInTurn (team_asked (map names_of team.now))) (S.acts source.old) (S.acts source.new) }
 {
     let mut texts = Vec::new(alloc);
     for names in team {

@@ -1,6 +1,8 @@
 //! The factors that the files of a team hold.
 
 ghost use Rattle.std.specs.Prelude.{◌≡◌, ◌<◌, Ok, IfOk, IfErr, IfSome, All, map, length};
+ghost use Rattle.mp_outside.specs.Acts.{AreReadInTurn, Does};
+ghost use Rattle.mp_files.specs.Asked.{team_asked};
 ghost use Rattle.mp_files.specs.Cause.{IsOfReading, Rests, seen_source};
 ghost use Rattle.mp_files.specs.Fetched.{IsShort, names_of, texts_of};
 ghost use Rattle.mp_files.specs.Reading.{Refuses};
@@ -28,7 +30,8 @@ fn factors_of_texts(alloc: Global, texts: Vec<AgentTexts>) -> Result<List<Checke
 /// The factors of the agents of a team, whose files have these names: each file is looked for and measured, an agent's
 /// domain and then its problem, one agent after another; then each text is read and its shape looked at; then each
 /// agent's factor is checked. The first of these that goes wrong is answered. Where the source's count of faults rose,
-/// a file cannot be read. Refuses also for want of memory.
+/// a file cannot be read. Each file is begun at most once, in the order of the names, and at most one byte more of it is taken than a
+/// factor file may have; nothing else is done at the source. Refuses also for want of memory.
 pub fn read_team<S: Source>(
     alloc: Global,
     source: &mut S,
@@ -41,6 +44,7 @@ pub fn read_team<S: Source>(
         (seen_source S.held S.faults S.fault_at source.old source.new) (map names_of names.now)) }
     ensures no_fault { IfOk result (λ _. S.faults source.new ≡ S.faults source.old) }
     ensures fault { IfErr result (λ r. S.faults source.old < S.faults source.new → IsOfReading r) }
+    ensures acts { Does (AreReadInTurn (team_asked (map names_of names.now))) (S.acts source.old) (S.acts source.new) }
 {
     let texts = team_texts(alloc, source, names)?;
     factors_of_texts(alloc, texts)

@@ -6,9 +6,10 @@ use Rattle.mp_files.specs.Team.{ReadsTeam}
 use Rattle.mp_files.specs.declared.refusal.FileOf.{FileOf}
 use Rattle.mp_files.specs.declared.refusal.Refusal.TheVariants as why
 use Rattle.mp_ground.specs.declared.refusal.GroundRefusal.TheVariants as sizes
+use Rattle.mp_outside.specs.Acts.{FileAsked}
 use Rattle.mp_outside.specs.Source.{Files as Held}
 use Rattle.mp_words.specs.Requests.{Wanted, request_of}
-use Rattle.mp_top.specs.Asked.{FirstFile, TeamRequest, Texts, team_request}
+use Rattle.mp_top.specs.Asked.{TeamRequest, Texts, team_request}
 use Rattle.mp_top.specs.Asked.Texts.{in_files, made}
 use Rattle.mp_top.specs.Call.{Call}
 use Rattle.mp_top.specs.Cause.{CannotReadFactor, CannotReadFirst, CannotReadTexts, Rests}
@@ -28,7 +29,7 @@ module _ (source : SeenSource) (held : Held) (request : TeamRequest) (tells : so
   not_first : (r : Refusal) → ComesFirst source.held request r → ⊥
   not_first r comes = none r (subst (λ h. ComesFirst h request r) tells comes)
 
-  absent : (file : FirstFile) → request.first ≡ Some file → IsSomeAnd source.held (λ files. files file.name ≡ None) → ⊥
+  absent : (file : FileAsked) → request.first ≡ Some file → IsSomeAnd source.held (λ files. files file.name ≡ None) → ⊥
   absent file asked lacks =
       none (First first.Read) (record {
         file = file;

@@ -12,13 +12,14 @@ use Rattle.mp_ground.specs.declared.refusal.GroundRefusal.{GroundRefusal}
 use Rattle.mp_ground.specs.declared.refusal.GroundRefusal.TheVariants.{TooManyTries, TooManyActions, TooManyFacts, OutOfMemory}
 use Rattle.mp_grounder.specs.Checked.{IsChecked}
 use Rattle.mp_maker.specs.Delivery.{delivery}
+use Rattle.mp_outside.specs.Acts.{FileAsked}
 use Rattle.mp_outside.specs.Source.{Files as Held}
 use Rattle.mp_solutions.specs.Solution.{IsFoundOn, IsReplayed}
 use Rattle.mp_solutions.specs.declared.solution.Solution.{Solution}
 use Rattle.mp_solve.specs.Refused.{AreWithin, Refuses as ReplayRefuses}
 use Rattle.mp_solve.specs.declared.refusal.ReplayRefusal.{ReplayRefusal}
 use Rattle.mp_solve.specs.declared.refusal.ReplayRefusal.TheVariants as replay
-use Rattle.mp_top.specs.Asked.{FirstFile, TeamRequest, Work, agents_of, longest_plan, longest_schedule, made_texts, names_of_texts, values_of}
+use Rattle.mp_top.specs.Asked.{TeamRequest, Work, agents_of, longest_plan, longest_schedule, made_texts, names_of_texts, values_of}
 use Rattle.mp_top.specs.Asked.Texts.{in_files, made}
 use Rattle.mp_top.specs.Asked.Work.{checked, replayed, searched}
 use Rattle.mp_top.specs.Cause.{Rests}
@@ -96,7 +97,7 @@ makes_for s one show texts size team found d within solved is = record {
 -- ---- What a refusal rests on.
 
 -- a refusal of the files of the agents, where the first file was fetched
-pub files_rest : (source : SeenSource) (file : Option FirstFile) (names : List Two) (work : Work) (text : Option Text) (r : FilesRefusal) → IsFirstText source.held file text → FilesRest source names r → Rests source (record { first = file; texts = in_files names; work = work }) (Files r)
+pub files_rest : (source : SeenSource) (file : Option FileAsked) (names : List Two) (work : Work) (text : Option Text) (r : FilesRefusal) → IsFirstText source.held file text → FilesRest source names r → Rests source (record { first = file; texts = in_files names; work = work }) (Files r)
 files_rest source file names work text (files.Read at) is h = record { first_text = (text, is); cannot = h }
 files_rest source file names work text (files.TooLarge at) is h = record { first_text = (text, is); first = h }
 files_rest source file names work text (files.Fault at kind place) is h = record { first_text = (text, is); first = h }

@@ -2,9 +2,10 @@
 use Rattle.std.proofs.Common.{◌≡◌, ◌+◌, ◌<◌, ◌≤◌, ◌∙◌, inl, inr, ℕ, min, length, take, Option, Some, None, IfSome, IsSomeAnd, ap, sym, arith}
 use Rattle.std.proofs.lemmas.List.{length-take, take_all}
 use Rattle.mp_joint.specs.Fact.{Text}
+use Rattle.mp_outside.specs.Acts.{FileAsked}
 use Rattle.mp_outside.specs.Source.{Files as Held, FaultAt, IsFrontOf, Lacks}
 use Rattle.mp_files.specs.Cause.{SeenSource}
-use Rattle.mp_top.specs.Asked.{FirstFile, TeamRequest}
+use Rattle.mp_top.specs.Asked.{TeamRequest}
 use Rattle.mp_top.specs.Cause.{CannotReadFirst}
 use Rattle.mp_top.specs.First.{IsFirstLong}
 
@@ -35,11 +36,11 @@ pub long_held : (n : ℕ) (held : Option Held) (name bytes : Text) → IsFrontOf
 long_held n None name bytes f h = tt
 long_held n (Some files) name bytes f h = long_in n (files name) bytes f h
 
-pub too_long : (held : Option Held) (request : TeamRequest) (file : FirstFile) → request.first ≡ Some file → IfSome held (λ files. IsSomeAnd (files file.name) (λ t. file.longest < length t)) → IsFirstLong held request
+pub too_long : (held : Option Held) (request : TeamRequest) (file : FileAsked) → request.first ≡ Some file → IfSome held (λ files. IsSomeAnd (files file.name) (λ t. file.longest < length t)) → IsFirstLong held request
 too_long held request file asked long = record { file = file; asked = asked; long = long }
 
-pub absent : (source : SeenSource) (request : TeamRequest) (file : FirstFile) → request.first ≡ Some file → Lacks source.held file.name → CannotReadFirst source request
+pub absent : (source : SeenSource) (request : TeamRequest) (file : FileAsked) → request.first ≡ Some file → Lacks source.held file.name → CannotReadFirst source request
 absent source request file asked lacks = record { file = file; asked = asked; because = inl lacks }
 
-pub failed : (source : SeenSource) (request : TeamRequest) (file : FirstFile) → request.first ≡ Some file → source.before < source.now → FaultAt source.held source.fault_at (Some file.name) → CannotReadFirst source request
+pub failed : (source : SeenSource) (request : TeamRequest) (file : FileAsked) → request.first ≡ Some file → source.before < source.now → FaultAt source.held source.fault_at (Some file.name) → CannotReadFirst source request
 failed source request file asked rose at = record { file = file; asked = asked; because = inr (rose, at) }

@@ -23,17 +23,18 @@ use Rattle.mp_world.specs.RoundRobin.{is_over}
 use Rattle.mp_world.specs.World.{World}
 use Rattle.mp_world.specs.declared.answer.Answer.{Answer}
 use Rattle.mp_world.specs.declared.answer.Answer.TheVariants as answer
-use Rattle.mp_top.specs.Asked.{TeamRequest, team_request, values_of}
+use Rattle.mp_top.specs.Asked.{TeamRequest, files_asked, team_request, texts_of, values_of}
 use Rattle.mp_top.specs.Call.{Call, Says}
 use Rattle.mp_top.specs.Cause.{CannotReadFactor, CannotReadFirst, Rests}
 use Rattle.mp_top.specs.Decided.{Decides, report_of, told}
 use Rattle.mp_top.specs.First.{ComesFirst, IsAccepted, IsFirst}
 use Rattle.mp_top.specs.FirstText.{IsFirstText}
-use Rattle.mp_top.specs.Keeps.{IsOutcomeFor, IsOutcomeStatus, IsSolved as IsSolvedStatus, Keeps, PrintsFor, PrintsNothing, PrintsOutcome, line_for}
-use Rattle.mp_top.specs.Outcome.{IsOutcome, answer_status, is_valid, reported}
+use Rattle.mp_top.specs.Keeps.{IsOutcomeFor, IsOutcomeStatus, IsSolved as IsSolvedStatus, IsUndecided, Keeps, PrintsFor, PrintsNothing, PrintsOutcome, ReadsInTurn, line_for}
+use Rattle.mp_top.specs.Outcome.{IsOutcome, Searches, answer_status, is_valid, reported}
 use Rattle.mp_top.specs.Printed.{Publishes, TellsRefusal, Writes}
 use Rattle.mp_top.specs.Refusal.{line_of, memory_line, status_of, words_line, write_line}
 use Rattle.mp_top.specs.Team.{IsTeam}
+use Rattle.mp_top.specs.Undecided.{IsSpent}
 use Rattle.mp_top.specs.declared.decision.Decision.{Decision}
 use Rattle.mp_top.specs.declared.refusal.Refusal.{Refusal}
 use Rattle.mp_top.specs.declared.refusal.Refusal.TheVariants.{Files, First, Sizes}
@@ -41,6 +42,7 @@ use Rattle.mp_top.specs.declared.refusal.FirstRefusal.TheVariants as first
 use Rattle.mp_top.specs.declared.report.Report.{Report}
 use Rattle.mp_top.specs.declared.status.Status.{Status}
 use Rattle.mp_top.specs.declared.status.Status.TheVariants as status
+use Rattle.mp_top.proofs.Acts.{nothing_read}
 
 -- where the texts lead to a team of which nothing is refused, nor of the text of the first file, no refusal is the first one
 abbrev pub NoneFirst : Type 0
@@ -54,6 +56,13 @@ NoneFirst =
 abbrev pub OneFirst : Type 0
 OneFirst = (files : Held) (request : TeamRequest) (r s : Refusal) → IsFirst files request r → IsFirst files request s → r ≡ s
 
+-- where nothing is decided about a plan of a request, an agent has expanded as many entries as it may, and it is none that would
+-- have gone on
+abbrev pub AreSpent : Option Held → Wanted → Type 0
+AreSpent held request =
+    (report : Report) (text : Text) (s : Searching) → Searches request s → IsOutcome held request report status.Undecided text
+    → IsSpent held (texts_of request) s report.log
+
 -- what holds by cases, in each of them
 at_none : {A : Type 0} (o : Option A) (N : Type 0) (S : A → Type 0) → o ≡ None → N → MatchOption o N S
 at_none None N S is n = n
@@ -66,6 +75,11 @@ at_some (Some y) x N S is s = let same : x ≡ y = cc in subst S same s
 in_both : {A : Type 0} (o : Option A) (N : Type 0) (S : A → Type 0) → N → ((x : A) → S x) → MatchOption o N S
 in_both None N S n f = n
 in_both (Some x) N S n f = f x
+
+-- what holds by cases, in the first of them
+pub if_matched : {A : Type 0} (o : Option A) (N : Type 0) (S : A → Type 0) → o ≡ None → MatchOption o N S → N
+if_matched None N S is h = h
+if_matched (Some x) N S is h = absurd (cc)
 
 if_none : {A : Type 0} (o : Option A) (S : A → Type 0) → o ≡ None → IfSome o S
 if_none None S is = tt
@@ -95,8 +109,8 @@ pub record Unwritten (call : Call) : Type 0 where
   pub report : call.report ≡ call.before
 
 -- words that are not accepted
-pub kept_words : (call : Call) → request_of call.words ≡ None → call.status ≡ status.Words → call.source.now ≡ call.source.before → Unwritten call → Says call.err words_line → Keeps call
-kept_words call none is no_fault unwritten says =
+pub kept_words : (call : Call) → request_of call.words ≡ None → call.status ≡ status.Words → call.source.now ≡ call.source.before → call.acts.new ≡ call.acts.old → Unwritten call → Says call.err words_line → Keeps call
+kept_words call none is no_fault no_act unwritten says =
     let same : call.out.now ≡ call.out.before = unwritten.no_fault in
     record {
       words = λ _. none;
@@ -104,14 +118,16 @@ kept_words call none is no_fault unwritten says =
       read = λ s. absurd (cc);
       read_faults = λ risen. absurd (omega arith);
       write = (λ s. absurd (cc), λ risen. absurd (omega arith));
+      files = at_none (request_of call.words) _ _ none (nothing_read [] call.acts.old call.acts.new no_act);
       printed = at_none (request_of call.words) _ _ none (unwritten.out, unwritten.report);
+      undecided = λ s. absurd (cc);
       line = (words_line, at_none (request_of call.words) _ _ none (inl (is, refl)), says);
       first = if_none (request_of call.words) _ none;
     }
 
 -- memory ran out before a file was looked for
-pub kept_memory : (call : Call) → call.status ≡ status.Memory → call.source.now ≡ call.source.before → Unwritten call → Says call.err memory_line → Keeps call
-kept_memory call is no_fault unwritten says =
+pub kept_memory : (call : Call) → call.status ≡ status.Memory → call.source.now ≡ call.source.before → call.acts.new ≡ call.acts.old → Unwritten call → Says call.err memory_line → Keeps call
+kept_memory call is no_fault no_act unwritten says =
     let same : call.out.now ≡ call.out.before = unwritten.no_fault in
     record {
       words = λ s. absurd (cc);
@@ -119,13 +135,16 @@ kept_memory call is no_fault unwritten says =
       read = λ s. absurd (cc);
       read_faults = λ risen. absurd (omega arith);
       write = (λ s. absurd (cc), λ risen. absurd (omega arith));
+      files = in_both (request_of call.words) _ _ (nothing_read [] call.acts.old call.acts.new no_act)
+          (λ request. nothing_read (files_asked (team_request request)) call.acts.old call.acts.new no_act);
       printed = in_both (request_of call.words) _ _ (unwritten.out, unwritten.report)
           (λ request. subst (λ s. PrintsFor call request s) (sym is) (unwritten.out, unwritten.report));
+      undecided = λ s. absurd (cc);
       line = (memory_line, in_both (request_of call.words) _ _ (inr (is, refl)) (λ request. inr (inr (Files files.OutOfMemory, is, refl, tt))), says);
       first = always (request_of call.words) _ (λ request. always call.source.held _ (λ held s other. inr (inl is)));
     }
 
--- a refusal's status is neither that of words nor that of a failed write
+-- a refusal's status is neither that of words, nor that of a failed write, nor of an answer
 not_words : (r : Refusal) → status_of r ≡ status.Words → ⊥
 not_words (Files (files.Read at)) is = absurd (cc)
 not_words (Files (files.TooLarge at)) is = absurd (cc)
@@ -151,6 +170,19 @@ not_write (Sizes sizes.OutOfMemory) is = absurd (cc)
 not_write (First first.Read) is = absurd (cc)
 not_write (First first.TooLarge) is = absurd (cc)
 not_write (First (first.Line n)) is = absurd (cc)
+
+not_undecided : (r : Refusal) → status_of r ≡ status.Undecided → ⊥
+not_undecided (Files (files.Read at)) is = absurd (cc)
+not_undecided (Files (files.TooLarge at)) is = absurd (cc)
+not_undecided (Files (files.Fault at kind place)) is = absurd (cc)
+not_undecided (Files files.OutOfMemory) is = absurd (cc)
+not_undecided (Sizes (sizes.TooManyTries agent)) is = absurd (cc)
+not_undecided (Sizes (sizes.TooManyActions agent n)) is = absurd (cc)
+not_undecided (Sizes (sizes.TooManyFacts agent n)) is = absurd (cc)
+not_undecided (Sizes sizes.OutOfMemory) is = absurd (cc)
+not_undecided (First first.Read) is = absurd (cc)
+not_undecided (First first.TooLarge) is = absurd (cc)
+not_undecided (First (first.Line n)) is = absurd (cc)
 
 cannot_read : (source : SeenSource) (request : TeamRequest) (r : Refusal) → Rests source request r → status_of r ≡ status.Read → CannotReadFirst source request ⊎ ((at : FileOf) × CannotReadFactor source request at)
 cannot_read source request (Files (files.Read at)) h is = inr (at, h)
@@ -218,8 +250,8 @@ module _ (one : OneFirst) (call : Call) (request : Wanted) where
   tells_first (First (first.Line n)) h is says = first_told (First (first.Line n)) h is says
 
 -- a refusal
-pub kept_refusal : OneFirst → (call : Call) (request : Wanted) (r : Refusal) → request_of call.words ≡ Some request → Rests call.source (team_request request) r → (call.source.before < call.source.now → status_of r ≡ status.Read) → call.status ≡ status_of r → Unwritten call → Says call.err (line_for request r) → Keeps call
-kept_refusal one call request r asks rests fault is unwritten says =
+pub kept_refusal : OneFirst → (call : Call) (request : Wanted) (r : Refusal) → request_of call.words ≡ Some request → Rests call.source (team_request request) r → (call.source.before < call.source.now → status_of r ≡ status.Read) → ReadsInTurn call (files_asked (team_request request)) → call.status ≡ status_of r → Unwritten call → Says call.err (line_for request r) → Keeps call
+kept_refusal one call request r asks rests fault reads is unwritten says =
     let same : call.out.now ≡ call.out.before = unwritten.no_fault in
     record {
       words = λ s. absurd (not_words r (sym is ∙ s));
@@ -227,7 +259,9 @@ kept_refusal one call request r asks rests fault is unwritten says =
       read = λ s. (request, asks, cannot_read call.source (team_request request) r rests (sym is ∙ s));
       read_faults = λ risen. is ∙ fault risen;
       write = (λ s. absurd (not_write r (sym is ∙ s)), λ risen. absurd (omega arith));
+      files = at_some (request_of call.words) request _ _ asks reads;
       printed = at_some (request_of call.words) request _ _ asks (subst (λ s. PrintsFor call request s) (sym is) (nothing_printed call request r (unwritten.out, unwritten.report)));
+      undecided = λ s. absurd (not_undecided r (sym is ∙ s));
       line = (line_for request r, at_some (request_of call.words) request _ _ asks (inr (inr (r, is, refl, rests))), says);
       first = if_some (request_of call.words) request _ asks (tells_first one call request r rests is says);
     }
@@ -364,7 +398,8 @@ not_outcome (checks w) s (inr is) h = not_solved s (inr (inl is)) h
 not_outcome (makes w) s is h = not_solved s is h
 
 -- an outcome, written whole or cut off
-module _ (none : NoneFirst) (call : Call) (request : Wanted) (d : Decision) (asks : request_of call.words ≡ Some request) (decided : Decides call.source.held request d) (kept : call.report ≡ report_of d) (no_fault : call.source.now ≡ call.source.before) where
+module _ (none : NoneFirst) (call : Call) (request : Wanted) (d : Decision) (asks : request_of call.words ≡ Some request) (decided : Decides call.source.held request d) (kept : call.report ≡ report_of d) (no_fault : call.source.now ≡ call.source.before)
+    (reads : ReadsInTurn call (files_asked (team_request request))) (spent : AreSpent call.source.held request) where
   is_outcome : IsOutcomeFor call request d.status (told d)
   is_outcome = subst (λ report. IsOutcome call.source.held request report d.status (told d)) (sym kept) decided
 
@@ -373,6 +408,10 @@ module _ (none : NoneFirst) (call : Call) (request : Wanted) (d : Decision) (ask
 
   fine : IsFine call.source.held (team_request request)
   fine = outcome_fine call.source.held request (report_of d) d.status (told d) decided
+
+  -- where nothing was decided
+  undecided : (text : Text) → IsOutcomeFor call request call.status text → call.status ≡ status.Undecided → IsUndecided call request
+  undecided text outcome is s searches = spent call.report text s searches (subst (λ e. IsOutcomeFor call request e text) is outcome)
 
   pub kept_outcome : Writes call.out call.err d call.status → Keeps call
   kept_outcome (inl (is, whole, same, says)) =
@@ -384,7 +423,9 @@ module _ (none : NoneFirst) (call : Call) (request : Wanted) (d : Decision) (ask
         read = λ s. absurd (not_outcome request call.status ended (inr (inl s)));
         read_faults = λ risen. absurd (omega arith);
         write = (λ s. absurd (not_outcome request call.status ended (inr (inr s))), λ risen. absurd (omega arith));
+        files = at_some (request_of call.words) request _ _ asks reads;
         printed = at_some (request_of call.words) request _ _ asks (printed_outcome call request call.status ended (told d, outcome, whole));
+        undecided = λ s. if_some (request_of call.words) request _ asks (undecided (told d) outcome s);
         line = ([], at_some (request_of call.words) request _ _ asks (inl (ended, refl)), says);
         first = if_some (request_of call.words) request _ asks (none_told none call request fine);
       }
@@ -395,16 +436,18 @@ module _ (none : NoneFirst) (call : Call) (request : Wanted) (d : Decision) (ask
         read = λ s. absurd (cc);
         read_faults = λ faults. absurd (omega arith);
         write = (λ _. risen, λ _. is);
+        files = at_some (request_of call.words) request _ _ asks reads;
         printed = at_some (request_of call.words) request _ _ asks (subst (λ s. PrintsFor call request s) (sym is) (told d, d.status, is_outcome, begun));
+        undecided = λ s. absurd (cc);
         line = (write_line, at_some (request_of call.words) request _ _ asks (inr (inl (is, refl))), says);
         first = if_some (request_of call.words) request _ asks (none_told none call request fine);
       }
 
 -- what a call keeps that ends with what was decided
-pub kept : OneFirst → NoneFirst → (call : Call) (request : Wanted) (decided : Result Decision Refusal) (name : Option Text) (agents : List Two) → request_of call.words ≡ Some request → ((r : Refusal) → line_of name agents r ≡ line_for request r) → IfOk decided (Decides call.source.held request) → IfErr decided (Rests call.source (team_request request)) → IfOk decided (λ _. call.source.now ≡ call.source.before) → IfErr decided (λ r. call.source.before < call.source.now → status_of r ≡ status.Read) → IfOk decided (Publishes call.out call.err call.report call.status) → IfErr decided (TellsRefusal name agents call.out call.err call.before call.report call.status) → Keeps call
-kept one none call request (Ok d) name agents asks lines outcome cause no_fault fault published tells =
-    kept_outcome none call request d asks outcome published.0 no_fault published.1
-kept one none call request (Err r) name agents asks lines outcome cause no_fault fault published tells =
-    kept_refusal one call request r asks cause fault tells.is_ended
+pub kept : OneFirst → NoneFirst → (call : Call) (request : Wanted) (decided : Result Decision Refusal) (name : Option Text) (agents : List Two) → request_of call.words ≡ Some request → ((r : Refusal) → line_of name agents r ≡ line_for request r) → IfOk decided (Decides call.source.held request) → IfErr decided (Rests call.source (team_request request)) → IfOk decided (λ _. call.source.now ≡ call.source.before) → IfErr decided (λ r. call.source.before < call.source.now → status_of r ≡ status.Read) → ReadsInTurn call (files_asked (team_request request)) → AreSpent call.source.held request → IfOk decided (Publishes call.out call.err call.report call.status) → IfErr decided (TellsRefusal name agents call.out call.err call.before call.report call.status) → Keeps call
+kept one none call request (Ok d) name agents asks lines outcome cause no_fault fault reads spent published tells =
+    kept_outcome none call request d asks outcome published.0 no_fault reads spent published.1
+kept one none call request (Err r) name agents asks lines outcome cause no_fault fault reads spent published tells =
+    kept_refusal one call request r asks cause fault reads tells.is_ended
     (record { out = tells.nothing_written; no_fault = tells.no_fault; report = tells.same_report })
     (subst (λ line. Says call.err line) (lines r) tells.line)

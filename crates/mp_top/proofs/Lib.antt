@@ -16,6 +16,8 @@ pub mod One
 pub mod Said
 -- from a decision on a team to what the texts lead to
 pub mod Decided
+-- what was done at a source for a request
+pub mod Acts
 -- what a call keeps, by how it ends
 pub mod Kept
 -- where nothing is refused, a call answers
@@ -24,3 +26,5 @@ pub mod Complete
 pub mod OneTeam
 -- what is printed for two requests
 pub mod OfTwo
+-- what is known where nothing was decided
+pub mod Spent

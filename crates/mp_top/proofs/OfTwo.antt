@@ -7,6 +7,7 @@ use Rattle.mp_joint.specs.Fact.{Text}
 use Rattle.mp_logs.specs.Alike.{AreAlike}
 use Rattle.mp_messages.specs.History.{schedule}
 use Rattle.mp_messages.specs.declared.history.Event.{Event}
+use Rattle.mp_outside.specs.Acts.{FileAsked}
 use Rattle.mp_outside.specs.Source.{Files}
 use Rattle.mp_renaming.specs.Renaming.{Renaming}
 use Rattle.mp_renaming.specs.Team.{IsRenamedTeam}
@@ -29,7 +30,7 @@ use Rattle.mp_world.specs.Logs.{IsLog}
 use Rattle.mp_world.specs.declared.answer.Answer.{Answer}
 use Rattle.mp_world.specs.declared.answer.Answer.TheVariants as answer
 use Rattle.mp_top.specs.Asked.Work.{searched}
-use Rattle.mp_top.specs.Asked.{FirstFile, KeepsLimits, TeamRequest, Texts, agents_of, longest_schedule, team_request, texts_of, values_of}
+use Rattle.mp_top.specs.Asked.{KeepsLimits, TeamRequest, Texts, agents_of, longest_schedule, names_of_texts, team_request, texts_of, values_of}
 use Rattle.mp_top.specs.First.{IsAccepted, IsFirst}
 use Rattle.mp_top.specs.FirstText.{IsFirstText, IsHeld}
 use Rattle.mp_top.specs.Outcome.{AreSameRuns, HasTrace, IsInTurn, IsOutcome, IsPrintedAgain, IsSolved, Printed, Searches, answer_status, behind_trace, printed_text, reported, team_in}
@@ -43,7 +44,7 @@ use Rattle.mp_top.proofs.Checked.{checked_team}
 use Rattle.mp_top.proofs.OneTeam.{TeamLaw, one_team, team_held, team_of_both}
 
 -- what was found was found for a team by the events of some schedule, and has a text
-abbrev FoundBy : Searching → List Factor → Report → Text → Type 0
+abbrev pub FoundBy : Searching → List Factor → Report → Text → Type 0
 FoundBy s team report outcome =
     (events : List Event) × IsFound (values_of s.heuristic) s.limit team events (reported report outcome)
 
@@ -63,13 +64,13 @@ solved_in_turn s one team report outcome alone solved =
     subst (λ o. IsFoundOn (values_of s.heuristic) s.limit team o (reported report outcome)) alone solved.found in
     (found.schedule, found.in_turn)
 
-abbrev outcome_text : (held : Option Files) (request : Wanted) (s : Searching) (report : Report) (ended : Status) (text : Text) → Searches request s → IsOutcome held request report ended text → Text
+abbrev pub outcome_text : (held : Option Files) (request : Wanted) (s : Searching) (report : Report) (ended : Status) (text : Text) → Searches request s → IsOutcome held request report ended text → Text
 outcome_text held (solves w) s report ended text is (o, end) = o.outcome
 outcome_text held (replays w) s report ended text is (o, end) = o.outcome
 outcome_text held (checks w) s report ended text is o = absurd is
 outcome_text held (makes w) s report ended text is (o, end) = o.outcome
 
-outcome_found : (held : Option Files) (request : Wanted) (s : Searching) (report : Report) (ended : Status) (text : Text) (is : Searches request s) (o : IsOutcome held request report ended text) → FoundBy s (team_in held request report ended text o) report (outcome_text held request s report ended text is o)
+pub outcome_found : (held : Option Files) (request : Wanted) (s : Searching) (report : Report) (ended : Status) (text : Text) (is : Searches request s) (o : IsOutcome held request report ended text) → FoundBy s (team_in held request report ended text o) report (outcome_text held request s report ended text is o)
 outcome_found held (solves w) s report ended text is (o, end) =
     subst (λ how. FoundBy how o.team report o.outcome) is (solved_by w.search w.work.one o.team report o.outcome o.solved)
 outcome_found held (replays w) s report ended text is (o, end) =
@@ -87,31 +88,34 @@ outcome_in_turn held (checks w) s report ended text is turn o = absurd is
 outcome_in_turn held (makes w) s report ended text is turn (o, end) =
     subst (λ how. FoundInTurn how o.team report o.outcome) is (solved_in_turn w.search w.work.one o.team report o.outcome turn o.solved)
 
-outcome_checked : (held : Option Files) (request : Wanted) (report : Report) (ended : Status) (text : Text) (o : IsOutcome held request report ended text) → All IsChecked (team_in held request report ended text o)
+pub outcome_checked : (held : Option Files) (request : Wanted) (report : Report) (ended : Status) (text : Text) (o : IsOutcome held request report ended text) → All IsChecked (team_in held request report ended text o)
 outcome_checked held (solves w) report ended text (o, end) = o.is_team.checked
 outcome_checked held (replays w) report ended text (o, end) = o.is_team.checked
 outcome_checked held (checks w) report ended text o = o.is_team.checked
 outcome_checked held (makes w) report ended text (o, end) = o.is_team.checked
 
-few_agents : (held : Option Files) (request : Wanted) (report : Report) (ended : Status) (text : Text) → KeepsLimits request → (o : IsOutcome held request report ended text) → length (team_in held request report ended text o) ≤ 16
-few_agents held (solves w) report ended text keeps (o, end) = subst (λ n. n ≤ 16) (sym o.is_team.one_each) keeps.at_most
-few_agents held (replays w) report ended text keeps (o, end) = subst (λ n. n ≤ 16) (sym o.is_team.one_each) keeps.at_most
-few_agents held (checks w) report ended text keeps o = subst (λ n. n ≤ 16) (sym o.is_team.one_each) keeps.at_most
-few_agents held (makes w) report ended text keeps (o, end) = subst (λ n. n ≤ 16) (sym o.is_team.one_each) keeps.at_most
+pub of_each : (held : Option Files) (request : Wanted) (report : Report) (ended : Status) (text : Text) → (o : IsOutcome held request report ended text) → length (team_in held request report ended text o) ≡ length (names_of_texts (texts_of request))
+of_each held (solves w) report ended text (o, end) = o.is_team.one_each
+of_each held (replays w) report ended text (o, end) = o.is_team.one_each
+of_each held (checks w) report ended text o = o.is_team.one_each
+of_each held (makes w) report ended text (o, end) = o.is_team.one_each
 
-outcome_team : (held : Option Files) (request : Wanted) (report : Report) (ended : Status) (text : Text) → (o : IsOutcome held request report ended text) → IsTeam held (texts_of request) (team_in held request report ended text o)
+pub few_agents : (held : Option Files) (request : Wanted) (report : Report) (ended : Status) (text : Text) → KeepsLimits request → (o : IsOutcome held request report ended text) → length (team_in held request report ended text o) ≤ 16
+few_agents held request report ended text keeps o = subst (λ n. n ≤ 16) (sym (of_each held request report ended text o)) keeps.at_most
+
+pub outcome_team : (held : Option Files) (request : Wanted) (report : Report) (ended : Status) (text : Text) → (o : IsOutcome held request report ended text) → IsTeam held (texts_of request) (team_in held request report ended text o)
 outcome_team held (solves w) report ended text (o, end) = o.is_team.is_team
 outcome_team held (replays w) report ended text (o, end) = o.is_team.is_team
 outcome_team held (checks w) report ended text o = o.is_team.is_team
 outcome_team held (makes w) report ended text (o, end) = o.is_team.is_team
 
-outcome_within : (held : Option Files) (request : Wanted) (s : Searching) (report : Report) (ended : Status) (text : Text) → Searches request s → (o : IsOutcome held request report ended text) → AreWithin (team_in held request report ended text o)
+pub outcome_within : (held : Option Files) (request : Wanted) (s : Searching) (report : Report) (ended : Status) (text : Text) → Searches request s → (o : IsOutcome held request report ended text) → AreWithin (team_in held request report ended text o)
 outcome_within held (solves w) s report ended text is (o, end) = o.solved.within
 outcome_within held (replays w) s report ended text is (o, end) = o.replayed.within
 outcome_within held (checks w) s report ended text is o = absurd is
 outcome_within held (makes w) s report ended text is (o, end) = o.solved.within
 
-outcome_status : (held : Option Files) (request : Wanted) (s : Searching) (report : Report) (ended : Status) (text : Text) → Searches request s → IsOutcome held request report ended text → ended ≡ answer_status report.answer
+pub outcome_status : (held : Option Files) (request : Wanted) (s : Searching) (report : Report) (ended : Status) (text : Text) → Searches request s → IsOutcome held request report ended text → ended ≡ answer_status report.answer
 outcome_status held (solves w) s report ended text is (o, end) = end
 outcome_status held (replays w) s report ended text is (o, end) = end
 outcome_status held (checks w) s report ended text is o = absurd is
@@ -120,7 +124,7 @@ outcome_status held (makes w) s report ended text is (o, end) = end
 -- ---- traces
 
 -- the text of the first file is the one that is held
-text_held : (held : Option Files) (file : FirstFile) (text first : Text) → IsHeld held file.name text → IsFirstText held (Some file) (Some first) → first ≡ text
+text_held : (held : Option Files) (file : FileAsked) (text first : Text) → IsHeld held file.name text → IsFirstText held (Some file) (Some first) → first ≡ text
 text_held None file text first there is = absurd there
 text_held (Some files) file text first there is = same_Some first text (sym is.0 ∙ there)
 

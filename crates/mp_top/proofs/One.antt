@@ -9,6 +9,7 @@ use Rattle.mp_ground.specs.Grounded.{Known}
 use Rattle.mp_ground.specs.Limits.{IsRefusedBy, IsWithin, actions, facts, tries}
 use Rattle.mp_ground.specs.declared.refusal.GroundRefusal.{GroundRefusal}
 use Rattle.mp_ground.specs.declared.refusal.GroundRefusal.TheVariants.{TooManyTries, TooManyActions, TooManyFacts, OutOfMemory}
+use Rattle.mp_outside.specs.Acts.{FileAsked}
 use Rattle.mp_outside.specs.Source.{Files as Held}
 use Rattle.mp_split.specs.Team.{IsFirstRefusal, known_at}
 use Rattle.mp_files.specs.declared.refusal.Refusal.{Refusal as FilesRefusal}
@@ -20,7 +21,7 @@ use Rattle.mp_solutions.specs.declared.solution.Solution.{Solution}
 use Rattle.mp_task.specs.AgentTask.{AgentTask}
 use Rattle.mp_plans.specs.Plan.{plan_in}
 use Rattle.mp_plans.specs.declared.plan.PlanText.{PlanText}
-use Rattle.mp_top.specs.Asked.{FirstFile, TeamRequest, Texts, Work, values_of}
+use Rattle.mp_top.specs.Asked.{TeamRequest, Texts, Work, values_of}
 use Rattle.mp_top.specs.Asked.Texts.{in_files, made}
 use Rattle.mp_top.specs.Asked.Work.{checked, replayed, searched}
 use Rattle.mp_top.specs.First.{IsAccepted, IsFileRefused, IsFirst, IsFirstAbsent, IsFirstLong, IsFirstSize, IsLineRefused, IsSizeRefused, IsTextLineRefused, IsTooLarge}
@@ -140,7 +141,7 @@ team_or_refusal laws files (made names texts) team r h g = ok_err team r (one_ma
 
 -- ---- the first file
 
-one_text : (files : Held) (file : Option FirstFile) (t u : Option Text) → IsFirstText (Some files) file t → IsFirstText (Some files) file u → t ≡ u
+one_text : (files : Held) (file : Option FileAsked) (t u : Option Text) → IsFirstText (Some files) file t → IsFirstText (Some files) file u → t ≡ u
 one_text files None None None h g = refl
 one_text files None None (Some u) h g = absurd g
 one_text files None (Some t) u h g = absurd h
@@ -148,7 +149,7 @@ one_text files (Some file) None u h g = absurd h
 one_text files (Some file) (Some t) None h g = absurd g
 one_text files (Some file) (Some t) (Some u) h g = sym h.0 ∙ g.0
 
-no_text : (files : Held) (file : FirstFile) (t : Option Text) → files file.name ≡ None → IsFirstText (Some files) (Some file) t → ⊥
+no_text : (files : Held) (file : FileAsked) (t : Option Text) → files file.name ≡ None → IsFirstText (Some files) (Some file) t → ⊥
 no_text files file None absent h = h
 no_text files file (Some t) absent (is, short) = absurd (cc)
 
@@ -159,7 +160,7 @@ long_in most (Some x) t is short long =
     let more : most < length t = subst (λ y. most < length y) same long in
     not_more (length t) most short more
 
-long_text : (files : Held) (file : FirstFile) (t : Option Text) → IsSomeAnd (files file.name) (λ x. file.longest < length x) → IsFirstText (Some files) (Some file) t → ⊥
+long_text : (files : Held) (file : FileAsked) (t : Option Text) → IsSomeAnd (files file.name) (λ x. file.longest < length x) → IsFirstText (Some files) (Some file) t → ⊥
 long_text files file None long h = h
 long_text files file (Some t) long (is, short) = long_in file.longest (files file.name) t is short long
 

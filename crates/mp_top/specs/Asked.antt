@@ -9,7 +9,9 @@ use Rattle.mp_pdb.specs.Pattern.{pattern_value}
 use Rattle.mp_joint.specs.Fact.{Text}
 use Rattle.mp_maker.specs.Delivery.{delivery}
 use Rattle.mp_team_explored.specs.Expansions.{nothing_known}
+use Rattle.mp_files.specs.Asked.{team_asked}
 use Rattle.mp_files.specs.Team.{Two}
+use Rattle.mp_outside.specs.Acts.{FileAsked}
 use Rattle.mp_words.specs.declared.asked.Choice.{Choice}
 use Rattle.mp_words.specs.declared.asked.Choice.TheVariants.{Blind, Max, Cut, Pdb}
 use Rattle.mp_words.specs.Requests.{Searching, ToMake, Wanted}
@@ -27,11 +29,6 @@ values_of Blind = nothing_known
 values_of Max = hmax
 values_of Cut = lmcut
 values_of Pdb = pattern_value
-
--- a file that stands before those of the agents: its name, and the greatest number of bytes that it may have
-pub record FirstFile : Type 0 where
-  pub name : Text
-  pub longest : ℕ
 
 -- the greatest number of bytes of a file with a schedule, and of one with a plan
 abbrev pub longest_schedule : ℕ
@@ -56,8 +53,9 @@ pub data Work : Type 0 where
   replayed : Searching → Work
   checked : Work
 
+-- what is asked of a team; a first file is one that stands before those of the agents
 pub record TeamRequest : Type 0 where
-  pub first : Option FirstFile
+  pub first : Option FileAsked
   pub texts : Texts
   pub work : Work
 
@@ -89,6 +87,19 @@ team_request (makes w) = record { first = None; texts = made_texts w.size w.numb
 -- where the texts of its team are
 abbrev pub texts_of : Wanted → Texts
 texts_of w = (team_request w).texts
+
+-- the files that a source is asked for, in this order: the first one, and then those of the agents; for what is made it is
+-- asked for none
+abbrev pub first_asked : Option FileAsked → List FileAsked
+first_asked None = []
+first_asked (Some file) = file ∷ []
+
+abbrev pub texts_asked : Texts → List FileAsked
+texts_asked (in_files names) = team_asked names
+texts_asked (made names texts) = []
+
+abbrev pub files_asked : TeamRequest → List FileAsked
+files_asked request = first_asked request.first ++ texts_asked request.texts
 
 -- an agent may expand 1 to 10,000,000 entries
 pub record KeepsLimit (s : Searching) : Type 0 where

@@ -2,6 +2,7 @@
 use Rattle.std.specs.Prelude.{◌≡◌, ℕ, List, Option}
 use Rattle.std.specs.Io.KnownBytes.{Appends}
 use Rattle.mp_joint.specs.Fact.{Text}
+use Rattle.mp_outside.specs.Acts.{Act}
 use Rattle.mp_outside.specs.Sink.{AppendsBeginning}
 use Rattle.mp_files.specs.Cause.{SeenSource}
 use Rattle.mp_top.specs.declared.report.Report.{Report}
@@ -24,10 +25,20 @@ Says sink text =
     AppendsBeginning sink.old sink.new text
     × (sink.now ≡ sink.before → Appends sink.old sink.new text)
 
--- a call: its words, what is seen of the source and of the two sinks, the report before and now, and the status
+-- what was done at a source before the call, and what was done until now, where it tells
+pub record SeenActs : Type 0 where
+  pub old : Option (List Act)
+  pub new : Option (List Act)
+
+abbrev pub seen_acts : {S : Type 0} → (S → Option (List Act)) → S → S → SeenActs
+seen_acts acts old new = record { old = acts old; new = acts new }
+
+-- a call: its words, what is seen of the source, of what is done at it, and of the two sinks, the report before and now,
+-- and the status
 pub record Call : Type 0 where
   pub words : List Text
   pub source : SeenSource
+  pub acts : SeenActs
   pub out : SeenSink
   pub err : SeenSink
   pub before : Report

@@ -1,5 +1,6 @@
 -- What a refusal rests on.
 use Rattle.std.specs.Prelude.{◌≡◌, ◌<◌, ◌⊎◌, Some, None, IsSomeAnd}
+use Rattle.mp_outside.specs.Acts.{FileAsked}
 use Rattle.mp_outside.specs.Source.{FaultAt}
 use Rattle.mp_files.specs.Cause.{CannotRead, SeenSource}
 use Rattle.mp_files.specs.declared.refusal.FileOf.{FileOf}
@@ -7,7 +8,7 @@ use Rattle.mp_files.specs.declared.refusal.Refusal.{Refusal as FilesRefusal}
 use Rattle.mp_files.specs.declared.refusal.Refusal.TheVariants as files
 use Rattle.mp_ground.specs.declared.refusal.GroundRefusal.{GroundRefusal}
 use Rattle.mp_ground.specs.declared.refusal.GroundRefusal.TheVariants as sizes
-use Rattle.mp_top.specs.Asked.{FirstFile, TeamRequest, Texts}
+use Rattle.mp_top.specs.Asked.{TeamRequest, Texts}
 use Rattle.mp_top.specs.Asked.Texts.{in_files, made}
 use Rattle.mp_top.specs.First.{ComesFirst}
 use Rattle.mp_top.specs.FirstText.{HasFirstText}
@@ -18,7 +19,7 @@ use Rattle.mp_top.specs.declared.refusal.Refusal.TheVariants.{Files, First, Size
 
 -- the first file cannot be read: the source tells that it is not there, or a read of it had a fault
 pub record CannotReadFirst (source : SeenSource) (request : TeamRequest) : Type 0 where
-  pub file : FirstFile
+  pub file : FileAsked
   pub asked : request.first ≡ Some file
   pub because :
       IsSomeAnd source.held (λ files. files file.name ≡ None)

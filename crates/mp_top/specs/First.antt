@@ -4,6 +4,7 @@
 use Rattle.std.specs.Prelude.{◌≡◌, ◌<◌, ℕ, List, length, Option, Some, None, Ok, Err, IfSome, IsSomeAnd}
 use Rattle.mp_factor.specs.declared.factor.Factor.{Factor}
 use Rattle.mp_joint.specs.Fact.{Text}
+use Rattle.mp_outside.specs.Acts.{FileAsked}
 use Rattle.mp_outside.specs.Source.{Files as Held}
 use Rattle.mp_files.specs.declared.refusal.Refusal.{Refusal as FilesRefusal}
 use Rattle.mp_ground.specs.declared.refusal.GroundRefusal.{GroundRefusal}
@@ -14,7 +15,7 @@ use Rattle.mp_solutions.specs.Solution.{IsRefusedLine, IsReplayed}
 use Rattle.mp_solutions.specs.declared.solution.Solution.{Solution}
 use Rattle.mp_solve.specs.Refused.{AreWithin}
 use Rattle.mp_split.specs.Team.{IsFirstRefusal}
-use Rattle.mp_top.specs.Asked.{FirstFile, TeamRequest, Work, values_of}
+use Rattle.mp_top.specs.Asked.{TeamRequest, Work, values_of}
 use Rattle.mp_top.specs.Asked.Work.{checked, replayed, searched}
 use Rattle.mp_top.specs.FirstText.{HasFirstText, IsFirstText}
 use Rattle.mp_top.specs.Team.{IsTeam, IsTextRefused}
@@ -55,13 +56,13 @@ IsAccepted checked team text = IfSome text (λ t. (plan : PlanText) × (plan_in 
 module _ (held : Option Held) (request : TeamRequest) where
   -- the first file is not there
   pub record IsFirstAbsent : Type 0 where
-    pub file : FirstFile
+    pub file : FileAsked
     pub asked : request.first ≡ Some file
     pub absent : IfSome held (λ files. files file.name ≡ None)
 
   -- it is too long
   pub record IsFirstLong : Type 0 where
-    pub file : FirstFile
+    pub file : FileAsked
     pub asked : request.first ≡ Some file
     pub long : IfSome held (λ files. IsSomeAnd (files file.name) (λ text. file.longest < length text))
 

@@ -2,16 +2,18 @@
 use Rattle.std.specs.Prelude.{◌≡◌, ◌<◌, ◌↔◌, ◌⊎◌, List, [], Some, None, MatchOption, IfSome, option_map}
 use Rattle.std.specs.Io.KnownBytes.{Appends}
 use Rattle.mp_joint.specs.Fact.{Text}
+use Rattle.mp_outside.specs.Acts.{AreReadInTurn, Does, FileAsked}
 use Rattle.mp_outside.specs.Sink.{AppendsBeginning}
 use Rattle.mp_files.specs.declared.refusal.FileOf.{FileOf}
-use Rattle.mp_words.specs.Requests.{Wanted, request_of}
+use Rattle.mp_words.specs.Requests.{Searching, Wanted, request_of}
 use Rattle.mp_words.specs.Requests.Wanted.{checks, makes, replays, solves}
-use Rattle.mp_top.specs.Asked.{FirstFile, TeamRequest, names_of_texts, team_request}
+use Rattle.mp_top.specs.Asked.{TeamRequest, files_asked, names_of_texts, team_request, texts_of}
 use Rattle.mp_top.specs.Call.{Call, Says}
 use Rattle.mp_top.specs.Cause.{CannotReadFactor, CannotReadFirst, Rests}
 use Rattle.mp_top.specs.First.{IsFirst}
-use Rattle.mp_top.specs.Outcome.{IsOutcome}
+use Rattle.mp_top.specs.Outcome.{IsOutcome, Searches}
 use Rattle.mp_top.specs.Refusal.{status_of, line_of, memory_line, words_line, write_line}
+use Rattle.mp_top.specs.Undecided.{IsSpent}
 use Rattle.mp_top.specs.declared.refusal.Refusal.{Refusal}
 use Rattle.mp_top.specs.declared.status.Status.{Status}
 use Rattle.mp_top.specs.declared.status.Status.TheVariants as status
@@ -77,7 +79,7 @@ IsOutcomeStatus (makes w) ended = IsSolved ended
 -- the line of a refusal, with the names that a request has
 abbrev pub line_in : TeamRequest → Refusal → Text
 line_in request r =
-    line_of (option_map (λ (file : FirstFile). file.name) request.first) (names_of_texts request.texts) r
+    line_of (option_map (λ (file : FileAsked). file.name) request.first) (names_of_texts request.texts) r
 
 abbrev pub line_for : Wanted → Refusal → Text
 line_for request r = line_in (team_request request) r
@@ -115,13 +117,32 @@ TellsFirst call request =
     (call.status ≡ status.Read) ⊎ (call.status ≡ status.Memory)
     ⊎ ((call.status ≡ status_of r) × Says call.err (line_for request r)))
 
+-- These files were read and nothing else was done at the source: each was begun at most once, in their order, and at most one
+-- byte past its limit was taken of it, by reads of which each but the last took at least one byte.
+abbrev pub ReadsInTurn : Call → List FileAsked → Type 0
+ReadsInTurn call files = Does (AreReadInTurn files) call.acts.old call.acts.new
+
+-- the files of a request, and none for words that are not accepted
+abbrev pub ReadsFiles : Call → Type 0
+ReadsFiles call =
+    MatchOption (request_of call.words) (ReadsInTurn call [])
+    (λ request. ReadsInTurn call (files_asked (team_request request)))
+
+-- nothing was decided about a plan of a request, with the log of the report
+abbrev pub IsUndecided : Call → Wanted → Type 0
+IsUndecided call request =
+    (s : Searching) → Searches request s → IsSpent call.source.held (texts_of request) s call.report.log
+
 -- The promises of a call, by name:
 -- words: only words that are not accepted are refused;
 -- refused: such words are, unless memory runs out before;
 -- read: `Read` comes only where a file cannot be read;
 -- read_faults: no fault of reading is passed over;
+-- files: which files are read, in which order and how far;
 -- write: `Write` comes exactly where `out` had a fault;
 -- printed: what `out` gains, and what the report holds;
+-- undecided: `Undecided` comes only where an agent expanded as many entries as it may, by the report's log, and never of an
+-- agent that is alone, searches without a heuristic and may expand as many as there are sets of its facts;
 -- line: the line on `err`, and what it rests on;
 -- first: the first refusal by the files comes.
 pub record Keeps (call : Call) : Type 0 where
@@ -129,7 +150,9 @@ pub record Keeps (call : Call) : Type 0 where
   pub refused : request_of call.words ≡ None → (call.status ≡ status.Words) ⊎ (call.status ≡ status.Memory)
   pub read : call.status ≡ status.Read → CannotReadFile call
   pub read_faults : call.source.before < call.source.now → call.status ≡ status.Read
+  pub files : ReadsFiles call
   pub write : (call.status ≡ status.Write) ↔ (call.out.before < call.out.now)
   pub printed : Prints call
+  pub undecided : call.status ≡ status.Undecided → IfSome (request_of call.words) (IsUndecided call)
   pub line : (line : Text) × IsLine call line × Says call.err line
   pub first : IfSome (request_of call.words) (λ request. TellsFirst call request)

@@ -18,6 +18,8 @@ pub mod Call
 pub mod Cause
 -- what is printed for a request, and the report
 pub mod Outcome
+-- what is known where nothing was decided
+pub mod Undecided
 -- what is asked of whoever lets a team search
 pub mod Finding
 -- the outcome of a request, before it is printed

@@ -4,7 +4,7 @@ ghost use Rattle.std.specs.Prelude.{◌≡◌, ℕ, List, Some, map, option_map,
 ghost use Rattle.mp_files.specs.Cause.{seen_source};
 ghost use Rattle.mp_files.specs.Fetched.{names_of};
 ghost use Rattle.mp_top.specs.Asked.{KeepsLimits};
-ghost use Rattle.mp_top.specs.Call.{Call, seen_sink};
+ghost use Rattle.mp_top.specs.Call.{Call, seen_acts, seen_sink};
 ghost use Rattle.mp_top.specs.Finding.{ComesOfSearch, WhereItMaySearch};
 ghost use Rattle.mp_top.specs.Keeps.{Keeps};
 ghost use Rattle.mp_top.specs.Printed.{Publishes, TellsRefusal};
@@ -22,6 +22,7 @@ use crate::making::made_files;
 use crate::refusal::{Refusal, tell_memory, tell_words, tell_write};
 use crate::report::Report;
 use crate::status::Status;
+use crate::undecided::undecided_is_spent;
 use mp_files::AgentFiles;
 use mp_ground::GroundRefusal;
 use mp_outside::{Sink, Source, put_all};
@@ -104,6 +105,7 @@ fn answer_solve<
     ensures { (ws : List (List ℕ)) → request_of ws ≡ Some (solves (solve_by request.now)) → Keeps (record {
       words = ws;
       source = seen_source S.held S.faults S.fault_at source.old source.new;
+      acts = seen_acts S.acts source.old source.new;
       out = seen_sink K.written K.faults out.old out.new;
       err = seen_sink E.written E.faults err.old err.new;
       before = report.old;
@@ -112,6 +114,7 @@ fn answer_solve<
     }) }
 {
     one_first();
+    undecided_is_spent();
     let Ok(files) = files_of(alloc, request.names.as_slice()) else {
         tell_memory(err);
         return Status::Memory;
@@ -133,6 +136,7 @@ fn answer_replay<S: Source, K: Sink, E: Sink>(
     ensures { (ws : List (List ℕ)) → request_of ws ≡ Some (replays (replay_by request.now)) → Keeps (record {
       words = ws;
       source = seen_source S.held S.faults S.fault_at source.old source.new;
+      acts = seen_acts S.acts source.old source.new;
       out = seen_sink K.written K.faults out.old out.new;
       err = seen_sink E.written E.faults err.old err.new;
       before = report.old;
@@ -141,6 +145,7 @@ fn answer_replay<S: Source, K: Sink, E: Sink>(
     }) }
 {
     one_first();
+    undecided_is_spent();
     let Ok(files) = files_of(alloc, request.names.as_slice()) else {
         tell_memory(err);
         return Status::Memory;
@@ -169,6 +174,7 @@ fn answer_check<S: Source, K: Sink, E: Sink>(
     ensures { (ws : List (List ℕ)) → request_of ws ≡ Some (checks (check_by request.now)) → Keeps (record {
       words = ws;
       source = seen_source S.held S.faults S.fault_at source.old source.new;
+      acts = seen_acts S.acts source.old source.new;
       out = seen_sink K.written K.faults out.old out.new;
       err = seen_sink E.written E.faults err.old err.new;
       before = report.old;
@@ -213,6 +219,7 @@ fn answer_make<
     ensures { (ws : List (List ℕ)) → request_of ws ≡ Some (makes (make_by request)) → Keeps (record {
       words = ws;
       source = seen_source S.held S.faults S.fault_at source.old source.new;
+      acts = seen_acts S.acts source.old source.new;
       out = seen_sink K.written K.faults out.old out.new;
       err = seen_sink E.written E.faults err.old err.new;
       before = report.old;
@@ -221,6 +228,7 @@ fn answer_make<
     }) }
 {
     one_first();
+    undecided_is_spent();
     let _ = &source;
     let Ok(files) = made_files(alloc, size_of(request)) else {
         tell_memory(err);
@@ -251,6 +259,7 @@ fn answer_request<
     ensures { (ws : List (List ℕ)) → request_of ws ≡ Some (wanted_by request.now) → Keeps (record {
       words = ws;
       source = seen_source S.held S.faults S.fault_at source.old source.new;
+      acts = seen_acts S.acts source.old source.new;
       out = seen_sink K.written K.faults out.old out.new;
       err = seen_sink E.written E.faults err.old err.new;
       before = report.old;
@@ -291,6 +300,7 @@ pub(crate) fn answer<
     ensures { Keeps (record {
       words = map string_bytes words.now;
       source = seen_source S.held S.faults S.fault_at source.old source.new;
+      acts = seen_acts S.acts source.old source.new;
       out = seen_sink K.written K.faults out.old out.new;
       err = seen_sink E.written E.faults err.old err.new;
       before = report.old;

@@ -3,8 +3,9 @@
 ghost use Rattle.std.specs.Prelude.{◌≡◌, ◌<◌, ◌≤◌, map, Option, IfOk, IfErr};
 ghost use Rattle.mp_files.specs.Cause.{SeenSource, seen_source};
 ghost use Rattle.mp_files.specs.Fetched.{names_of};
+ghost use Rattle.mp_outside.specs.Acts.{AreReadInTurn, Does};
 ghost use Rattle.mp_outside.specs.Source.{Files as Held};
-ghost use Rattle.mp_top.specs.Asked.{KeepsLimits, agents_of, team_request};
+ghost use Rattle.mp_top.specs.Asked.{KeepsLimits, agents_of, files_asked, team_request};
 ghost use Rattle.mp_top.specs.Cause.{Rests};
 ghost use Rattle.mp_top.specs.Decided.{Decides};
 ghost use Rattle.mp_top.specs.Finding.{ComesOfSearch, WhereItMaySearch};
@@ -50,6 +51,8 @@ pub(crate) fn decide_solve<
         (team_request (solves (solve_by request.now)))) }
     ensures no_fault { IfOk result (λ _. S.faults source.new ≡ S.faults source.old) }
     ensures fault { IfErr result (λ r. S.faults source.old < S.faults source.new → status_of r ≡ Status.Read) }
+    ensures acts { Does (AreReadInTurn (files_asked (team_request (solves (solve_by request.now)))))
+        (S.acts source.old) (S.acts source.new) }
 {
     let team = match read_team(alloc, source, files) {
         Ok(team) => team,
@@ -84,6 +87,8 @@ pub(crate) fn decide_replay<S: Source>(
         (team_request (replays (replay_asked request.now)))) }
     ensures no_fault { IfOk result (λ _. S.faults source.new ≡ S.faults source.old) }
     ensures fault { IfErr result (λ r. S.faults source.old < S.faults source.new → status_of r ≡ Status.Read) }
+    ensures acts { Does (AreReadInTurn (files_asked (team_request (replays (replay_asked request.now)))))
+        (S.acts source.old) (S.acts source.new) }
 {
     let text = first_text(alloc, source, request.schedule, LONGEST_SCHEDULE)?;
     let team = match read_team(alloc, source, files) {
@@ -112,6 +117,8 @@ pub(crate) fn decide_check<S: Source>(
         (team_request (checks (check_by request.now)))) }
     ensures no_fault { IfOk result (λ _. S.faults source.new ≡ S.faults source.old) }
     ensures fault { IfErr result (λ r. S.faults source.old < S.faults source.new → status_of r ≡ Status.Read) }
+    ensures acts { Does (AreReadInTurn (files_asked (team_request (checks (check_by request.now)))))
+        (S.acts source.old) (S.acts source.new) }
 {
     let text = first_text(alloc, source, request.plan, LONGEST_PLAN)?;
     let team = match read_team(alloc, source, files) {

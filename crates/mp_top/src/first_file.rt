@@ -2,6 +2,7 @@
 
 ghost use Rattle.std.specs.Prelude.{◌≡◌, ◌<◌, ◌^◌, IfOk, IfErr, Some};
 ghost use Rattle.mp_files.specs.Cause.{seen_source};
+ghost use Rattle.mp_outside.specs.Acts.{Does, IsReadOnce};
 ghost use Rattle.mp_top.specs.Asked.{TeamRequest};
 ghost use Rattle.mp_top.specs.Cause.{Rests};
 ghost use Rattle.mp_top.specs.Refusal.{status_of};
@@ -19,7 +20,7 @@ pub(crate) const LONGEST_SCHEDULE: usize = 67_108_864;
 /// The greatest number of bytes of a plan's file.
 pub(crate) const LONGEST_PLAN: usize = 4_194_304;
 
-/// The text of the file of this name, which may have so many bytes. At most one byte more is read.
+/// The text of the file of this name, which may have so many bytes. It is read at most once, and at most one byte more of it.
 pub(crate) fn first_text<S: Source>(
     alloc: Global,
     source: &mut S,
@@ -34,6 +35,8 @@ pub(crate) fn first_text<S: Source>(
     ensures no_fault { IfOk result (λ _. S.faults source.new ≡ S.faults source.old) }
     ensures fault { IfErr result (λ r. S.faults source.old < S.faults source.new → status_of r ≡ Status.Read) }
     ensures held { S.held source.new ≡ S.held source.old }
+    ensures acts { Does (IsReadOnce (record { name = name.now; longest = longest }))
+        (S.acts source.old) (S.acts source.new) }
 {
     match fetch(alloc, source, name, longest) {
         Ok(text) if text.len() > longest => Err(Refusal::First(FirstRefusal::TooLarge)),

@@ -19,6 +19,7 @@ mod refusal;
 mod report;
 mod searching;
 mod status;
+mod undecided;
 
 pub use command::{command_line, without_words};
 pub use first::one_first;

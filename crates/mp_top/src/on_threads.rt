@@ -2,7 +2,7 @@
 
 ghost use Rattle.std.specs.Prelude.{◌≤◌, length, map, string_bytes};
 ghost use Rattle.mp_files.specs.Cause.{seen_source};
-ghost use Rattle.mp_top.specs.Call.{Call, seen_sink};
+ghost use Rattle.mp_top.specs.Call.{Call, seen_acts, seen_sink};
 ghost use Rattle.mp_top.specs.Finding.{ComesOfSearch};
 ghost use Rattle.mp_top.specs.Keeps.{Keeps};
 ghost use Rattle.mp_top.specs.Report.{IsEmptyReport};
@@ -41,6 +41,7 @@ pub fn run<R: Threads + Wait + Sync, S: Source, K: Sink, E: Sink, G: Gate + Sync
     ensures { Keeps (record {
       words = map string_bytes words.now;
       source = seen_source S.held S.faults S.fault_at source.old source.new;
+      acts = seen_acts S.acts source.old source.new;
       out = seen_sink K.written K.faults out.old out.new;
       err = seen_sink E.written E.faults err.old err.new;
       before = report.old;

@@ -8,7 +8,7 @@ use Rattle.mp_words.specs.Requests.Wanted.{checks}
 use Rattle.mp_top.proofs.answering.answer_check.Goals as goal
 
 pub returns-in_default : goal.returns-in_default
-returns-in_default g c ws asks = kept_memory _ refl refl (record { out = refl; no_fault = refl; report = refl }) c.tell_memory.ensures
+returns-in_default g c ws asks = kept_memory _ refl refl refl (record { out = refl; no_fault = refl; report = refl }) c.tell_memory.ensures
 
 pub returns : goal.returns
 returns g c ws asks =
@@ -19,4 +19,6 @@ returns g c ws asks =
     kept c.one_first.ensures.one c.one_first.ensures.none _ (checks w) c.decide_check-decided.result (Some c.args.request.now.plan.now) (map names_of c.as_slice-3.result.now)
     asks (λ r. ap (λ agents. line_of (Some c.args.request.now.plan.now) agents r) named)
     c.decide_check-decided.ensures.outcome c.decide_check-decided.ensures.cause c.decide_check-decided.ensures.no_fault c.decide_check-decided.ensures.fault
+    c.decide_check-decided.ensures.acts
+    (λ report text s is outcome. absurd is)
     c.end.ensures.outcome c.end.ensures.refusal

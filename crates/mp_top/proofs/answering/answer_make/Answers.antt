@@ -1,8 +1,9 @@
-use Rattle.std.proofs.Common.{◌≡◌, ◌∙◌, None, ap, arith, map, refl}
+use Rattle.std.proofs.Common.{◌≡◌, ◌∙◌, [], None, ap, arith, map, refl}
 use Rattle.std.specs.List.{range_with_len}
 use Rattle.mp_files.specs.Fetched.{names_of}
 use Rattle.mp_top.specs.Asked.{made_name}
 use Rattle.mp_top.specs.Refusal.{line_of}
+use Rattle.mp_top.proofs.Acts.{nothing_read}
 use Rattle.mp_top.proofs.Decided.{always_err, always_ok}
 use Rattle.mp_top.proofs.Kept.{kept, kept_memory}
 use Rattle.mp_words.specs.Reads.{make_by}
@@ -10,7 +11,7 @@ use Rattle.mp_words.specs.Requests.Wanted.{makes}
 use Rattle.mp_top.proofs.answering.answer_make.Goals as goal
 
 pub returns-in_default : goal.returns-in_default
-returns-in_default g c ws asks = kept_memory _ refl refl (record { out = refl; no_fault = refl; report = refl }) c.tell_memory.ensures
+returns-in_default g c ws asks = kept_memory _ refl refl refl (record { out = refl; no_fault = refl; report = refl }) c.tell_memory.ensures
 
 pub returns : goal.returns
 returns g c ws asks =
@@ -21,4 +22,6 @@ returns g c ws asks =
     asks (λ r. ap (λ agents. line_of None agents r) named)
     (c.decide_make-decided.ensures.outcome _) (c.decide_make-decided.ensures.cause _) (always_ok c.decide_make-decided.result _ refl)
     (always_err c.decide_make-decided.result _ (λ r risen. absurd (omega (arith, risen))))
+    (nothing_read [] _ _ refl)
+    (λ report text s is outcome. c.undecided_is_spent.ensures _ (makes w) report text s c.requires.keeps is outcome)
     c.end.ensures.outcome c.end.ensures.refusal

@@ -8,7 +8,7 @@ use Rattle.mp_words.specs.Requests.Wanted.{solves}
 use Rattle.mp_top.proofs.answering.answer_solve.Goals as goal
 
 pub returns-in_default : goal.returns-in_default
-returns-in_default g c ws asks = kept_memory _ refl refl (record { out = refl; no_fault = refl; report = refl }) c.tell_memory.ensures
+returns-in_default g c ws asks = kept_memory _ refl refl refl (record { out = refl; no_fault = refl; report = refl }) c.tell_memory.ensures
 
 pub returns : goal.returns
 returns g c ws asks =
@@ -19,4 +19,6 @@ returns g c ws asks =
     kept c.one_first.ensures.one c.one_first.ensures.none _ (solves w) c.decide_solve-decided.result None (map names_of c.as_slice-3.result.now)
     asks (λ r. ap (λ agents. line_of None agents r) named)
     c.decide_solve-decided.ensures.outcome c.decide_solve-decided.ensures.cause c.decide_solve-decided.ensures.no_fault c.decide_solve-decided.ensures.fault
+    c.decide_solve-decided.ensures.acts
+    (λ report text s is outcome. c.undecided_is_spent.ensures _ (solves w) report text s c.requires.keeps is outcome)
     c.end.ensures.outcome c.end.ensures.refusal

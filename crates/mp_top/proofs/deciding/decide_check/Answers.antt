@@ -8,6 +8,7 @@ use Rattle.mp_top.specs.Asked.{longest_plan, agents_of, team_request}
 use Rattle.mp_top.specs.Asked.Work.{checked}
 use Rattle.mp_top.specs.Cause.{Rests}
 use Rattle.mp_top.specs.Decided.{ChecksFor, Decides}
+use Rattle.mp_top.proofs.Acts.{first_alone, first_and_agents}
 use Rattle.mp_top.proofs.Decided.{as_many, decided_check, files_rest, seen_later, weaker}
 use Rattle.mp_words.specs.Reads.{check_by}
 use Rattle.mp_words.specs.Requests.Wanted.{checks}
@@ -45,3 +46,21 @@ returns-clause-outcome g c =
     (subst (λ t. ChecksFor w.steps t c.in-Ok.team d) c.as_slice-3.ensures.value
     (subst (λ t. ChecksFor w.steps c.as_slice-3.result.now t d) c.as_slice-2.ensures h)))
     c.check_for.ensures.outcome
+
+pub returns-in_err-text-clause-acts : goal.returns-in_err-text-clause-acts
+returns-in_err-text-clause-acts g c =
+    let w = check_by c.args.request.now in
+    first_alone (record { name = w.plan; longest = longest_plan }) (map names_of c.args.files.now) (agents_of w.names) c.requires.names
+    _ _ c.in_err-text.ensures.acts
+
+pub returns-in-Err-clause-acts : goal.returns-in-Err-clause-acts
+returns-in-Err-clause-acts g c =
+    let w = check_by c.args.request.now in
+    first_and_agents (record { name = w.plan; longest = longest_plan }) (map names_of c.args.files.now) (agents_of w.names) c.requires.names
+    _ _ _ c.in_ok-text.ensures.acts c.in-Err.ensures.acts
+
+pub returns-clause-acts : goal.returns-clause-acts
+returns-clause-acts g c =
+    let w = check_by c.args.request.now in
+    first_and_agents (record { name = w.plan; longest = longest_plan }) (map names_of c.args.files.now) (agents_of w.names) c.requires.names
+    _ _ _ c.in_ok-text.ensures.acts c.in-Ok.ensures.acts

@@ -7,6 +7,7 @@ use Rattle.mp_top.specs.Asked.{longest_schedule, agents_of, team_request}
 use Rattle.mp_top.specs.Asked.Work.{replayed}
 use Rattle.mp_top.specs.Cause.{Rests}
 use Rattle.mp_top.specs.Decided.{IsRefusedTeam}
+use Rattle.mp_top.proofs.Acts.{first_alone, first_and_agents}
 use Rattle.mp_top.proofs.Decided.{files_rest, seen_later, team_rests, weaker_err}
 use Rattle.mp_words.specs.Reads.{replay_by}
 use Rattle.mp_words.specs.Requests.Wanted.{replays}
@@ -45,3 +46,21 @@ returns-clause-cause g c =
     (subst (λ t. IsRefusedTeam (replayed w.search) c.in-Ok.team t r) c.as_slice-3.ensures.value
     (subst (λ t. IsRefusedTeam (replayed w.search) t c.as_slice-3.result.now r) c.as_slice-2.ensures h)))
     c.replay_by.ensures.refused
+
+pub returns-in_err-text-clause-acts : goal.returns-in_err-text-clause-acts
+returns-in_err-text-clause-acts g c =
+    let w = replay_by c.args.request.now in
+    first_alone (record { name = w.schedule; longest = longest_schedule }) (map names_of c.args.files.now) (agents_of w.names) c.requires.names
+    _ _ c.in_err-text.ensures.acts
+
+pub returns-in-Err-clause-acts : goal.returns-in-Err-clause-acts
+returns-in-Err-clause-acts g c =
+    let w = replay_by c.args.request.now in
+    first_and_agents (record { name = w.schedule; longest = longest_schedule }) (map names_of c.args.files.now) (agents_of w.names) c.requires.names
+    _ _ _ c.in_ok-text.ensures.acts c.in-Err.ensures.acts
+
+pub returns-clause-acts : goal.returns-clause-acts
+returns-clause-acts g c =
+    let w = replay_by c.args.request.now in
+    first_and_agents (record { name = w.schedule; longest = longest_schedule }) (map names_of c.args.files.now) (agents_of w.names) c.requires.names
+    _ _ _ c.in_ok-text.ensures.acts c.in-Ok.ensures.acts
