@@ -18,7 +18,7 @@ abbrev pub key : ℕ × Bound → Known
 key numbered = known_of numbered.1
 
 -- a state before an entry in the list is among the first ones
-earlier_known : (bs : List Bound) (i j : ℕ) (d : Bound) → i < j → j < length bs → Contains (map known_of (take j bs)) (known_of (get_or bs i d))
+pub earlier_known : (bs : List Bound) (i j : ℕ) (d : Bound) → i < j → j < length bs → Contains (map known_of (take j bs)) (known_of (get_or bs i d))
 earlier_known [] i j d lt within = absurd (omega arith)
 earlier_known (b ∷ bs) i zero d lt within = absurd (omega arith)
 earlier_known (b ∷ bs) zero (suc j) d lt within = contains_head (known_of b) (map known_of (take j bs))
@@ -26,7 +26,7 @@ earlier_known (b ∷ bs) (suc i) (suc j) d lt within =
     contains_tail (known_of b) (map known_of (take j bs)) (known_of (get_or bs i d)) (earlier_known bs i j d (omega arith) (omega arith))
 
 -- and what is among these stands before it
-stands_before : (bs : List Bound) (j : ℕ) (d : Bound) (k : Known) → j ≤ length bs → Contains (map known_of (take j bs)) k → (i : ℕ) × (i < j) × (known_of (get_or bs i d) ≡ k)
+pub stands_before : (bs : List Bound) (j : ℕ) (d : Bound) (k : Known) → j ≤ length bs → Contains (map known_of (take j bs)) k → (i : ℕ) × (i < j) × (known_of (get_or bs i d) ≡ k)
 stands_before [] zero d k within here = absurd (no_member k here)
 stands_before [] (suc j) d k within here = absurd (omega arith)
 stands_before (b ∷ bs) zero d k within here = absurd (no_member k here)

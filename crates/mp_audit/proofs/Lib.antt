@@ -22,3 +22,23 @@ pub mod CutLemmas
 pub mod NotedLemmas
 -- the bounds of a last cut pass the audit
 pub mod PassingLemmas
+-- the first of what items give, one after the other
+pub mod FirstLemmas
+-- lists of facts that fit the tasks
+pub mod FitLemmas
+-- sizes of the sets of joint states
+pub mod SizeLemmas
+-- joint states as sets that have sizes
+pub mod StateLemmas
+-- whether the facts of lists are the members of sets
+pub mod SameLemmas
+-- entries found by the places of their states
+pub mod ChainLemmas
+-- entries that repeat an earlier one, and the bound of an entry that is found
+pub mod TableLemmas
+-- the first failure of an action, of actions, of an entry
+pub mod LeadLemmas
+pub mod ActionLemmas
+pub mod EntryLemmas
+-- what is found by parts
+pub mod AuditLemmas

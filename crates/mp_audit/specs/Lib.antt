@@ -6,3 +6,9 @@ pub mod Fits
 pub mod Failures
 -- what a finished run shows at its last cut
 pub mod LastCut
+-- joint states as sets that have sizes
+pub mod States
+-- how entries are found by their states
+pub mod Chains
+-- what is worked out before entries are audited one by one
+pub mod Tables

@@ -1,0 +1,23 @@
+use Rattle.std.proofs.Common.{slice_get, sym, ap, ◌∙◌}
+use Rattle.mp_audit.specs.States.{joint_of}
+use Rattle.mp_audit.proofs.EntryLemmas.{by_task, no_task}
+use Rattle.mp_audit.proofs.entries.entry_failure.Goals as goal
+
+pub task_failure-requires-clause-task : goal.task_failure-requires-clause-task
+task_failure-requires-clause-task c = sym c.in-Some.ensures
+
+pub returns-in_default : goal.returns-in_default
+returns-in_default c =
+    let d = c.args.known.now in
+    let b = c.args.bound.now in
+    no_task d.tasks.now d.bounds.now c.args.entry b (joint_of c.args.state.now) c.requires.state
+    (sym c.has_goals.ensures ∙ c.if-has_goals.false) c.place_of-place.ensures.from_1
+    (ap (slice_get d.tasks.now) (sym c.place_of-place.ensures.place) ∙ sym c.in_default.ensures)
+
+pub returns : goal.returns
+returns c =
+    let d = c.args.known.now in
+    let b = c.args.bound.now in
+    by_task d.tasks.now d.bounds.now c.args.entry b (joint_of c.args.state.now) c.requires.state
+    c.in-Some.task.now c.in_ok-first.first (sym c.has_goals.ensures ∙ c.if-has_goals.false) c.place_of-place.ensures.from_1
+    (ap (slice_get d.tasks.now) (sym c.place_of-place.ensures.place) ∙ sym c.in-Some.ensures) c.in_ok-first.ensures
