@@ -3,7 +3,7 @@
 #![tactic(auto)]
 
 use mp_explain::explain;
-use mp_outside::MemSink;
+use mp_outside::{FileSource, MemSink};
 use std::alloc::{AllocGlobal, Global};
 use std::fs;
 use std::io::{self, Print};
@@ -28,7 +28,8 @@ fn show_example<R: Files + AllocGlobal + Print>(rt: &R, line: &str) -> io::Resul
     let mut err = MemSink::new(alloc, PIECE, Vec::new(alloc));
     let words = words(alloc, line)?;
     println!(rt; "[{line}]")?;
-    let ending = explain(alloc, words.as_slice(), &mut out, &mut err);
+    let mut source = FileSource::new(rt);
+    let ending = explain(alloc, words.as_slice(), &mut source, &mut out, &mut err);
     let code = ending.code();
     println!(rt; "status {code}")?;
     rt.write_all(out.bytes())?;

@@ -1,8 +1,8 @@
-//! `maplan_explain`: what the words of a call of `maplan` ask for, and which it refuses, over real streams.
+//! `maplan_explain`: what `maplan` is asked, which words and files it refuses, and what a run did, over real files and streams.
 #![tactic(auto)]
 
 use mp_explain::{Ending, explain};
-use mp_outside::StreamSink;
+use mp_outside::{FileSource, StreamSink};
 use mp_top::command_line;
 use std::alloc::AllocGlobal;
 use std::process::ExitCode;
@@ -13,6 +13,13 @@ fn main(rt: HostRuntime) -> ExitCode {
     let Some(words) = command_line(&rt) else {
         return ExitCode::from(Ending::Memory.code());
     };
-    let ending = explain(rt.alloc(), words.as_slice(), &mut out, &mut err);
+    let mut source = FileSource::new(&rt);
+    let ending = explain(
+        rt.alloc(),
+        words.as_slice(),
+        &mut source,
+        &mut out,
+        &mut err,
+    );
     ExitCode::from(ending.code())
 }

@@ -6,6 +6,12 @@ pub(crate) enum Command {
     Help,
     Version,
     Words,
+    Files,
+    Team,
+    Run,
+    Picture,
+    Ipc,
+    Unite,
 }
 
 /// The command of this name.
@@ -14,6 +20,12 @@ pub(crate) fn command_of(name: &str) -> Option<Command> {
         "--help" | "help" => Some(Command::Help),
         "--version" => Some(Command::Version),
         "words" => Some(Command::Words),
+        "files" => Some(Command::Files),
+        "team" => Some(Command::Team),
+        "run" => Some(Command::Run),
+        "steps-svg" => Some(Command::Picture),
+        "ipc" => Some(Command::Ipc),
+        "unite" => Some(Command::Unite),
         _ => None,
     }
 }

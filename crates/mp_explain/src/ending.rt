@@ -5,8 +5,11 @@
 pub enum Ending {
     /// What was asked for is printed, and nothing is wrong with what it is about.
     Fine,
-    /// `maplan` refuses the words that it is about, and what is wrong with them is printed.
+    /// `maplan` refuses the words or files that it is about, or a plan does not solve, or there is none, and what is wrong is
+    /// printed.
     Faulty,
+    /// A run of the team decided nothing.
+    Undecided,
     /// The words are no command of `maplan_explain`.
     Words,
     /// A write to the output failed.
@@ -21,6 +24,7 @@ impl Ending {
         match self {
             Ending::Fine => 0,
             Ending::Faulty => 1,
+            Ending::Undecided => 2,
             Ending::Words => 3,
             Ending::Write => 7,
             Ending::Memory => 8,

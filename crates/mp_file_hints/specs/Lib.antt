@@ -1,0 +1,2 @@
+-- when two texts are the files of a factor
+pub mod Accepted

@@ -1,0 +1,2 @@
+-- plans as classical planners write them
+pub mod Ipc

@@ -1,0 +1,2 @@
+-- texts of XML documents
+pub mod Escaped

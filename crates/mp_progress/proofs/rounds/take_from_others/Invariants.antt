@@ -1,0 +1,5 @@
+use Rattle.mp_schedule.specs.TeamRun.{IsSameTeam}
+use Rattle.mp_progress.proofs.rounds.take_from_others.Given as goal
+
+abbrev pub invariant-loop-before : goal.invariant-loop-before
+invariant-loop-before g l = IsSameTeam l.fn.world l.world

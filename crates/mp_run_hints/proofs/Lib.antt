@@ -1,0 +1,2 @@
+-- what teams have answered
+pub mod AnswerLemmas

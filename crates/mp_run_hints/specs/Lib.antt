@@ -1,0 +1,2 @@
+-- answers of teams that have run
+pub mod Answered
