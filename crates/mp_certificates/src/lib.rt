@@ -2,6 +2,7 @@
 #![tactic(auto)]
 
 mod fact_lists;
+mod formed;
 mod laws;
 mod lines;
 mod numbers;

@@ -1,10 +1,14 @@
 //! Certificates that are written.
 
-ghost use Rattle.std.specs.Prelude.{◌≡◌, ◌++◌, ◌∷◌, [], decimal, IfOk, OnOk};
+ghost use Rattle.std.specs.Prelude.{◌≡◌, ◌++◌, ◌∷◌, [], decimal, IfOk, List, OnOk};
 ghost use Rattle.std.specs.List.{flat_map};
+ghost use Rattle.mp_task.specs.AgentTask.{AgentTask};
+ghost use Rattle.mp_audit.specs.Fits.{AgentsFit, CertificateFits};
 ghost use Rattle.mp_text.specs.Outcome.{labelled};
+ghost use Rattle.mp_certificates.specs.Accepted.{IsTextOf};
 ghost use Rattle.mp_certificates.specs.Text.{blank_facts, blank_number, certificate_text as certificate_text_of, cost_line, entries_text, entry_line, facts_text, spaced};
 
+use crate::formed::are_formed;
 use itoa::Buffer;
 use mp_audit::{Bound, Certificate};
 use mp_list::{List, OutOfMemory};
@@ -94,13 +98,25 @@ fn push_cost(text: &mut Bytes, cost: u64) -> Result<(), OutOfMemory>
     text.extend_from_slice(b"\n")
 }
 
-/// The text of a certificate: a line `bound C` with its cost, and behind it for each entry a line of its agent, its bound,
-/// its public facts and the private facts of each agent, `I B [N ..] [N ..] ..`. Refuses only for want of memory.
-pub fn certificate_text(alloc: Global, certificate: &Certificate) -> Result<Bytes, OutOfMemory>
+/// The text of a certificate, whatever it says.
+fn written(alloc: Global, certificate: &Certificate) -> Result<Bytes, OutOfMemory>
     ensures { IfOk result (λ text. text ≡ certificate_text_of certificate.now) }
 {
     let mut text = List::new(alloc);
     push_cost(&mut text, certificate.cost)?;
     push_entries(&mut text, certificate.bounds.as_slice())?;
+    Ok(text)
+}
+
+/// The text of a certificate: a line `bound C` with its cost, and behind it for each entry a line of its agent, its bound,
+/// its public facts and the private facts of each agent, `I B [N ..] [N ..] ..`. Where the certificate fits a team and its
+/// entries are of agents of the team, the text is read as this certificate. Refuses only for want of memory.
+pub fn certificate_text(alloc: Global, certificate: &Certificate) -> Result<Bytes, OutOfMemory>
+    ensures text { IfOk result (λ text. text ≡ certificate_text_of certificate.now) }
+    ensures read { (tasks : List AgentTask) → AgentsFit tasks certificate.now → CertificateFits tasks certificate.now
+        → IfOk result (IsTextOf tasks certificate.now) }
+{
+    are_formed(certificate.bounds.as_slice());
+    let text = written(alloc, certificate)?;
     Ok(text)
 }
