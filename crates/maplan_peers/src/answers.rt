@@ -5,7 +5,7 @@ use mp_machine::{BadKind, Out, Outs, StepRefusal};
 use std::alloc::Global;
 
 /// The name of a kind of bad messages.
-fn name(kind: BadKind) -> &'static str {
+pub(crate) fn name(kind: BadKind) -> &'static str {
     match kind {
         BadKind::NotASpelling => "no spelling",
         BadKind::UnknownToken => "unknown token",

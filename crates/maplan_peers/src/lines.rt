@@ -57,12 +57,21 @@ pub(crate) fn read_line(text: &str) -> Line<'_> {
     }
 }
 
-/// The name of an agent's task and its limit, where a line makes an agent.
-pub(crate) fn made_agent(text: &str) -> Option<(&str, u64)> {
-    let rest = text.strip_prefix("agent ")?;
-    let (name, limit) = rest.split_once(' ')?;
-    match limit.parse::<u64>() {
-        Ok(limit) => Some((name, limit)),
+/// A name and a number.
+fn name_and_number(text: &str) -> Option<(&str, u64)> {
+    let (name, number) = text.split_once(' ')?;
+    match number.parse::<u64>() {
+        Ok(number) => Some((name, number)),
         Err(_) => None,
     }
+}
+
+/// The name of an agent's task and its limit, where a line makes an agent.
+pub(crate) fn made_agent(text: &str) -> Option<(&str, u64)> {
+    name_and_number(text.strip_prefix("agent ")?)
+}
+
+/// The name of an agent's task and a number of messages, where a line asks for messages that are made at random.
+pub(crate) fn random_agent(text: &str) -> Option<(&str, u64)> {
+    name_and_number(text.strip_prefix("random ")?)
 }

@@ -10,6 +10,12 @@
 //! - `show`, which asks what the agent tells of itself;
 //! - a remark, which begins with `#`.
 //!
+//! A block that begins with a line `random NAME COUNT` gives the agent of that name so many messages that are made at random, or
+//! damaged, from walks of events and good messages from its start on. Each answer is compared with that of the rules on bad
+//! messages, which `rules.rt` reads from the table of their kinds over what the agent was seen to take and to send, and `spelled.rt`
+//! from the table of spellings; behind a bad message four more steps have to answer the same. What is printed is how many
+//! answers differ, and which kinds of bad messages came.
+//!
 //! Other blocks are remarks. Each line is printed as it stands. Behind an event stand, each in a line that begins with two
 //! spaces, the messages that go out as `to J HEX`, or the refusal: `not now`, `bad` with the kind of the bad message, or
 //! `out of memory`. Behind `show` stand the events that may happen (with the receipts from agents 1 to 4), how the agent
@@ -20,10 +26,15 @@
 mod answers;
 mod lines;
 mod machines;
+mod made;
+mod random;
+mod rules;
 mod scripts;
 mod shown;
+mod spelled;
 mod tasks;
 mod teams;
+mod walks;
 
 use scripts::run_scripts;
 use std::fs;

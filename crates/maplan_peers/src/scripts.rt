@@ -1,9 +1,10 @@
 //! Scripts that are run.
 
 use crate::answers::add_answer;
-use crate::lines::{Line, made_agent, read_line};
+use crate::lines::{Line, made_agent, random_agent, read_line};
 use crate::machines::machine;
 use crate::shown::add_shown;
+use crate::walks::add_walks;
 use mp_list::OutOfMemory;
 use mp_machine::{Local, Machine};
 use mp_sets::Agent;
@@ -97,7 +98,27 @@ fn run_agent(
     }
 }
 
-/// Runs a block: a script, or remarks. An empty line parts what blocks print.
+/// Runs a block that is no script: messages that are made at random, or remarks.
+fn run_other(
+    alloc: Global,
+    block: &str,
+    head: &str,
+    lines: &str,
+    out: &mut String,
+) -> Result<(), OutOfMemory> {
+    match random_agent(head) {
+        Some((name, messages)) => {
+            add_line(out, head)?;
+            for line in lines.lines() {
+                add_line(out, line)?;
+            }
+            add_walks(alloc, name, messages, out)
+        }
+        None => add_line(out, block),
+    }
+}
+
+/// Runs a block. An empty line parts what blocks print.
 fn run_block(alloc: Global, block: &str, out: &mut String) -> Result<(), OutOfMemory> {
     if !out.is_empty() {
         out.push_str("\n")?;
@@ -110,7 +131,7 @@ fn run_block(alloc: Global, block: &str, out: &mut String) -> Result<(), OutOfMe
             add_line(out, head)?;
             run_agent(alloc, name, limit, lines, out)
         }
-        None => add_line(out, block),
+        None => run_other(alloc, block, head, lines, out),
     }
 }
 
