@@ -21,6 +21,16 @@ pub mod Undecided
 pub mod NineRounds
 -- a round of a team that is not over does something
 pub mod Doing
+-- each snapshot was started by an event
+pub mod Numbers
 -- each expansion counts as one, so that the search goes on over few rounds
 pub mod Counting
 pub mod Decided
+-- messages of the end that wait; over how many messages a plan is walked back; what an event and a round do for the end; all
+-- rounds until the end
+pub mod Waiting
+pub mod Hops
+pub mod Nearing
+pub mod Turning
+pub mod Nearer
+pub mod AllRounds

@@ -31,7 +31,7 @@ quiet_parts before after quiet =
 abbrev pub is_listed : ℕ → List ℕ → Bool
 is_listed i numbers = list_any (λ x. x == i) numbers
 
-in_range : (i from len : ℕ) → from ≤ i → i < from + len → is_listed i (range_with_len from len) ≡ true
+pub in_range : (i from len : ℕ) → from ≤ i → i < from + len → is_listed i (range_with_len from len) ≡ true
 in_range i from zero low high = absurd (omega arith)
 in_range i from (suc len) low high =
     by (from == i) refl (λ above. in_range i (from + 1) len above (omega arith))
@@ -41,7 +41,7 @@ in_range i from (suc len) low high =
     by true test more = refl
     by false test more = let off = eqb-false from i test in more (omega (arith, off))
 
-in_others : (i me : ℕ) (numbers : List ℕ) → i ≢ me → is_listed i numbers ≡ true → is_listed i (filter (λ agent. not (agent == me)) numbers) ≡ true
+pub in_others : (i me : ℕ) (numbers : List ℕ) → i ≢ me → is_listed i numbers ≡ true → is_listed i (filter (λ agent. not (agent == me)) numbers) ≡ true
 in_others i me [] off listed = listed
 in_others i me (x ∷ xs) off listed = by (x == me) refl (x == i) refl (in_others i me xs off)
   where
@@ -68,11 +68,11 @@ module _ (value : AgentTask → Numbers → Numbers → Option ℕ) where
       ∙ run-after (after_event value) w a.middle a.first a.second (runs_p w a.middle a.first a.done)
       ∙ runs_q a.middle last a.second a.then
 
-  each_runs : (P : ℕ → Part) → ((agent : ℕ) → IsRunOf (P agent)) → (agents : List ℕ) → IsRunOf (ForEach P agents)
+  pub each_runs : (P : ℕ → Part) → ((agent : ℕ) → IsRunOf (P agent)) → (agents : List ℕ) → IsRunOf (ForEach P agents)
   each_runs P runs [] = nothing_runs
   each_runs P runs (agent ∷ agents) = then_runs (P agent) (ForEach P agents) (runs agent) (each_runs P runs agents)
 
-  as_long_runs : (event : Event) → IsRunOf (AsLongAsItMay value event)
+  pub as_long_runs : (event : Event) → IsRunOf (AsLongAsItMay value event)
   as_long_runs event w last events (no_more _ test) = run-none (after_event value) w
   as_long_runs event w last events (once_more _ next _ later leads rest) =
       run-first (after_event value) w next event later leads ∙ as_long_runs event next last later rest
@@ -85,20 +85,20 @@ module _ (value : AgentTask → Numbers → Numbers → Option ℕ) where
   starts_runs agent w last events (first is starts) = if_may_runs Start w last events starts
   starts_runs agent w last events (another apart none) = nothing_runs w last events none
 
-  abbrev TakesFrom : ℕ → ℕ → Part
+  abbrev pub TakesFrom : ℕ → ℕ → Part
   TakesFrom agent from = AsLongAsItMay value (Take agent from)
 
-  abbrev Alone : ℕ → Part
+  abbrev pub Alone : ℕ → Part
   Alone agent = Then (IfItMay value (Expand agent)) (StartsIfFirst value agent)
 
-  takes_run : (agents agent : ℕ) → IsRunOf (ForEach (TakesFrom agent) (others agent agents))
+  pub takes_run : (agents agent : ℕ) → IsRunOf (ForEach (TakesFrom agent) (others agent agents))
   takes_run agents agent = each_runs (TakesFrom agent) (λ from. as_long_runs (Take agent from)) (others agent agents)
 
-  alone_runs : (agent : ℕ) → IsRunOf (Alone agent)
+  pub alone_runs : (agent : ℕ) → IsRunOf (Alone agent)
   alone_runs agent =
       then_runs (IfItMay value (Expand agent)) (StartsIfFirst value agent) (if_may_runs (Expand agent)) (starts_runs agent)
 
-  turn_runs : (agents agent : ℕ) → IsRunOf (Turn value agents agent)
+  pub turn_runs : (agents agent : ℕ) → IsRunOf (Turn value agents agent)
   turn_runs agents agent = then_runs (ForEach (TakesFrom agent) (others agent agents)) (Alone agent) (takes_run agents agent) (alone_runs agent)
 
   pub round_runs : (agents : ℕ) → IsRunOf (Round value agents)
@@ -163,7 +163,7 @@ module _ (value : AgentTask → Numbers → Numbers → Option ℕ) where
             (more (ap (λ (b : Bool). b || is_listed i xs) (sym test) ∙ listed))
 
   -- an event may not happen any more
-  no_longer : (event : Event) (w last : World) (events : List Event) → AsLongAsItMay value event w events last → is_legal last event ≡ false
+  pub no_longer : (event : Event) (w last : World) (events : List Event) → AsLongAsItMay value event w events last → is_legal last event ≡ false
   no_longer event w last events (no_more _ test) = test
   no_longer event w last events (once_more _ next _ later leads rest) = no_longer event next last later rest
 

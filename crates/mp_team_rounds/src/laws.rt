@@ -8,6 +8,7 @@ ghost use Rattle.mp_sets.specs.Numbers.{Numbers};
 ghost use Rattle.mp_task.specs.AgentTask.{AgentTask};
 ghost use Rattle.mp_task.specs.Agree.{Agree};
 ghost use Rattle.mp_task.specs.Limits.{IsWithinLimits};
+ghost use Rattle.mp_team_rounds.specs.Going.{AreGoingRounds};
 ghost use Rattle.mp_team_rounds.specs.Quiet.{AreQuietRounds, AreSearchRounds};
 ghost use Rattle.mp_world.specs.Events.{is_legal, run};
 ghost use Rattle.mp_world.specs.RoundRobin.{Round, is_over};
@@ -37,6 +38,15 @@ pub fn rounds_do_something()
         → Round value (length tasks) w events next → events ≢ [] }
 {}
 
+/// The number of agent 1's last snapshot is at most that of the events so far, since each snapshot was started by one.
+pub fn snapshots_are_events()
+    ensures { (value : AgentTask → Numbers → Numbers → Option ℕ) (limit : ℕ)
+        (tasks : List AgentTask) (schedule : List Event) (w : World) (first : AgentRecord)
+        → Agree tasks → All IsWithinLimits tasks → limit ≤ 10000000
+        → run value limit tasks schedule ≡ Some w → agent_at w 1 ≡ Some first
+        → first.snapshot.number ≤ length schedule }
+{}
+
 /// The search of a team does not go on over nine rounds of round robin in which no agent expands, as long as agent 1 has a
 /// number left for one more snapshot: after two of them no state is under way and no agent has anything to expand, after four
 /// more agent 1 has started a snapshot since, and after three more it has the findings of all, by which it decides.
@@ -61,4 +71,19 @@ pub fn searches_take_few_rounds()
         → AreSearchRounds value (length tasks) rounds w last
         → agent_at last 1 ≡ Some first → first.snapshot.number + 1 < 2 ^ 60
         → rounds < 1440000009 }
+{}
+
+/// Round robin is over after fewer than 2^51 rounds, as long as agent 1 has a number left for one more snapshot: the search is
+/// decided within few rounds; then a proved plan is walked back over one message more with each round, and it was reached
+/// over fewer messages than there are entries, of which each of at most 16 agents keeps fewer than 2^46; and all agents end in
+/// the round after one has ended.
+pub fn round_robin_takes_few_rounds()
+    ensures { (value : AgentTask → Numbers → Numbers → Option ℕ) (limit : ℕ)
+        (tasks : List AgentTask) (t : AgentTask) (schedule : List Event) (rounds : ℕ)
+        (w last : World) (first : AgentRecord)
+        → Agree tasks → All IsWithinLimits tasks → limit ≤ 10000000 → Contains tasks t
+        → run value limit tasks schedule ≡ Some w
+        → AreGoingRounds value (length tasks) rounds w last
+        → agent_at last 1 ≡ Some first → first.snapshot.number + 1 < 2 ^ 60
+        → rounds < 2 ^ 51 }
 {}

@@ -4,6 +4,6 @@
 mod laws;
 
 pub use laws::{
-    rounds_do_something, searches_end_without_expansions, searches_take_few_rounds,
-    teams_are_not_stuck,
+    round_robin_takes_few_rounds, rounds_do_something, searches_end_without_expansions,
+    searches_take_few_rounds, snapshots_are_events, teams_are_not_stuck,
 };
