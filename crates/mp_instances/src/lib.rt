@@ -4,10 +4,12 @@
 
 mod choices;
 mod costs;
+mod facts;
 mod gathered;
 mod grounding;
 mod links;
 mod refusal;
+mod start_links;
 mod turns;
 mod values;
 
