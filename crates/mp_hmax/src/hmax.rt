@@ -46,8 +46,8 @@ fn estimate(
     ensures counted { search.new.operators ≡ search.old.operators }
     ensures sized { length search.new.numbers ≡ length search.old.numbers }
 {
-    search.find(problem, publics, privates)?;
-    Ok(search.greatest(problem.goals()))
+    let found = search.find_greatest(problem, publics, privates, problem.goals())?;
+    Ok(found)
 }
 
 impl Heuristic for Hmax {

@@ -1,6 +1,6 @@
 -- Rounds end: each leaves one more operator without a cost, so a round for each operator is enough.
 use Rattle.std.proofs.Common.{◌≡◌, ℕ, zero, suc, ◌+◌, ◌-◌, ◌<◌, ◌≤◌, Bool, true, false, cond, not, eqb, ltb, min, ◌&&◌, ◌||◌, get_or, Option, Some, None, option_map, List, [], ◌∷◌, length, map, All, refl, sym, ap, ◌∙◌, subst, ⊎_elim, arith}
-use Rattle.std.proofs.lemmas.Bool.{and_from, and_parts, both_ways, cases_lt, eq-eqb, eqb-true, false≢true, le-leb, lt-ltb, ltb-true, not-true, or_cases, or_left, or_right}
+use Rattle.std.proofs.lemmas.Bool.{and_from, and_parts, both_ways, cases_lt, eq-eqb, eqb-true, false_from_ne_true, false≢true, le-leb, lt-ltb, ltb-true, not-true, or_cases, or_left, or_right}
 use Rattle.std.proofs.lemmas.List.Elements.{All-head, All-tail}
 use Rattle.std.proofs.lemmas.Option.{none-some}
 use Rattle.std.specs.List.{filter, list_all, list_any}
@@ -9,9 +9,10 @@ use Rattle.mp_sets.specs.Numbers.{Numbers}
 use Rattle.mp_task.specs.Strips.{Operator}
 use Rattle.mp_estimates.specs.Estimates.{AtMost, greater, lesser, Values}
 use Rattle.mp_estimates.specs.Laws.Order.{within, within-AtMost}
+use Rattle.mp_relaxed.specs.Relaxed.{operator_at}
 use Rattle.mp_relaxed.specs.Values.{adds, cost_by, fact_values, greatest}
 use Rattle.mp_lmcut.specs.Cut.{all_valued, cut_cost, cuts, in_cut, in_zone, is_near, is_positive, leads, least, lowered, priced_by, support}
-use Rattle.mp_lmcut.specs.Sides.{least_where}
+use Rattle.mp_lmcut.specs.Sides.{AreValuesFor, least_where}
 use Rattle.mp_lmcut.specs.Laws.Leading.{adds_low, leads_only}
 use Rattle.mp_lmcut.specs.Laws.Round.{goals_far, near_is_beside, near_leaves, near_start, zone_is_dear}
 use Rattle.mp_lmcut.specs.Laws.Supports.{IsSupport, supported}
@@ -170,7 +171,7 @@ module _ (os : List Operator) (s : Numbers) (goals : List ℕ) where
         (outer.0, inner.0, inner.1)
 
     -- what is in the cut costs something
-    free_outside : (i : ℕ) (d : Operator) → i < length os → cut (get_or os i d) ≡ true → (get_or os i d).cost ≤ 0 → ⊥
+    pub free_outside : (i : ℕ) (d : Operator) → i < length os → cut (get_or os i d) ≡ true → (get_or os i d).cost ≤ 0 → ⊥
     free_outside i d lt inside free =
         let o : Operator = get_or os i d in
         let parts = cut_parts o inside in
@@ -218,6 +219,21 @@ module _ (os : List Operator) (s : Numbers) (goals : List ℕ) where
     pub round_frees : suc (costly (lowered v os goals s)) ≤ costly os
     unfolding lowered
     round_frees = one_fewer left os left_low freed
+
+-- an operator without a cost is in no cut
+pub free_left_out : (v : Values) (os : List Operator) (goals : List ℕ) (most : ℕ) (s : Numbers) → AreValuesFor v os goals most s → (k : ℕ) → k < length os → (operator_at os k).cost ≡ 0 → in_cut v os goals s (operator_at os k) ≡ false
+free_left_out v os goals most s h k lt free =
+    false_from_ne_true (in_cut v os goals s (operator_at os k)) (by most h.some h.paid)
+  where
+    same : v ≡ fact_values os s
+    same = λ i x. h.same x i
+
+    by : (m : ℕ) → 1 ≤ m → greatest v goals ≡ Some m → in_cut v os goals s (operator_at os k) ≡ true → ⊥
+    by zero le paid inside = absurd (omega (arith, le))
+    by (suc j) le paid inside =
+        free_outside os s goals j (ap (λ (u : Values). greatest u goals) (sym same) ∙ paid) k _ lt
+        (subst (λ (u : Values). in_cut u os goals s (operator_at os k) ≡ true) same inside)
+        (omega (arith, free))
 
 -- all rounds
 

@@ -1,12 +1,16 @@
 -- Supports by the numbers of facts.
-use Rattle.std.proofs.Common.{◌≡◌, ℕ, ◌+◌, ◌<◌, ◌≤◌, Bool, false, not, ltb, leb, ◌&&◌, ◌||◌, Option, Some, List, length, get_or, drop, sym, ap, ◌∙◌, ⊎_elim, arith}
+use Rattle.std.proofs.Common.{◌≡◌, ℕ, ◌+◌, ◌<◌, ◌≤◌, Bool, true, false, not, ltb, leb, ◌&&◌, ◌||◌, Option, Some, None, List, [], ◌∷◌, length, get_or, drop, refl, sym, ap, ◌∙◌, ⊎_elim, arith}
 use Rattle.std.proofs.lemmas.Bool.{cases_lt, lt-ltb, le-ltb, le-leb, lt-leb}
 use Rattle.std.proofs.lemmas.List.{drop_more}
 use Rattle.std.specs.Option.{is_some}
 use Rattle.mp_list.specs.First.{earlier, leftmost}
+use Rattle.mp_estimates.specs.Estimates.{Values, greater}
 use Rattle.mp_estimates.specs.Lowering.{known, number_at, unknown, value_at}
 use Rattle.mp_estimates.proofs.LoweringLemmas.{known-none, known-some}
-use Rattle.mp_lmcut.specs.Cut.{all_valued, is_above, supports_before}
+use Rattle.mp_relaxed.specs.Values.{greatest}
+use Rattle.mp_lmcut.specs.Cut.{all_valued, is_above, support, supports_before}
+use Rattle.mp_lmcut.specs.Laws.Supports.{IsSupport, supported}
+use Rattle.mp_lmcut.specs.Laws.Supports.IsSupport.{none, one}
 
 pub valued_more : (numbers xs : List ℕ) (i : ℕ) → i < length xs → number_at numbers (get_or xs i 0) < unknown → all_valued (value_at numbers) (drop i xs) ≡ all_valued (value_at numbers) (drop (i + 1) xs)
 valued_more numbers xs i lt less =
@@ -47,3 +51,31 @@ before_is numbers x y first second =
 -- the first of what is left, after one more
 pub first_more : (before : ℕ → ℕ → Bool) (best : Option ℕ) (xs : List ℕ) (i : ℕ) → i < length xs → leftmost before (Some (earlier before best (get_or xs i 0))) (drop (i + 1) xs) ≡ leftmost before best (drop i xs)
 first_more before best xs i lt = sym (ap (leftmost before best) (drop_more xs i 0 lt))
+
+is_some_greater : (a b : Option ℕ) → is_some (greater a b) ≡ (is_some a && is_some b)
+is_some_greater None b = refl
+is_some_greater (Some m) None = refl
+is_some_greater (Some m) (Some n) = refl
+
+greatest_valued : (v : Values) (xs : List ℕ) → is_some (greatest v xs) ≡ all_valued v xs
+greatest_valued v [] = refl
+greatest_valued v (x ∷ xs) = is_some_greater (v x) (greatest v xs) ∙ ap (λ b. is_some (v x) && b) (greatest_valued v xs)
+
+and_true : (b : Bool) → (b && true) ≡ b
+and_true true = refl
+and_true false = refl
+
+-- all preconditions have values where their support does, which has the greatest one
+pub support_valued : (v : Values) (pre : List ℕ) → all_valued v (support v pre) ≡ all_valued v pre
+support_valued v pre = by (supported v pre)
+  where
+    by : IsSupport v pre (support v pre) → all_valued v (support v pre) ≡ all_valued v pre
+    by (none e is) = ap (all_valued v) (is ∙ sym e)
+    by (one x is member value) = ap (all_valued v) is ∙ and_true (is_some (v x)) ∙ ap is_some value ∙ greatest_valued v pre
+
+-- what the code asks of a support
+pub known_one : (numbers : List ℕ) (x : ℕ) → ltb (number_at numbers x) unknown ≡ all_valued (value_at numbers) (x ∷ [])
+known_one numbers x = ⊎_elim
+    (λ h. lt-ltb (number_at numbers x) unknown h ∙ sym (ap (λ a. is_some a && true) (known-some (number_at numbers x) h)))
+    (λ h. le-ltb (number_at numbers x) unknown h ∙ sym (ap (λ a. is_some a && true) (known-none (number_at numbers x) h)))
+    (cases_lt (number_at numbers x) unknown)

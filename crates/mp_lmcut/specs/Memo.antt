@@ -1,13 +1,13 @@
 -- Values of states that are kept.
-use Rattle.std.specs.Prelude.{◌≡◌, ℕ, Option, IfSome}
+use Rattle.std.specs.Prelude.{◌≡◌, ℕ, Option}
 use Rattle.mp_sets.specs.Numbers.{Numbers}
 use Rattle.mp_relaxed.specs.Relaxed.{RelaxedProblem, state_of}
 use Rattle.mp_lmcut.specs.declared.memo.Slot.{Slot}
 use Rattle.mp_lmcut.specs.Cut.{lmcut_of}
 
--- what is kept in a place, if anything, is what a law gives for its state
-abbrev pub IsRight : (Numbers → Numbers → Option ℕ) → Option Slot → Type 0
-IsRight law slot = IfSome slot (λ s. s.value ≡ law s.publics.members s.privates.members)
+-- a value that is kept is what a law gives for its state
+abbrev pub IsRight : (Numbers → Numbers → Option ℕ) → Slot → Type 0
+IsRight law slot = slot.value ≡ law slot.publics.members slot.privates.members
 
 -- the heuristic as a law of states, for a problem
 abbrev pub lmcut_in : RelaxedProblem → Numbers → Numbers → Option ℕ

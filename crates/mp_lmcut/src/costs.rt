@@ -46,7 +46,8 @@ fn put(
     Ok(())
 }
 
-/// Puts an operator that adds a fact of the zone, and its cost, at the ends of two lists where it is in the cut.
+/// Puts an operator that adds a fact of the zone, and its cost, at the ends of two lists where it is in the cut. One without a
+/// cost is in no cut.
 fn note(
     problem: &Relaxed,
     numbers: &[u64],
@@ -82,6 +83,9 @@ fn note(
     ensures marks { OnOk result (AreNearFacts (value_at numbers.now) problem.now.operators problem.now.goals most
         near.new.flags) }
 {
+    if problem.cost(k) == 0 {
+        return Ok(());
+    }
     let found = has_near_edge(problem, numbers, adders, zone, most, k, asked, near)?;
     put(problem, found, k, cut, costs)?;
     Ok(())

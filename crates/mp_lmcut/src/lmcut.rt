@@ -6,7 +6,7 @@ ghost use Rattle.mp_relaxed.specs.Relaxed.{RelaxedProblem};
 ghost use Rattle.mp_lmcut.specs.Memo.{IsRight, lmcut_in};
 ghost use Rattle.mp_lmcut.specs.Sides.{AreAdders, costless, repriced};
 
-use crate::memo::{Slot, empty_slots, place_of, recall, remember};
+use crate::memo::{Memo, place_of, recall, remember};
 use crate::rounds::value_of;
 use crate::sides::Sides;
 use mp_list::{List, OutOfMemory};
@@ -24,14 +24,14 @@ pub struct Cut {
     adders: Vec<List<u32>>,
     search: Search,
     sides: Sides,
-    memo: Vec<Option<Slot>>,
+    memo: Memo,
     ghost priced: { length costs.items ≡ length problem.operators },
     ghost cheap: { All (λ c. c ≤ 16000000) costs.items },
     ghost added: { AreAdders problem.operators problem.facts adders.items },
     ghost counted: { search.operators ≡ length problem.operators },
     ghost sized: { length search.numbers ≡ problem.facts },
-    ghost roomy: { length memo.items ≡ 8192 },
-    ghost right: { All (IsRight (lmcut_in (repriced costs.items problem))) memo.items } by { Prim.hlevel props },
+    ghost roomy: { length memo.places.items ≡ 8192 },
+    ghost right: { All (IsRight (lmcut_in (repriced costs.items problem))) memo.slots.items } by { Prim.hlevel props },
 }
 
 impl Drop for Cut {
@@ -91,7 +91,7 @@ fn recall_or_estimate(
     adders: &[List<u32>],
     search: &mut Search,
     sides: &mut Sides,
-    memo: &mut Vec<Option<Slot>>,
+    memo: &mut Memo,
     publics: &Bits,
     privates: &Bits,
 ) -> Result<Option<u64>, OutOfMemory>
@@ -102,22 +102,30 @@ fn recall_or_estimate(
     requires adders { AreAdders problem.old.operators problem.old.facts adders.now }
     requires publics { publics.now.size ≡ problem.old.publics }
     requires privates { problem.old.publics + privates.now.size ≡ problem.old.facts }
-    requires roomy { vec_len memo.old ≡ 8192 }
-    requires right { All (IsRight (lmcut_in (repriced costs.now problem.old))) memo.old.items }
+    requires roomy { vec_len memo.old.places ≡ 8192 }
+    requires right { All (IsRight (lmcut_in (repriced costs.now problem.old))) memo.old.slots.items }
     ensures found { IfOk result (λ found. found
         ≡ lmcut_in (repriced costs.now problem.old) publics.now.members privates.now.members) }
     ensures kept { costless problem.new ≡ costless problem.old }
     ensures counted { search.new.operators ≡ search.old.operators }
     ensures sized { length search.new.numbers ≡ length search.old.numbers }
-    ensures roomy { vec_len memo.new ≡ 8192 }
-    ensures right { All (IsRight (lmcut_in (repriced costs.now problem.old))) memo.new.items }
+    ensures roomy { vec_len memo.new.places ≡ 8192 }
+    ensures right { All (IsRight (lmcut_in (repriced costs.now problem.old))) memo.new.slots.items }
 {
-    let at = place_of(publics, privates, memo.len());
-    if let Some(found) = recall(memo.as_slice(), at, publics, privates) {
+    let place = place_of(publics, privates, memo.places.len());
+    let number = memo.places[place];
+    if let Some(found) = recall(memo.slots.as_slice(), number, publics, privates) {
         return Ok(found);
     }
     let found = estimate(problem, costs, adders, search, sides, publics, privates)?;
-    remember(memo, at, publics, privates, found)?;
+    remember(
+        &mut memo.places,
+        &mut memo.slots,
+        place,
+        publics,
+        privates,
+        found,
+    )?;
     Ok(found)
 }
 
@@ -136,7 +144,7 @@ impl Heuristic for Cut {
         let costs = problem.costs(alloc)?;
         let adders = problem.adders(alloc)?;
         let search = Search::new(alloc, &problem)?;
-        let memo = empty_slots(alloc)?;
+        let memo = Memo::new(alloc)?;
         let _ = problem.operators();
         Ok(Cut {
             problem,

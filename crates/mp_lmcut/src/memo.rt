@@ -1,17 +1,17 @@
 //! The values of states that were asked for last. States of a team that differ in what other agents keep to themselves are one
 //! state here, so most that come have come before.
 
-ghost use Rattle.std.specs.Prelude.{◌≡◌, ◌<◌, ℕ, All, IfOk, IfSome, Option as Maybe, None, length, true, vec_len};
+ghost use Rattle.std.specs.Prelude.{◌≡◌, ◌<◌, ◌++◌, ◌∷◌, [], ℕ, All, IfOk, IfSome, Option as Maybe, length, true, vec_len};
 ghost use Rattle.mp_sets.specs.Numbers.{Numbers};
 ghost use Rattle.mp_lmcut.specs.Memo.{IsRight};
 
-use mp_list::{Copied, OutOfMemory};
+use mp_list::{Copied, OutOfMemory, to_u32};
 use mp_sets::Bits;
 use std::alloc::Global;
-use std::hash::{DefaultHasher, Hash, Hasher};
+use std::hash::{FoldHasher, Hash, Hasher};
 
 /// How many values are kept.
-const SLOTS: usize = 8192;
+const PLACES: usize = 8192;
 
 /// A state and its value.
 #[derive(Drop)]
@@ -21,27 +21,36 @@ pub(crate) struct Slot {
     value: Option<u64>,
 }
 
-/// Places for values, without any. Refuses only for want of memory.
-pub(crate) fn empty_slots(alloc: Global) -> Result<Vec<Option<Slot>>, OutOfMemory>
-    ensures len { IfOk result (λ slots. vec_len slots ≡ 8192) }
-    ensures none { IfOk result (λ slots. All (λ s. s ≡ None) slots.items) }
-{
-    let mut slots = Vec::with_capacity(alloc, SLOTS)?;
-    for _ in 0..SLOTS {
-        slots.push(None)?;
+/// States with their values, in the order in which they came, and for each place of a hash the number of the one that is kept
+/// there. Numbers that no state has stand for none.
+#[derive(Drop)]
+pub(crate) struct Memo {
+    pub(crate) places: Vec<u32>,
+    pub(crate) slots: Vec<Slot>,
+}
+
+impl Memo {
+    /// Without values: a value takes memory for itself alone. Refuses only for want of memory.
+    pub(crate) fn new(alloc: Global) -> Result<Memo, OutOfMemory>
+        ensures len { IfOk result (λ memo. vec_len memo.places ≡ 8192) }
+        ensures none { IfOk result (λ memo. memo.slots.items ≡ []) }
+    {
+        Ok(Memo {
+            places: vec![in alloc; u32::MAX; PLACES]?,
+            slots: Vec::new(alloc),
+        })
     }
-    Ok(slots)
 }
 
 /// The place of a state among so many: that of its hash.
-pub(crate) fn place_of(publics: &Bits, privates: &Bits, slots: usize) -> usize
-    requires { 0 < slots }
-    ensures { result < slots }
+pub(crate) fn place_of(publics: &Bits, privates: &Bits, places: usize) -> usize
+    requires { 0 < places }
+    ensures { result < places }
 {
-    let mut state = DefaultHasher::new();
+    let mut state = FoldHasher::default();
     publics.hash(&mut state);
     privates.hash(&mut state);
-    (state.finish() % slots as u64) as usize
+    (state.finish() % places as u64) as usize
 }
 
 /// Whether two sets are one.
@@ -64,33 +73,81 @@ fn value_for(slot: &Slot, publics: &Bits, privates: &Bits) -> Option<Option<u64>
     }
 }
 
-/// The value of a state, where it is kept in a place.
+/// The value of a state, where it is the one with a number.
 pub(crate) fn recall(
-    slots: &[Option<Slot>],
-    at: usize,
+    slots: &[Slot],
+    number: u32,
     publics: &Bits,
     privates: &Bits,
 ) -> Option<Option<u64>>
-    requires { at < length slots.now }
     ensures { (law : Numbers → Numbers → Maybe ℕ) → All (IsRight law) slots.now
         → IfSome result (λ found. found ≡ law publics.now.members privates.now.members) }
 {
-    match &slots[at] {
-        Some(slot) => value_for(slot, publics, privates),
-        None => None,
+    if (number as usize) < slots.len() {
+        value_for(&slots[number as usize], publics, privates)
+    } else {
+        None
     }
 }
 
-/// Keeps the value of a state in a place. Refuses only for want of memory, and leaves all places as they were then.
+/// Puts a state with its value at the end, and its number in a place.
+fn put(
+    places: &mut Vec<u32>,
+    slots: &mut Vec<Slot>,
+    place: usize,
+    slot: Slot,
+) -> Result<(), OutOfMemory>
+    requires { place < vec_len places.old }
+    ensures len { vec_len places.new ≡ vec_len places.old }
+    ensures right { (law : Numbers → Numbers → Maybe ℕ) → All (IsRight law) slots.old.items
+        → IsRight law slot → All (IsRight law) slots.new.items }
+{
+    let number = to_u32(slots.len())?;
+    slots.push(slot)?;
+    places[place] = number;
+    Ok(())
+}
+
+/// Puts a state with its value in the room of another.
+fn replace(slots: &mut Vec<Slot>, number: usize, slot: Slot)
+    requires { number < vec_len slots.old }
+    ensures { (law : Numbers → Numbers → Maybe ℕ) → All (IsRight law) slots.old.items
+        → IsRight law slot → All (IsRight law) slots.new.items }
+{
+    slots[number] = slot;
+}
+
+/// Keeps a state with its value in a place, where it takes the room of the one that was there.
+fn keep(
+    places: &mut Vec<u32>,
+    slots: &mut Vec<Slot>,
+    place: usize,
+    slot: Slot,
+) -> Result<(), OutOfMemory>
+    requires { place < vec_len places.old }
+    ensures len { vec_len places.new ≡ vec_len places.old }
+    ensures right { (law : Numbers → Numbers → Maybe ℕ) → All (IsRight law) slots.old.items
+        → IsRight law slot → All (IsRight law) slots.new.items }
+{
+    let number = places[place] as usize;
+    if number < slots.len() {
+        replace(slots, number, slot);
+        return Ok(());
+    }
+    put(places, slots, place, slot)
+}
+
+/// Keeps the value of a state in a place. Refuses only for want of memory.
 pub(crate) fn remember(
-    slots: &mut Vec<Option<Slot>>,
-    at: usize,
+    places: &mut Vec<u32>,
+    slots: &mut Vec<Slot>,
+    place: usize,
     publics: &Bits,
     privates: &Bits,
     value: Option<u64>,
 ) -> Result<(), OutOfMemory>
-    requires { at < vec_len slots.old }
-    ensures len { vec_len slots.new ≡ vec_len slots.old }
+    requires { place < vec_len places.old }
+    ensures len { vec_len places.new ≡ vec_len places.old }
     ensures right { (law : Numbers → Numbers → Maybe ℕ) → All (IsRight law) slots.old.items
         → value ≡ law publics.now.members privates.now.members
         → All (IsRight law) slots.new.items }
@@ -100,6 +157,5 @@ pub(crate) fn remember(
         privates: privates.copy()?,
         value,
     };
-    slots[at] = Some(slot);
-    Ok(())
+    keep(places, slots, place, slot)
 }

@@ -2,17 +2,18 @@
 //! out for the supports of operators that add a fact of the zone alone, and backwards: a fact that is cheaper than the goals is
 //! near (`proofs/CheapLemmas.antt`), so a search from a dearer one ends at the first such fact.
 
-ghost use Rattle.std.specs.Prelude.{◌≡◌, ◌<◌, ◌||◌, ℕ, All, IfOk, OnOk, false, length, true};
+ghost use Rattle.std.specs.Prelude.{◌≡◌, ◌<◌, ◌||◌, ◌==◌, ℕ, All, IfOk, IfSome, OnOk, false, length, true};
 ghost use Rattle.std.specs.List.{list_all, list_any};
+ghost use Rattle.std.specs.Option.{option_to_list};
 ghost use Rattle.mp_sets.specs.Numbers.{Numbers};
 ghost use Rattle.mp_relaxed.specs.Relaxed.{HasAdders, operator_at};
 ghost use Rattle.mp_estimates.specs.Lowering.{value_at};
-ghost use Rattle.mp_lmcut.specs.Cut.{is_near, support};
+ghost use Rattle.mp_lmcut.specs.Cut.{is_near};
 ghost use Rattle.mp_lmcut.specs.Marked.{HasGrown, is_marked};
-ghost use Rattle.mp_lmcut.specs.Sides.{AreAdders, AreNearFacts, AreValuesFor, HasSource, IsBehind, IsTraced, IsTracedFrom, IsZone, Supports, TracesBack, is_cheap as is_cheap_for, is_from_near, is_source};
+ghost use Rattle.mp_lmcut.specs.Sides.{AreAdders, AreNearFacts, AreValuesFor, HasSource, IsBehind, IsTraced, IsTracedFrom, IsZone, TracesBack, is_cheap as is_cheap_for, is_from_near, is_source};
 
 use crate::marks::Marks;
-use crate::supports::{are_valued, support_of};
+use crate::supports::valued_support_of;
 use mp_list::{List, OutOfMemory};
 use mp_relaxed::Relaxed;
 
@@ -63,27 +64,27 @@ fn trace_fact(
     Ok(false)
 }
 
-/// Whether the support of some preconditions is cheap, or there is none; else it is asked for.
+/// Whether a support is cheap, or there is none; else it is asked for.
 fn trace_support(
     numbers: &[u64],
     zone: &Marks,
     most: u64,
-    pre: &[u32],
+    found: Option<u32>,
     asked: &mut Marks,
 ) -> Result<bool, OutOfMemory>
-    requires inside { All (λ x. x < length numbers.now) pre.now }
+    requires inside { IfSome found (λ x. x < length numbers.now) }
     requires zone { length zone.now.flags ≡ length numbers.now }
     requires asked { length asked.old.flags ≡ length numbers.now }
-    ensures value { IfOk result (λ found. found
-        ≡ list_all (is_cheap_for (value_at numbers.now) most) (support (value_at numbers.now) pre.now)) }
+    ensures value { IfOk result (λ cheap. cheap
+        ≡ list_all (is_cheap_for (value_at numbers.now) most) (option_to_list found)) }
     ensures grown { OnOk result (HasGrown
-        (λ y. Supports (value_at numbers.now) pre.now y × (is_marked zone.now.flags y ≡ false)
+        (λ y. (list_any (λ x. x == y) (option_to_list found) ≡ true) × (is_marked zone.now.flags y ≡ false)
         × (is_cheap_for (value_at numbers.now) most y ≡ false)) asked.old asked.new) }
-    ensures done { IfOk result (λ found. found ≡ false
+    ensures done { IfOk result (λ cheap. cheap ≡ false
         → list_all (λ x. is_marked zone.now.flags x || is_marked asked.new.flags x)
-        (support (value_at numbers.now) pre.now) ≡ true) }
+        (option_to_list found) ≡ true) }
 {
-    match support_of(numbers, pre) {
+    match found {
         Some(x) => trace_fact(numbers, zone, most, x, asked),
         None => Ok(true),
     }
@@ -109,10 +110,10 @@ fn trace(
     ensures done { IfOk result (λ found. found ≡ false → IsTraced (value_at numbers.now)
         zone.now.flags (operator_at problem.now.operators k) asked.new.flags) }
 {
-    if !are_valued(numbers, problem.pre(k)) {
-        return Ok(false);
+    match valued_support_of(numbers, problem.pre(k)) {
+        Some(found) => trace_support(numbers, zone, most, found, asked),
+        None => Ok(false),
     }
-    trace_support(numbers, zone, most, problem.pre(k), asked)
 }
 
 /// Whether one of the operators that add a fact has edges from the start or from a cheap fact; else the supports of all of
@@ -147,8 +148,8 @@ fn trace_all(
     Ok(false)
 }
 
-/// Whether a dear fact outside the zone is near: whether a search back from it comes to a fact to which an operator leads from
-/// the start or from a cheap fact.
+/// Whether a dear fact outside the zone is near: whether a search back from it comes to a fact that is known to be, or to which
+/// an operator leads from the start or from a cheap fact.
 fn is_reached(
     problem: &Relaxed,
     numbers: &[u64],
@@ -157,6 +158,7 @@ fn is_reached(
     most: u64,
     x: u32,
     asked: &mut Marks,
+    near: &Marks,
 ) -> Result<bool, OutOfMemory>
     requires fact { x < problem.now.facts }
     requires adders { AreAdders problem.now.operators problem.now.facts adders.now }
@@ -164,6 +166,9 @@ fn is_reached(
     requires len { length zone.now.flags ≡ problem.now.facts }
     requires zone { IsZone (value_at numbers.now) problem.now.operators problem.now.goals
         zone.now.flags }
+    requires near { length near.now.flags ≡ problem.now.facts }
+    requires marks { AreNearFacts (value_at numbers.now) problem.now.operators problem.now.goals most
+        near.now.flags }
     requires outside { is_marked zone.now.flags x ≡ false }
     requires dear { is_cheap_for (value_at numbers.now) most x ≡ false }
     ensures { IfOk result (λ found. (s : Numbers)
@@ -173,6 +178,9 @@ fn is_reached(
     asked.begin(problem.facts())?;
     asked.mark(x)?;
     'facts: while let Some(y) = asked.next() {
+        if near.has(y) {
+            return Ok(true);
+        }
         let row = adders[y as usize].as_slice();
         let found = trace_all(problem, numbers, zone, most, row, y, asked)?;
         if found {
@@ -191,6 +199,7 @@ fn is_near_fact(
     most: u64,
     x: u32,
     asked: &mut Marks,
+    near: &Marks,
 ) -> Result<bool, OutOfMemory>
     requires fact { x < problem.now.facts }
     requires adders { AreAdders problem.now.operators problem.now.facts adders.now }
@@ -198,6 +207,9 @@ fn is_near_fact(
     requires len { length zone.now.flags ≡ problem.now.facts }
     requires zone { IsZone (value_at numbers.now) problem.now.operators problem.now.goals
         zone.now.flags }
+    requires near { length near.now.flags ≡ problem.now.facts }
+    requires marks { AreNearFacts (value_at numbers.now) problem.now.operators problem.now.goals most
+        near.now.flags }
     ensures { IfOk result (λ found. (s : Numbers)
         → AreValuesFor (value_at numbers.now) problem.now.operators problem.now.goals most s
         → found ≡ is_near (value_at numbers.now) problem.now.operators problem.now.goals s x) }
@@ -208,7 +220,7 @@ fn is_near_fact(
     if zone.has(x) {
         return Ok(false);
     }
-    is_reached(problem, numbers, adders, zone, most, x, asked)
+    is_reached(problem, numbers, adders, zone, most, x, asked, near)
 }
 
 /// Marks a fact that was found.
@@ -252,23 +264,23 @@ fn learn(
     if near.has(x) {
         return Ok(true);
     }
-    let found = is_near_fact(problem, numbers, adders, zone, most, x, asked)?;
+    let found = is_near_fact(problem, numbers, adders, zone, most, x, asked, near)?;
     mark_found(found, x, near)?;
     Ok(found)
 }
 
-/// Whether the support of some preconditions is near, or there is none.
+/// Whether a support is near, or there is none.
 fn is_from(
     problem: &Relaxed,
     numbers: &[u64],
     adders: &[List<u32>],
     zone: &Marks,
     most: u64,
-    pre: &[u32],
+    support: Option<u32>,
     asked: &mut Marks,
     near: &mut Marks,
 ) -> Result<bool, OutOfMemory>
-    requires inside { All (λ x. x < length numbers.now) pre.now }
+    requires inside { IfSome support (λ x. x < length numbers.now) }
     requires adders { AreAdders problem.now.operators problem.now.facts adders.now }
     requires sized { length numbers.now ≡ problem.now.facts }
     requires len { length zone.now.flags ≡ problem.now.facts }
@@ -280,12 +292,12 @@ fn is_from(
     ensures value { IfOk result (λ found. (s : Numbers)
         → AreValuesFor (value_at numbers.now) problem.now.operators problem.now.goals most s
         → found ≡ list_all (is_near (value_at numbers.now) problem.now.operators problem.now.goals s)
-        (support (value_at numbers.now) pre.now)) }
+        (option_to_list support)) }
     ensures near { OnOk result (length near.new.flags ≡ problem.now.facts) }
     ensures marks { OnOk result (AreNearFacts (value_at numbers.now) problem.now.operators problem.now.goals most
         near.new.flags) }
 {
-    match support_of(numbers, pre) {
+    match support {
         Some(x) => learn(problem, numbers, adders, zone, most, x, asked, near),
         None => Ok(true),
     }
@@ -319,17 +331,8 @@ pub(crate) fn has_near_edge(
     ensures marks { OnOk result (AreNearFacts (value_at numbers.now) problem.now.operators problem.now.goals most
         near.new.flags) }
 {
-    if !are_valued(numbers, problem.pre(k)) {
-        return Ok(false);
+    match valued_support_of(numbers, problem.pre(k)) {
+        Some(support) => is_from(problem, numbers, adders, zone, most, support, asked, near),
+        None => Ok(false),
     }
-    is_from(
-        problem,
-        numbers,
-        adders,
-        zone,
-        most,
-        problem.pre(k),
-        asked,
-        near,
-    )
 }

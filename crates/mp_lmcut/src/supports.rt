@@ -1,6 +1,6 @@
 //! The supports of operators, by the numbers of their preconditions.
 
-ghost use Rattle.std.specs.Prelude.{◌≡◌, ◌<◌, ℕ, All, IfSome, length};
+ghost use Rattle.std.specs.Prelude.{◌≡◌, ◌<◌, ℕ, All, IfNone, IfSome, false, length, true};
 ghost use Rattle.std.specs.Option.{option_to_list};
 ghost use Rattle.mp_list.specs.First.{earlier as first_of};
 ghost use Rattle.mp_estimates.specs.Lowering.{value_at};
@@ -56,4 +56,31 @@ pub(crate) fn support_of(numbers: &[u64], pre: &[u32]) -> Option<u32>
         best = Some(earlier(numbers, best, *x));
     }
     best
+}
+
+/// Whether a support, if there is one, has a value.
+#[tactic(auto, using(crate::proofs::SupportLemmas::known_one))]
+fn is_known(numbers: &[u64], found: Option<u32>) -> bool
+    requires { IfSome found (λ x. x < length numbers.now) }
+    ensures { result ≡ all_valued (value_at numbers.now) (option_to_list found) }
+{
+    match found {
+        Some(x) => numbers[x as usize] < u64::MAX,
+        None => true,
+    }
+}
+
+/// The support of preconditions that all have values, as its own value is the greatest of theirs.
+pub(crate) fn valued_support_of(numbers: &[u64], pre: &[u32]) -> Option<Option<u32>>
+    requires { All (λ x. x < length numbers.now) pre.now }
+    ensures none { IfNone result (all_valued (value_at numbers.now) pre.now ≡ false) }
+    ensures valued { IfSome result (λ _. all_valued (value_at numbers.now) pre.now ≡ true) }
+    ensures value { IfSome result (λ found. option_to_list found ≡ support (value_at numbers.now) pre.now) }
+    ensures below { IfSome result (λ found. IfSome found (λ x. x < length numbers.now)) }
+{
+    let found = support_of(numbers, pre);
+    if !is_known(numbers, found) {
+        return None;
+    }
+    Some(found)
 }

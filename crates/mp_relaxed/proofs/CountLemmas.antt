@@ -1,15 +1,16 @@
 -- Counts of open preconditions.
-use Rattle.std.proofs.Common.{◌≡◌, ℕ, zero, suc, ◌+◌, ◌-◌, ◌<◌, ◌≤◌, Bool, true, false, cond, eqb, None, option_map, List, [], ◌∷◌, length, get_or, take, refl, sym, ap, ◌∙◌, subst, ⊎_elim, get_or-set_same, get_or-set_other, arith}
+use Rattle.std.proofs.Common.{◌≡◌, ℕ, zero, suc, ◌+◌, ◌-◌, ◌<◌, ◌≤◌, Bool, true, false, cond, eqb, max, None, option_map, List, [], ◌∷◌, length, get_or, take, All, refl, sym, ap, ◌∙◌, subst, ⊎_elim, get_or-set_same, get_or-set_other, arith}
 use Rattle.std.proofs.Math.ListN.{set as set_at}
 use Rattle.std.proofs.lemmas.Bool.{cases_eq, eqb-false}
 use Rattle.std.proofs.lemmas.List.{take_more, get_or_default}
+use Rattle.std.proofs.lemmas.List.Elements.{All-cons, All-contains, All-head, All-nil, All-tail}
 use Rattle.std.specs.List.Sorted.{IsPermutation}
 use Rattle.mp_task.specs.Strips.{Operator}
 use Rattle.mp_estimates.specs.Estimates.{Values, greater}
 use Rattle.mp_relaxed.specs.Values.{greatest}
 use Rattle.mp_relaxed.specs.Relaxed.{operator_at}
-use Rattle.mp_estimates.specs.Lowering.{unknown, number_at, value_at, Key, key, HaveFallen}
-use Rattle.mp_relaxed.specs.Search.{capped, IsServed, IsOpen, AtLeast, count_at, CountOpen, ServeAtZero, AreLowered}
+use Rattle.mp_estimates.specs.Lowering.{unknown, number_at, value_at, Key, key, HaveFallen, Waits}
+use Rattle.mp_relaxed.specs.Search.{capped, AreFrom, AreSettled, IsServed, IsOpen, AtLeast, count_at, CountOpen, ServeAtZero, ServesBelow, AreLowered}
 use Rattle.mp_relaxed.specs.Search.AtLeast.{nothing, one, more}
 use Rattle.mp_relaxed.specs.Users.{times}
 use Rattle.mp_relaxed.proofs.TimesLemmas.{times-append, times_same, times_other, times_contained}
@@ -168,3 +169,47 @@ all_settled os numbers queue counts empty zeros count k within = ⊎_elim
     (λ x is_open. known-none (number_at numbers x) (is_open (λ waits. absurd (omega (arith, empty, waits.1)))))
     (count k within)))))
     (cases_eq (count_at counts k) 0)
+
+-- at least so many are such and something else, where all are that
+at_least_both : (P Q : ℕ → Type 0) (xs : List ℕ) (n : ℕ) → AtLeast P xs n → All Q xs → AtLeast (λ x. P x × Q x) xs n
+at_least_both P Q _ _ (nothing xs) all = nothing xs
+at_least_both P Q _ _ (one x xs n p h) all = one x xs n (p, All-head Q x xs all) (at_least_both P Q xs n h (All-tail Q x xs all))
+at_least_both P Q _ _ (more x xs n h) all = more x xs n (at_least_both P Q xs n h (All-tail Q x xs all))
+
+-- a fact whose number is less than all in the queue does not wait
+calm_below : (numbers : List ℕ) (queue : List Key) (n x : ℕ) → AreFrom n queue → number_at numbers x < n → ¬ Waits numbers queue x
+calm_below numbers queue n x from less waits =
+    let there : n ≤ number_at numbers x = All-contains (λ (k : Key). n ≤ k.0) queue (key (number_at numbers x) x) from waits in
+    absurd (omega arith)
+
+-- operators whose preconditions have numbers less than all in the queue are served
+pub serves_before : (os : List Operator) (numbers : List ℕ) (queue : List Key) (counts : List ℕ) (n : ℕ) → AreFrom n queue → ServeAtZero os numbers queue counts → CountOpen os numbers queue counts → ServesBelow os numbers n
+serves_before os numbers queue counts n from zeros count k within low = ⊎_elim
+    (λ e. zeros k within e (λ i d lt. calm_below numbers queue n _ from (low i d lt)))
+    (λ ne.
+    none_served os numbers queue k
+    (ap (λ a. capped (option_map (λ h. (operator_at os k).cost + h) a))
+    (at_least_none (value_at numbers) (operator_at os k).pre (count_at counts k) (omega arith)
+    (at_least_kept (λ x. IsOpen numbers queue x × (number_at numbers x < n)) (λ x. value_at numbers x ≡ None) (operator_at os k).pre (count_at counts k)
+    (λ x both. known-none (number_at numbers x) (both.0 (calm_below numbers queue n x from both.1)))
+    (at_least_both (IsOpen numbers queue) (λ x. number_at numbers x < n) (operator_at os k).pre (count_at counts k) (count k within) low))))
+    (λ i d lt. calm_below numbers queue n _ from (low i d lt)))
+    (cases_eq (count_at counts k) 0)
+
+-- where no fact waits, all of them are, and any facts are settled
+
+pub serves_all : (os : List Operator) (numbers : List ℕ) (n : ℕ) → ((k : ℕ) → k < length os → IsServed os numbers [] k) → ServesBelow os numbers n
+serves_all os numbers n served k within _ = served k within (λ i d lt waits. absurd (omega (arith, waits.1)))
+
+bound_of : (numbers facts : List ℕ) → (b : ℕ) × All (λ x. number_at numbers x ≤ b) facts
+bound_of numbers [] = (0, All-nil (λ x. number_at numbers x ≤ 0))
+bound_of numbers (x ∷ facts) =
+    let rest = bound_of numbers facts in (
+      max (number_at numbers x) rest.0,
+      All-cons (λ y. number_at numbers y ≤ max (number_at numbers x) rest.0) x facts (omega arith) (λ i d lt. let h = rest.1 i d lt in omega arith),
+    )
+
+pub settled_all : (os : List Operator) (numbers facts : List ℕ) → ((k : ℕ) → k < length os → IsServed os numbers [] k) → AreSettled os numbers facts
+settled_all os numbers facts served =
+    let b = bound_of numbers facts in
+    record { bound = b.0; low = b.1; serves = serves_all os numbers b.0 served }

@@ -96,3 +96,24 @@ ServeAtZero operators numbers queue counts =
 -- each count has been lowered as often as its operator's number stands in a list
 abbrev pub AreLowered : List ℕ → List ℕ → List ℕ → Type 0
 AreLowered old users new = (k : ℕ) → count_at new k ≡ count_at old k - times k users
+
+-- operators whose preconditions all have lesser numbers than a bound are served
+abbrev pub ServesBelow : List Operator → List ℕ → ℕ → Type 0
+ServesBelow operators numbers n =
+    (k : ℕ)
+    → k < length operators
+    → All (λ x. number_at numbers x < n) (operator_at operators k).pre
+    → All
+    (λ y. AtMost (value_at numbers y) (capped (cost_by (value_at numbers) (operator_at operators k))))
+    (operator_at operators k).add
+
+-- some facts have numbers of at most a bound, below which operators are served
+pub record AreSettled (operators : List Operator) (numbers : List ℕ) (facts : List ℕ) : Type 0 where
+  pub bound : ℕ
+  pub low : All (λ x. number_at numbers x ≤ bound) facts
+  pub serves : ServesBelow operators numbers bound
+
+-- What a search for some facts finds: the greatest of their values, and where there are none, the values of all facts.
+pub record AreFound (r : RelaxedProblem) (publics privates : Numbers) (wanted numbers : List ℕ) : Type 0 where
+  pub most : greatest (value_at numbers) wanted ≡ greatest (fact_values r.operators (state_of r publics privates)) wanted
+  pub values : length wanted ≡ 0 → AreValues r publics privates numbers

@@ -1,6 +1,6 @@
 //! The search for the values of facts, those of the least cost first (Dijkstra 1959; Knuth 1977).
 
-ghost use Rattle.std.specs.Prelude.{◌≡◌, ℕ, ◌<◌, ◌≤◌, ◌+◌, ◌^◌, [], ◌∷◌, All, Contains, List, length, vec_len, IfOk, OnOk, IsTrue, Some, false};
+ghost use Rattle.std.specs.Prelude.{◌≡◌, ℕ, ◌<◌, ◌≤◌, ◌+◌, ◌^◌, [], ◌∷◌, All, Contains, List, length, vec_len, IfNone, IfOk, OnOk, IsTrue, Some, false, true};
 ghost use Rattle.std.specs.FinSet as set;
 ghost use Rattle.mp_sets.specs.Numbers.{Numbers};
 ghost use Rattle.mp_task.specs.Strips.{Operator};
@@ -8,7 +8,7 @@ ghost use Rattle.mp_estimates.specs.Estimates.{AtMost, Values};
 ghost use Rattle.mp_relaxed.specs.Values.{greatest};
 ghost use Rattle.mp_relaxed.specs.Relaxed.{AreCheaper, HasUsers, operator_at};
 ghost use Rattle.mp_estimates.specs.Lowering.{AreBelow, HaveFallen, IsProper, Key, known, number_at, unknown, value_at};
-ghost use Rattle.mp_relaxed.specs.Search.{AreLow, AreLowered, AreValues, HaveStayed, IsMost, IsOpen, IsServed, count_at};
+ghost use Rattle.mp_relaxed.specs.Search.{AreFound, AreLow, AreLowered, AreSettled, AreValues, HaveStayed, IsMost, IsOpen, IsServed, count_at};
 ghost use Rattle.mp_relaxed.specs.Users.{times};
 
 use crate::queue::Queue;
@@ -272,12 +272,48 @@ fn recount(problem: &Relaxed, counters: &mut Vec<u32>)
     counters.as_mut_slice().copy_from_slice(problem.counts());
 }
 
-/// Settles the fact of least cost that waits, until none does: it is no precondition that is open any more. An entry
-/// whose fact has another number by now is out of date. An operator is relaxed where none of its preconditions is open:
-/// the last one of them that was settled has the greatest value, since numbers in the queue never get less than the
-/// one that was taken last.
+/// The place of the first of some facts that has a number greater than a cost.
+fn first_above(numbers: &[u64], facts: &[u32], cost: u64) -> Option<usize>
+    requires { All (λ x. x < length numbers.now) facts.now }
+    ensures { IfNone result (All (λ x. number_at numbers.now x ≤ cost) facts.now) }
+{
+    for at in 0..facts.len() {
+        if cost < numbers[facts[at] as usize] {
+            return Some(at);
+        }
+    }
+    None
+}
+
+/// Whether there are some facts and all have numbers of at most a cost. The fact at one place is looked at before all
+/// others, and that place is put to a fact with a greater number, so that most calls look at one fact.
+fn are_low(numbers: &[u64], facts: &[u32], cost: u64, at: &mut usize) -> bool
+    requires { All (λ x. x < length numbers.now) facts.now }
+    ensures some { result ≡ true → 0 < length facts.now }
+    ensures low { result ≡ true → All (λ x. number_at numbers.now x ≤ cost) facts.now }
+{
+    if *at >= facts.len() {
+        return false;
+    }
+    if cost < numbers[facts[*at] as usize] {
+        return false;
+    }
+    match first_above(numbers, facts, cost) {
+        Some(next) => {
+            *at = next;
+            false
+        }
+        None => true,
+    }
+}
+
+/// Settles the fact of least cost that waits, until none does, or all of some facts that are wanted are settled, if any
+/// are: it is no precondition that is open any more. An entry whose fact has another number by now is out of date. An
+/// operator is relaxed where none of its preconditions is open: the last one of them that was settled has the greatest
+/// value, since numbers in the queue never get less than the one that was taken last.
 pub(crate) fn settle(
     problem: &Relaxed,
+    wanted: &[u32],
     counters: &mut Vec<u32>,
     numbers: &mut Vec<u64>,
     queue: &mut Queue,
@@ -289,16 +325,22 @@ pub(crate) fn settle(
         → IsServed problem.now.operators numbers.old.items queue.old k }
     requires all_open { (x : ℕ) → IsOpen numbers.old.items queue.old x }
     requires proper { IsProper numbers.old.items queue.old }
+    requires wanted { All (λ x. x < vec_len numbers.old) wanted.now }
     ensures lower { OnOk result ((x : ℕ) → number_at numbers.new.items x ≤ number_at numbers.old.items x) }
-    ensures served { OnOk result ((k : ℕ) → k < length problem.now.operators
+    ensures served { OnOk result (length wanted.now ≡ 0 → (k : ℕ) → k < length problem.now.operators
         → IsServed problem.now.operators numbers.new.items [] k) }
+    ensures settled { OnOk result (AreSettled problem.now.operators numbers.new.items wanted.now) }
     ensures below { OnOk result ((values : Values) → AreLow problem.now.operators values
         → AreBelow values numbers.old.items → AreBelow values numbers.new.items) }
     ensures counted { vec_len counters.new ≡ vec_len counters.old }
     ensures len { vec_len numbers.new ≡ vec_len numbers.old }
 {
     recount(problem, counters);
+    let mut at = 0;
     'pops: while let Some((cost, x)) = queue.pop() {
+        if are_low(numbers.as_slice(), wanted, cost, &mut at) {
+            return Ok(());
+        }
         if cost == numbers[x as usize] {
             count_down_all(problem, problem.users(x), cost, counters, numbers, queue)?;
         }
@@ -378,11 +420,13 @@ fn begin(
     Ok(())
 }
 
-/// Finds the values of all facts for a state.
+/// Finds the values of some facts for a state, and of those that cost no more than the dearest of them; where none are
+/// wanted, the values of all facts.
 pub(crate) fn find_values(
     problem: &Relaxed,
     publics: &Bits,
     privates: &Bits,
+    wanted: &[u32],
     counters: &mut Vec<u32>,
     numbers: &mut Vec<u64>,
     queue: &mut Queue,
@@ -391,7 +435,8 @@ pub(crate) fn find_values(
     requires sized { vec_len numbers.old ≡ problem.now.facts }
     requires publics { publics.now.size ≡ problem.now.publics }
     requires privates { problem.now.publics + privates.now.size ≡ problem.now.facts }
-    ensures values { OnOk result (AreValues problem.now publics.now.members privates.now.members
+    requires wanted { All (λ x. x < problem.now.facts) wanted.now }
+    ensures found { OnOk result (AreFound problem.now publics.now.members privates.now.members wanted.now
         numbers.new.items) }
     ensures counted { vec_len counters.new ≡ vec_len counters.old }
     ensures len { vec_len numbers.new ≡ vec_len numbers.old }
@@ -399,7 +444,7 @@ pub(crate) fn find_values(
     let _ = problem.operators();
     let _ = problem.facts();
     begin(problem, publics, privates, numbers, queue)?;
-    settle(problem, counters, numbers, queue)?;
+    settle(problem, wanted, counters, numbers, queue)?;
     Ok(())
 }
 

@@ -4,9 +4,9 @@ ghost use Rattle.std.specs.Prelude.{◌≡◌, ◌<◌, ◌+◌, All, List, leng
 ghost use Rattle.mp_sets.specs.Numbers.{Numbers};
 ghost use Rattle.mp_task.specs.Strips.{Operator};
 ghost use Rattle.mp_estimates.specs.Lowering.{value_at};
-ghost use Rattle.mp_relaxed.specs.Relaxed.{AreCheaper};
+ghost use Rattle.mp_relaxed.specs.Relaxed.{AreCheaper, state_of};
 ghost use Rattle.mp_relaxed.specs.Search.{AreValues};
-ghost use Rattle.mp_relaxed.specs.Values.{greatest};
+ghost use Rattle.mp_relaxed.specs.Values.{fact_values, greatest};
 
 use crate::queue::Queue;
 use crate::relaxed::Relaxed;
@@ -69,10 +69,44 @@ impl Search {
             problem,
             publics,
             privates,
+            &[],
             &mut self.counters,
             &mut self.numbers,
             &mut self.queue,
         )
+    }
+
+    /// Finds the greatest value of some facts for a state of the problem: 0 without any, and none where one of them has
+    /// none. It leaves facts aside that cost more than these, so the numbers that it leaves are not the values of all facts.
+    /// Refuses only for want of memory.
+    pub fn find_greatest(
+        &mut self,
+        problem: &Relaxed,
+        publics: &Bits,
+        privates: &Bits,
+        facts: &[u32],
+    ) -> Result<Option<u64>, OutOfMemory>
+        requires operators { self.old.operators ≡ length problem.now.operators }
+        requires facts { length self.old.numbers ≡ problem.now.facts }
+        requires publics { publics.now.size ≡ problem.now.publics }
+        requires privates { problem.now.publics + privates.now.size ≡ problem.now.facts }
+        requires within { All (λ x. x < problem.now.facts) facts.now }
+        ensures value { IfOk result (λ found. found ≡ greatest
+            (fact_values problem.now.operators (state_of problem.now publics.now.members privates.now.members))
+            facts.now) }
+        ensures operators { self.new.operators ≡ self.old.operators }
+        ensures facts { length self.new.numbers ≡ length self.old.numbers }
+    {
+        find_values(
+            problem,
+            publics,
+            privates,
+            facts,
+            &mut self.counters,
+            &mut self.numbers,
+            &mut self.queue,
+        )?;
+        Ok(self.greatest(facts))
     }
 
     /// Finds the values of all facts again for the same state, where some operators got cheaper since they were found. Refuses

@@ -9,7 +9,7 @@ pub returns-clause-found : goal.returns-clause-found
 returns-clause-found c = λ t e.
     let p = c.args.publics.now.members in
     let q = c.args.privates.now.members in
-    c.greatest.ensures
-    ∙ (λ i. greatest (λ x. c.in_ok-find.ensures.values x i) (c.goals.ensures.value i))
+    c.in_ok-found.ensures.value
+    ∙ ap (greatest (fact_values c.args.problem.now.operators (state_of c.args.problem.now p q))) c.goals.ensures.value
     ∙ ap (λ (r : RelaxedProblem). greatest (fact_values r.operators (state_of r p q)) r.goals) e
     ∙ (λ i. greatest (λ x. values-without_deletes (projected t).operators (projected_state t p q) x i) (projected t).goals)

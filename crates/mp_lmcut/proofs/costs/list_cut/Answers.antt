@@ -1,4 +1,4 @@
-use Rattle.std.proofs.Common.{◌≡◌, ◌<◌, [], true, get_or, below_more, sym, ◌∙◌, subst, arith}
+use Rattle.std.proofs.Common.{[], get_or, below_more, sym, ◌∙◌, subst, arith}
 use Rattle.mp_estimates.specs.Lowering.{value_at}
 use Rattle.mp_lmcut.specs.Cut.{in_cut}
 use Rattle.mp_lmcut.specs.Sides.{AreListed, AreNoted, AreValuesFor}

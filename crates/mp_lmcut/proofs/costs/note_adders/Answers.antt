@@ -1,11 +1,10 @@
 use Rattle.std.proofs.Common.{◌≡◌, ◌≤◌, ◌<◌, [], true, All, Contains, get_or, length, ◌∙◌, subst, sym, arith}
 use Rattle.std.proofs.lemmas.List.{get_or_default}
 use Rattle.std.proofs.lemmas.List.Elements.{Contains-get_or}
-use Rattle.std.specs.List.{list_any}
 use Rattle.mp_estimates.specs.Lowering.{value_at}
 use Rattle.mp_relaxed.specs.Relaxed.{HasAdders, operator_at}
 use Rattle.mp_relaxed.specs.Users.{times}
-use Rattle.mp_lmcut.specs.Cut.{in_cut, in_zone}
+use Rattle.mp_lmcut.specs.Cut.{in_cut}
 use Rattle.mp_lmcut.proofs.ListedLemmas.{adders_enter}
 use Rattle.mp_lmcut.proofs.ZoneLemmas.{at_times, times_any}
 use Rattle.mp_lmcut.proofs.costs.note_adders.Goals as goal

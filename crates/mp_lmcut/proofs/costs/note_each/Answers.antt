@@ -1,4 +1,4 @@
-use Rattle.std.proofs.Common.{◌≡◌, ◌<◌, true, Contains, get_or, below_more, arith}
+use Rattle.std.proofs.Common.{◌≡◌, true, Contains, get_or, below_more, arith}
 use Rattle.mp_estimates.specs.Lowering.{value_at}
 use Rattle.mp_relaxed.specs.Relaxed.{operator_at}
 use Rattle.mp_relaxed.proofs.TimesLemmas.{times_contained}

@@ -27,6 +27,25 @@ facts-init c =
           (reaching_none Such Follows (traces_kept v c.args.most os zone) c.begin.new.self c.in_ok-begin.ensures.none c.in_ok-begin.ensures.todo);
     }
 
+pub has-requires : goal.has-requires
+has-requires c =
+    let v = value_at c.args.numbers.now in
+    let os = c.args.problem.now.operators in
+    let zone = c.args.zone.now.flags in
+    let inside = marked_below c.facts.asked.flags c.in-Some.y
+    (popped_marked (IsBack v os c.args.problem.now.goals zone c.args.most c.args.x) (TracesBack v c.args.most os zone) (traces_kept v c.args.most os zone) c.facts.asked c.next.new.self c.next.new.self c.in-Some.y c.in-Some.ensures.flags c.in-Some.ensures.some c.facts.invariant.reaching) in
+    omega (arith, c.facts.invariant.len, c.requires.near)
+
+pub returns-then-has : goal.returns-then-has
+returns-then-has c = λ s h.
+    let v = value_at c.args.numbers.now in
+    let os = c.args.problem.now.operators in
+    let goals = c.args.problem.now.goals in
+    let zone = c.args.zone.now.flags in
+    let Such = IsBack v os goals zone c.args.most c.args.x in
+    let marked = popped_marked Such (TracesBack v c.args.most os zone) (traces_kept v c.args.most os zone) c.facts.asked c.next.new.self c.next.new.self c.in-Some.y c.in-Some.ensures.flags c.in-Some.ensures.some c.facts.invariant.reaching in
+    sym ((c.facts.invariant.reaching.sound c.in-Some.y marked).leads s (c.requires.marks s h c.in-Some.y (sym c.has.ensures ∙ c.if-has.true)))
+
 pub bounds-adders-y : goal.bounds-adders-y
 bounds-adders-y c =
     let v = value_at c.args.numbers.now in

@@ -5,7 +5,7 @@ use Rattle.mp_relaxed.specs.Relaxed.{HasAdders}
 use Rattle.mp_estimates.specs.Lowering.{value_at}
 use Rattle.mp_lmcut.specs.Cut.{in_zone}
 use Rattle.mp_lmcut.specs.Marked.{is_marked}
-use Rattle.mp_lmcut.specs.Sides.{IsFollowed, TurnsBack}
+use Rattle.mp_lmcut.specs.Sides.{IsFollowed}
 use Rattle.mp_lmcut.proofs.MarkLemmas.{marked_below, popped_marked, reached_all, reaching_step, reaching_wider}
 use Rattle.mp_lmcut.proofs.ZoneLemmas.{followed_kept}
 use Rattle.mp_lmcut.proofs.zone.spread.Goals as goal

@@ -18,8 +18,6 @@ returns-clause-values c = λ before p q cheaper values.
     let s = state_of c.args.problem.now p q in
     let old = c.args.numbers.now.items in
     found os s c.settle_again.new.numbers.items c.operators.ensures.few c.operators.ensures.cheap
-    (c.in_ok-settle_again.ensures.served
-    (again_served before os c.args.cheaper.now cheaper s old values c.clear.new.self c.relax_each.new.numbers.items c.relax_each.new.queue c.in_ok-relax_each.ensures.fallen c.in_ok-relax_each.ensures.served))
     (λ x member.
     let first = again_zero before os c.args.cheaper.now cheaper s old values x member in
     let one = c.in_ok-relax_each.ensures.fallen.lower x in
@@ -29,3 +27,5 @@ returns-clause-values c = λ before p q cheaper values.
     c.in_ok-settle_again.ensures.below w low
     (c.in_ok-relax_each.ensures.below w low
     (again_below before os c.args.cheaper.now cheaper s old values w low zero)))
+    (c.in_ok-settle_again.ensures.served
+    (again_served before os c.args.cheaper.now cheaper s old values c.clear.new.self c.relax_each.new.numbers.items c.relax_each.new.queue c.in_ok-relax_each.ensures.fallen c.in_ok-relax_each.ensures.served))

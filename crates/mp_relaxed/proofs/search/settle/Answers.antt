@@ -1,11 +1,11 @@
-use Rattle.std.proofs.Common.{◌≡◌, ◌<◌, ◌∷◌, length, ap, refl, sym, ◌∙◌, arith, vec_len}
+use Rattle.std.proofs.Common.{◌≡◌, ◌<◌, ◌≤◌, ◌∷◌, All, length, ap, refl, subst, sym, ◌∙◌, arith, vec_len}
 use Rattle.std.proofs.lemmas.List.{get_or_default}
 use Rattle.std.proofs.lemmas.List.Elements.{All-head, All-tail}
 use Rattle.std.proofs.lemmas.List.Sorted.{All-permutation, length_permutation}
 use Rattle.std.specs.List.Sorted.{IsPermutation}
 use Rattle.mp_estimates.specs.Lowering.{Key, key, number_at, unknown}
 use Rattle.mp_relaxed.specs.Search.{AreFrom}
-use Rattle.mp_relaxed.proofs.CountLemmas.{all_settled, counts_begin, counts_stale, counts_settled, served_settled}
+use Rattle.mp_relaxed.proofs.CountLemmas.{all_settled, counts_begin, counts_stale, counts_settled, served_settled, serves_before, settled_all}
 use Rattle.mp_estimates.proofs.ProperLemmas.{proper_popped}
 use Rattle.mp_relaxed.proofs.SearchLemmas.{served_popped}
 use Rattle.mp_relaxed.proofs.SettledLemmas.{reached, unsettled_begin, unsettled_settled, unsettled_stale}
@@ -97,8 +97,33 @@ pops-preserved-in-Continue-1 c =
     }
 
 pub returns-clause-served : goal.returns-clause-served
-returns-clause-served c =
+returns-clause-served c = λ _.
     all_settled c.args.problem.now.operators c.pops.numbers.items c.pops.queue c.pops.counters.items (ap length c.in_default.ensures.none) c.pops.invariant.served c.pops.invariant.counts
+
+pub returns-clause-settled : goal.returns-clause-settled
+returns-clause-settled c =
+    settled_all c.args.problem.now.operators c.pops.numbers.items c.args.wanted.now
+    (all_settled c.args.problem.now.operators c.pops.numbers.items c.pops.queue c.pops.counters.items (ap length c.in_default.ensures.none) c.pops.invariant.served c.pops.invariant.counts)
+
+pub are_low-requires : goal.are_low-requires
+are_low-requires c = λ i d lt.
+    let within = c.requires.wanted i d lt in
+    let same = c.pops.invariant.len in
+    omega (arith, within, same)
+
+pub returns-then-are_low-clause-served : goal.returns-then-are_low-clause-served
+returns-then-are_low-clause-served c = λ none.
+    let some = c.are_low.ensures.some c.if-are_low.true in
+    absurd (omega (arith, none, some))
+
+pub returns-then-are_low-clause-settled : goal.returns-then-are_low-clause-settled
+returns-then-are_low-clause-settled c = record {
+  bound = c.in-Some.cost;
+  low = subst (λ l. All (λ x. number_at l x ≤ c.in-Some.cost) c.args.wanted.now) c.as_slice.ensures.value (c.are_low.ensures.low c.if-are_low.true);
+  serves =
+      serves_before c.args.problem.now.operators c.pops.numbers.items c.pops.queue c.pops.counters.items c.in-Some.cost
+      c.in-Some.ensures.least c.pops.invariant.served c.pops.invariant.counts;
+}
 
 pub index-requires : goal.index-requires
 index-requires c =

@@ -1,5 +1,5 @@
 use Rattle.std.proofs.Common.{◌≤◌, All, sym, ◌∙◌, subst}
-use Rattle.std.proofs.lemmas.List.Elements.{All-map}
+use Rattle.std.proofs.lemmas.List.Elements.{All-map, All-nil}
 use Rattle.mp_task.specs.Strips.{Operator}
 use Rattle.mp_lmcut.specs.Memo.{IsRight, lmcut_in}
 use Rattle.mp_lmcut.specs.Sides.{repriced}
@@ -22,5 +22,5 @@ pub returns : goal.returns
 returns c = (repriced_own _ _ c.in_ok-costs.ensures ∙ c.in_ok-problem.ensures.made, c.in_ok-problem.ensures.limits)
 
 pub invariant_of-result-clause-right : goal.invariant_of-result-clause-right
-invariant_of-result-clause-right c = λ k d lt.
-    subst (IsRight (lmcut_in (repriced c.in_ok-costs.costs.items c.in_ok-problem.problem))) (sym (c.in_ok-memo.ensures.none k d lt)) tt
+invariant_of-result-clause-right c =
+    subst (All (IsRight (lmcut_in (repriced c.in_ok-costs.costs.items c.in_ok-problem.problem)))) (sym c.in_ok-memo.ensures.none) (All-nil _)

@@ -29,8 +29,8 @@ returns-clause-kept c = λ t h.
 
 pub invariant_of-self-clause-right : goal.invariant_of-self-clause-right
 invariant_of-self-clause-right c =
-    let kept = subst (λ costs. All (IsRight (lmcut_in (repriced costs c.args.self.now.problem))) c.recall_or_estimate.new.memo.items) c.as_slice.ensures.value c.recall_or_estimate.ensures.right in
-    subst (λ (r : RelaxedProblem). All (IsRight (lmcut_in r)) c.recall_or_estimate.new.memo.items)
+    let kept = subst (λ costs. All (IsRight (lmcut_in (repriced costs c.args.self.now.problem))) c.recall_or_estimate.new.memo.slots.items) c.as_slice.ensures.value c.recall_or_estimate.ensures.right in
+    subst (λ (r : RelaxedProblem). All (IsRight (lmcut_in r)) c.recall_or_estimate.new.memo.slots.items)
     (sym (same_priced c.recall_or_estimate.new.problem c.args.self.now.problem c.recall_or_estimate.ensures.kept c.args.self.now.costs.items))
     kept
 
