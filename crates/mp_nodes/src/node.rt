@@ -23,6 +23,8 @@ pub struct Node<H: Heuristic> {
     /// For each agent how many messages its post had counted when none waited there for this one; at first a number that is
     /// none yet, so that each post is looked at once.
     pub(crate) counts: [u64; AGENTS],
+    /// How many times it passed over a post at which it knew of no message; at 256 it begins anew.
+    pub(crate) passed_over: u8,
 }
 
 impl<H: Heuristic> Drop for Node<H> {
@@ -33,6 +35,7 @@ impl<H: Heuristic> Drop for Node<H> {
             machine: _,
             batch: _,
             counts: _,
+            passed_over: _,
         } = self;
     }
 }
@@ -75,6 +78,7 @@ impl<H: Heuristic> Node<H> {
             machine,
             batch: Batch::new(alloc),
             counts: [u64::MAX; AGENTS],
+            passed_over: 0,
         }
     }
 
@@ -88,6 +92,7 @@ impl<H: Heuristic> Node<H> {
             machine,
             batch: _,
             counts: _,
+            passed_over: _,
         } = self;
         machine
     }

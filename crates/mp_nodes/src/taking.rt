@@ -35,9 +35,16 @@ fn place(agent: Agent) -> usize
 }
 
 impl<H: Heuristic> Node<H> {
-    /// Whether an agent's post has counted no message since none waited there for this node.
-    fn knows_of_none(&self, agent: Agent, count: u64) -> bool {
-        self.counts[place(agent)] == count
+    /// Whether it passes over an agent's post, since that has counted no message since none waited there for this node. Halting
+    /// somebody is not counted: so that a node which waits comes to see it, it passes over no more than 255 in turn.
+    fn passes_over(&mut self, agent: Agent, count: u64) -> bool
+        ensures { self.new ≡ self.old }
+    {
+        if self.counts[place(agent)] != count {
+            return false;
+        }
+        self.passed_over = self.passed_over.wrapping_add(1);
+        self.passed_over != 0
     }
 
     /// No message waited at an agent's post when it had counted so many.
@@ -65,7 +72,7 @@ impl<H: Heuristic> Node<H> {
     }
 
     /// Takes the oldest message of another agent, if there is one: whether there was. Where nothing was put or taken at that
-    /// agent's post since none waited, it takes no turn.
+    /// agent's post since none waited, it takes no turn, but for one in 256 times.
     fn take_one<R: Wait, G: Gate>(
         &mut self,
         rt: &R,
@@ -80,7 +87,7 @@ impl<H: Heuristic> Node<H> {
         ensures { GoesOn H.value posts.now.shared.table_id posts.now.shared.key self.old desk.old result self.new desk.new }
     {
         let count = count_at(posts, from);
-        if self.knows_of_none(from, count) || !self.machine.can(&Local::Take(from)) {
+        if self.passes_over(from, count) || !self.machine.can(&Local::Take(from)) {
             return Ok(false);
         }
         gate.pass(self.me, Kind3::Take);
