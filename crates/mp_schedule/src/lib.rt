@@ -5,6 +5,7 @@
 mod found;
 mod laws;
 mod mail;
+mod memory;
 mod refusal;
 mod rounds;
 mod steps;

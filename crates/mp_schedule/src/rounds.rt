@@ -6,8 +6,9 @@ ghost use Rattle.mp_machine.specs.Outgoing.{others};
 ghost use Rattle.mp_schedule.specs.GoingOn.{HappensIf, TakesAll};
 ghost use Rattle.mp_schedule.specs.Happening.{IsOfTeam};
 ghost use Rattle.mp_schedule.specs.Laws.{KeepsLaws};
-ghost use Rattle.mp_schedule.specs.TeamRun.{HasDone, IsSameTeam};
+ghost use Rattle.mp_schedule.specs.TeamRun.{HasDone, IsRun};
 ghost use Rattle.mp_search.specs.Concern.{one_if};
+ghost use Rattle.mp_team_rounds.specs.Going.{TakesFewRounds};
 ghost use Rattle.mp_world.specs.RoundRobin.{ForEach, IfItMay, IsRoundRobin, Round, Rounds, StartsIfFirst, Then, Turn};
 
 use crate::laws::runs_keep_laws;
@@ -17,6 +18,7 @@ use mp_list::OutOfMemory;
 use mp_messages::Event;
 use mp_sets::Agent;
 use mp_task::Heuristic;
+use mp_team_rounds::{round_robin_takes_few_rounds, rounds_do_something, snapshots_are_events};
 
 /// Whether it is agent 1.
 fn is_first(agent: Agent) -> bool
@@ -164,40 +166,59 @@ impl<H: Heuristic> World<H> {
         Ok(())
     }
 
-    /// Rounds are repeated until all agents have ended.
+    /// What has happened has led to where it is.
+    fn has_run(&self)
+        requires works { self.now.failed ≡ false }
+        ensures { IsRun H.value self.now }
+    {
+        self.comes_from_a_run();
+    }
+
+    /// Rounds are repeated until all agents have ended. Each of them does something, so that there are more events in the
+    /// log, and the log is in memory.
     fn rounds(&mut self, agents: u16) -> Result<(), OutOfMemory>
         requires agents { agents ≡ length self.old.tasks }
         requires at_most { agents ≤ 16 }
+        requires works { self.old.failed ≡ false }
         ensures done { OnOk result (HasDone (Rounds H.value agents) self.old self.new) }
         ensures failed { OnErr result (self.new.failed ≡ true) }
     {
-        for _ in 0..u64::MAX {
+        rounds_do_something();
+        snapshots_are_events();
+        'rounds: loop {
+            self.comes_from_a_run();
+            self.has_few_events();
             if self.over() {
                 return Ok(());
             }
             self.round(agents)?;
         }
-        self.fail();
-        Err(OutOfMemory)
     }
 
     /// The agents take turns until all have ended: each takes what there is from each other one, by rising number, then
     /// expands once if it may, and then agent 1 starts a snapshot if it may.
     ///
-    /// It refuses only for want of memory, and after that each call does. The number of rounds is bounded: after
-    /// 2^64 - 1 of them it answers want of memory. The run keeps the laws of runs.
+    /// It refuses only for want of memory, and after that each call does. It always ends, after fewer than 2^51 rounds: each
+    /// agent expands only so many entries, each round takes all messages that there are, and while the team is not over
+    /// something happens. The run keeps the laws of runs.
     pub fn round_robin(&mut self) -> Result<(), OutOfMemory>
         ensures again { self.old.failed ≡ true → IsErr result }
         ensures done { OnOk result (HasDone (IsRoundRobin H.value) self.old self.new) }
         ensures failed { OnErr result (self.new.failed ≡ true) }
         ensures laws { OnOk result (KeepsLaws H.value self.new) }
+        ensures few { OnOk result
+            (TakesFewRounds H.value (length self.old.tasks) self.old.world self.new.world) }
     {
         runs_keep_laws::<H>();
+        round_robin_takes_few_rounds();
+        snapshots_are_events();
         if self.has_failed() {
             return Err(OutOfMemory);
         }
-        let agents = self.agents();
-        self.rounds(agents)?;
+        self.has_run();
+        let count = self.agents();
+        self.rounds(count)?;
+        self.has_few_events();
         self.comes_from_a_run();
         Ok(())
     }

@@ -1,18 +1,19 @@
 //! A team that runs on one thread.
 
-ghost use Rattle.std.specs.Prelude.{◌≡◌, ◌≤◌, ℕ, length, map, not, true, false, All, IfOk, OnOk};
+ghost use Rattle.std.specs.Prelude.{◌≡◌, ◌≤◌, ◌<◌, ◌^◌, ℕ, length, map, not, true, false, All, IfOk, OnOk};
 ghost use Rattle.std.specs.List.{list_all};
 ghost use Rattle.mp_machine.specs.AgentRecord.{is_going};
 ghost use Rattle.mp_messages.specs.declared.history.Event.TheVariants as events;
 ghost use Rattle.mp_schedule.specs.Happening.{IsAnswer, IsOfTeam};
 ghost use Rattle.mp_schedule.specs.Laws.{KeepsLaws};
 ghost use Rattle.mp_schedule.specs.Machines.{AreNew, IsFree, limit_of, tasks_of};
-ghost use Rattle.mp_schedule.specs.TeamRun.{IsRun, IsSameTeam, IsTeam, start_run};
+ghost use Rattle.mp_schedule.specs.TeamRun.{IsRun, IsTeam, start_run};
 ghost use Rattle.mp_team_explored.specs.Expansions.{ExpandsOne};
 ghost use Rattle.mp_world.specs.RoundRobin.{is_over};
 
 use crate::laws::runs_keep_laws;
 use crate::mail::Mail;
+use crate::memory::is_in_memory;
 use crate::refusal::EventRefusal;
 use crate::steps::{happen, refusal_of};
 use mp_list::OutOfMemory;
@@ -179,12 +180,11 @@ impl<H: Heuristic> World<H> {
         self.failed
     }
 
-    /// From now on it refuses each call for want of memory.
-    pub(crate) fn fail(&mut self)
-        ensures failed { self.new.failed ≡ true }
-        ensures same { IsSameTeam self.old self.new }
+    /// There are fewer events than a log in memory has room for.
+    pub(crate) fn has_few_events(&self)
+        ensures { length self.now.schedule < 2 ^ 58 }
     {
-        self.failed = true;
+        is_in_memory(&self.log);
     }
 
     /// The tasks agree and are within the limits. Unless memory ran out, the world is the one that the schedule leads

@@ -1,5 +1,5 @@
 -- Rounds of round robin of a team that is not over.
-use Rattle.std.specs.Prelude.{◌≡◌, ℕ, zero, suc, false, List, Option}
+use Rattle.std.specs.Prelude.{◌≡◌, ◌<◌, ◌^◌, ℕ, zero, suc, false, List, Option}
 use Rattle.mp_sets.specs.Numbers.{Numbers}
 use Rattle.mp_task.specs.AgentTask.{AgentTask}
 use Rattle.mp_messages.specs.declared.history.Event.{Event}
@@ -17,3 +17,9 @@ module _ (value : AgentTask → Numbers → Numbers → Option ℕ) (agents : �
   abbrev pub AreGoingRounds : ℕ → World → World → Type 0
   AreGoingRounds zero w last = last ≡ w
   AreGoingRounds (suc rounds) w last = (next : World) × IsGoingRound w next × AreGoingRounds rounds next last
+
+  -- from a world to the last one in few such rounds
+  pub record TakesFewRounds (w last : World) : Type 0 where
+    pub rounds : ℕ
+    pub few : rounds < 2 ^ 51
+    pub goes : AreGoingRounds rounds w last
