@@ -9,7 +9,7 @@ mod replaying;
 mod solving;
 mod telling;
 
-pub use machines::{are_within_limits, machines_of};
+pub use machines::{are_within_limits, ended, machines_of};
 pub use mp_solutions::Solution;
 pub use refusal::ReplayRefusal;
 pub use replaying::replay;

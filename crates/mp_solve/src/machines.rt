@@ -82,8 +82,9 @@ pub(crate) fn begun<H: Heuristic>(
     Ok(world)
 }
 
-/// The agents with these tasks take turns until all have ended. Refuses only for want of memory.
-pub(crate) fn ended<H: Heuristic>(
+/// The agents with these tasks, 1 to 16 that agree, take turns until all have ended. Each may expand `limit` entries, from 1 to
+/// 10,000,000. Refuses only for want of memory.
+pub fn ended<H: Heuristic>(
     alloc: Global,
     tasks: TaskList,
     limit: u64,

@@ -19,6 +19,21 @@ module _ (file : FileAsked) (own names : List Two) (same : own ≡ names) where
   pub first_alone : (old new : Option (List Act)) → Does (IsReadOnce file) old new → Does (AreReadInTurn (file ∷ team_asked names)) old new
   first_alone old new first = first_read file (team_asked names) old new first
 
+  -- the first of two first files, and none of the others
+  pub one_of_two : (second : FileAsked) (old new : Option (List Act)) → Does (IsReadOnce file) old new → Does (AreReadInTurn (file ∷ second ∷ team_asked names)) old new
+  one_of_two second old new first = first_read file (second ∷ team_asked names) old new first
+
+  -- both, and none of those of the agents
+  pub two_alone : (second : FileAsked) (old mid new : Option (List Act)) → Does (IsReadOnce file) old mid → Does (IsReadOnce second) mid new → Does (AreReadInTurn (file ∷ second ∷ team_asked names)) old new
+  two_alone second old mid new first other =
+      then_read file (second ∷ team_asked names) old mid new first (first_read second (team_asked names) mid new other)
+
+  -- both, and then those of the agents
+  pub two_and_agents : (second : FileAsked) (old mid after new : Option (List Act)) → Does (IsReadOnce file) old mid → Does (IsReadOnce second) mid after → Does (AreReadInTurn (team_asked own)) after new → Does (AreReadInTurn (file ∷ second ∷ team_asked names)) old new
+  two_and_agents second old mid after new first other agents =
+      then_read file (second ∷ team_asked names) old mid new first
+      (then_read second (team_asked names) mid after new other (agents_read own names after new same agents))
+
   -- a first file, and then those of the agents
   pub first_and_agents : (old mid new : Option (List Act)) → Does (IsReadOnce file) old mid → Does (AreReadInTurn (team_asked own)) mid new → Does (AreReadInTurn (file ∷ team_asked names)) old new
   first_and_agents old mid new first agents = then_read file (team_asked names) old mid new first (agents_read own names mid new same agents)

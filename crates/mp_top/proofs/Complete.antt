@@ -1,6 +1,6 @@
 -- Where nothing of the files is refused and no fault was counted, a call answers.
-use Rattle.std.proofs.Common.{◌≡◌, ◌<◌, ◌≤◌, inl, inr, Option, Some, None, Err, MatchOption, refl, subst, arith, ◌∙◌}
-use Rattle.std.specs.Prelude.{IsSomeAnd}
+use Rattle.std.proofs.Common.{◌≡◌, ◌<◌, ◌≤◌, inl, inr, ℕ, take, Option, Some, None, Err, MatchOption, refl, subst, arith, ◌∙◌}
+use Rattle.std.specs.Prelude.{IsSomeAnd, slice_get}
 use Rattle.mp_files.specs.Cause.{SeenSource}
 use Rattle.mp_files.specs.Team.{ReadsTeam}
 use Rattle.mp_files.specs.declared.refusal.FileOf.{FileOf}
@@ -15,7 +15,7 @@ use Rattle.mp_top.specs.Call.{Call}
 use Rattle.mp_top.specs.Cause.{CannotReadFactor, CannotReadFirst, CannotReadTexts, Rests}
 use Rattle.mp_top.specs.Complete.{HadNoFault, IsAnswered, IsNotRefused}
 use Rattle.mp_top.specs.First.{ComesFirst}
-use Rattle.mp_top.specs.FirstText.{HasFirstText}
+use Rattle.mp_top.specs.FirstText.{HaveTexts}
 use Rattle.mp_top.specs.Keeps.{IsLineFor, Keeps}
 use Rattle.mp_top.specs.Refusal.{status_of}
 use Rattle.mp_top.specs.Team.{IsTextRefused}
@@ -29,18 +29,20 @@ module _ (source : SeenSource) (held : Held) (request : TeamRequest) (tells : so
   not_first : (r : Refusal) → ComesFirst source.held request r → ⊥
   not_first r comes = none r (subst (λ h. ComesFirst h request r) tells comes)
 
-  absent : (file : FileAsked) → request.first ≡ Some file → IsSomeAnd source.held (λ files. files file.name ≡ None) → ⊥
-  absent file asked lacks =
-      none (First first.Read) (record {
+  absent : (place : ℕ) (file : FileAsked) → slice_get request.first place ≡ Some file → HaveTexts source.held (take place request.first)
+      → IsSomeAnd source.held (λ files. files file.name ≡ None) → ⊥
+  absent place file asked before lacks =
+      none (First place first.Read) (record {
         file = file;
         asked = asked;
+        before = subst (λ h. HaveTexts h (take place request.first)) tells before;
         absent = subst (λ h. IsSomeAnd h (λ files. files file.name ≡ None)) tells lacks;
       })
 
-  first_read : CannotReadFirst source request → ⊥
-  first_read cannot =
+  first_read : (place : ℕ) → CannotReadFirst source request place → ⊥
+  first_read place cannot =
       elim cannot.because [
-        | inl lacks ↦ absent cannot.file cannot.asked lacks
+        | inl lacks ↦ absent place cannot.file cannot.asked cannot.before lacks
         | inr fault ↦ absurd (omega (arith, fault.0, calm))
       ]
 
@@ -55,7 +57,7 @@ module _ (source : SeenSource) (held : Held) (request : TeamRequest) (tells : so
   factor_read : (at : FileOf) → CannotReadFactor source request at → ⊥
   factor_read at cannot =
       none (Files (why.Read at)) (record {
-        first_text = subst (λ h. HasFirstText h request.first) tells cannot.first_text;
+        first_texts = subst (λ h. HaveTexts h request.first) tells cannot.first_texts;
         first = texts_read request.texts at cannot.cannot;
       })
 
@@ -69,9 +71,9 @@ module _ (source : SeenSource) (held : Held) (request : TeamRequest) (tells : so
   memory_alone (Sizes (sizes.TooManyActions agent number)) rests = absurd (not_first (Sizes (sizes.TooManyActions agent number)) rests)
   memory_alone (Sizes (sizes.TooManyFacts agent number)) rests = absurd (not_first (Sizes (sizes.TooManyFacts agent number)) rests)
   memory_alone (Sizes sizes.OutOfMemory) rests = refl
-  memory_alone (First first.Read) rests = absurd (first_read rests)
-  memory_alone (First first.TooLarge) rests = absurd (not_first (First first.TooLarge) rests)
-  memory_alone (First (first.Line number)) rests = absurd (not_first (First (first.Line number)) rests)
+  memory_alone (First place first.Read) rests = absurd (first_read place rests)
+  memory_alone (First place first.TooLarge) rests = absurd (not_first (First place first.TooLarge) rests)
+  memory_alone (First place (first.Line number)) rests = absurd (not_first (First place (first.Line number)) rests)
 
 of_some : {A : Type 0} (o : Option A) (x : A) (N : Type 0) (S : A → Type 0) → o ≡ Some x → MatchOption o N S → S x
 of_some None x N S is m = absurd (cc)

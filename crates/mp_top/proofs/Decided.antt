@@ -1,5 +1,5 @@
 -- From a decision on a team to what the texts of a request lead to.
-use Rattle.std.proofs.Common.{◌≡◌, ℕ, Bool, true, List, length, map, Option, Some, None, Result, Ok, Err, All, IfOk, IfErr, IfSome, refl, sym, subst, ap, ◌∙◌}
+use Rattle.std.proofs.Common.{◌≡◌, ℕ, Bool, true, List, [], ◌∷◌, length, map, Option, Result, Ok, Err, All, IfOk, IfErr, IfSome, refl, sym, subst, ap, ◌∙◌}
 use Rattle.std.proofs.lemmas.List.{length-map}
 use Rattle.mp_factor.specs.declared.factor.Factor.{Factor}
 use Rattle.mp_joint.specs.Fact.{Text}
@@ -12,6 +12,11 @@ use Rattle.mp_ground.specs.declared.refusal.GroundRefusal.{GroundRefusal}
 use Rattle.mp_ground.specs.declared.refusal.GroundRefusal.TheVariants.{TooManyTries, TooManyActions, TooManyFacts, OutOfMemory}
 use Rattle.mp_grounder.specs.Checked.{IsChecked}
 use Rattle.mp_maker.specs.Delivery.{delivery}
+use Rattle.mp_optimality.specs.Audits.{IsRefusedAudit}
+use Rattle.mp_optimality.specs.Certified.{IsCertified}
+use Rattle.mp_optimality.specs.declared.certifying.Certified.{Certified}
+use Rattle.mp_optimality.specs.declared.refusal.AuditRefusal.{AuditRefusal}
+use Rattle.mp_optimality.specs.declared.refusal.AuditRefusal.TheVariants as audit
 use Rattle.mp_outside.specs.Acts.{FileAsked}
 use Rattle.mp_outside.specs.Source.{Files as Held}
 use Rattle.mp_solutions.specs.Solution.{IsFoundOn, IsReplayed}
@@ -19,13 +24,13 @@ use Rattle.mp_solutions.specs.declared.solution.Solution.{Solution}
 use Rattle.mp_solve.specs.Refused.{AreWithin, Refuses as ReplayRefuses}
 use Rattle.mp_solve.specs.declared.refusal.ReplayRefusal.{ReplayRefusal}
 use Rattle.mp_solve.specs.declared.refusal.ReplayRefusal.TheVariants as replay
-use Rattle.mp_top.specs.Asked.{TeamRequest, Work, agents_of, longest_plan, longest_schedule, made_texts, names_of_texts, values_of}
+use Rattle.mp_top.specs.Asked.{TeamRequest, Work, agents_of, longest_certificate, longest_plan, longest_schedule, made_texts, names_of_texts, values_of}
 use Rattle.mp_top.specs.Asked.Texts.{in_files, made}
-use Rattle.mp_top.specs.Asked.Work.{checked, replayed, searched}
+use Rattle.mp_top.specs.Asked.Work.{audited, checked, replayed, searched}
 use Rattle.mp_top.specs.Cause.{Rests}
-use Rattle.mp_top.specs.Decided.{ChecksFor, Decides, IsGroundRefused, IsRefusedTeam, IsTold, MakesFor, ReplaysBy, SolvesFor, refusal_of, report_of, told}
+use Rattle.mp_top.specs.Decided.{AuditsFor, CertifiesFor, ChecksFor, Decides, IsGroundRefused, IsRefusedTeam, IsTold, IsToldByCertificate, MakesFor, ReplaysBy, SolvesFor, refusal_of, refusal_of_audit, report_of, told}
 use Rattle.mp_top.specs.First.{IsSizeRefused}
-use Rattle.mp_top.specs.FirstText.{IsFirstText}
+use Rattle.mp_top.specs.FirstText.{AreTextsOf, IsTextOf}
 use Rattle.mp_top.specs.Outcome.{answer_status, printed_text, reported, told_made}
 use Rattle.mp_top.specs.Refusal.{status_of_files}
 use Rattle.mp_top.specs.Team.{IsTeam}
@@ -37,8 +42,8 @@ use Rattle.mp_top.specs.declared.status.Status.TheVariants as status
 use Rattle.mp_top.proofs.Made.{never_read}
 use Rattle.mp_top.proofs.Valid.{told_exactly}
 use Rattle.mp_plan_verdict.specs.Verdict.{verdict}
-use Rattle.mp_words.specs.Requests.{Searching, ToCheck, ToMake, ToReplay, ToSolve}
-use Rattle.mp_words.specs.Requests.Wanted.{checks, makes, replays, solves}
+use Rattle.mp_words.specs.Requests.{Searching, ToAudit, ToCertify, ToCheck, ToMake, ToReplay, ToSolve}
+use Rattle.mp_words.specs.Requests.Wanted.{audits, certifies, checks, makes, replays, solves}
 
 -- through a result
 pub weaker : {X Y : Type 0} (r : Result X Y) (P Q : X → Type 0) → ((x : X) → P x → Q x) → IfOk r P → IfOk r Q
@@ -96,57 +101,65 @@ makes_for s one show texts size team found d within solved is = record {
 
 -- ---- What a refusal rests on.
 
--- a refusal of the files of the agents, where the first file was fetched
-pub files_rest : (source : SeenSource) (file : Option FileAsked) (names : List Two) (work : Work) (text : Option Text) (r : FilesRefusal) → IsFirstText source.held file text → FilesRest source names r → Rests source (record { first = file; texts = in_files names; work = work }) (Files r)
-files_rest source file names work text (files.Read at) is h = record { first_text = (text, is); cannot = h }
-files_rest source file names work text (files.TooLarge at) is h = record { first_text = (text, is); first = h }
-files_rest source file names work text (files.Fault at kind place) is h = record { first_text = (text, is); first = h }
-files_rest source file names work text files.OutOfMemory is h = tt
+-- a refusal of the files of the agents, where the first files were fetched
+pub files_rest : (source : SeenSource) (first : List FileAsked) (names : List Two) (work : Work) (texts : List Text) (r : FilesRefusal) → AreTextsOf source.held first texts → FilesRest source names r → Rests source (record { first = first; texts = in_files names; work = work }) (Files r)
+files_rest source first names work texts (files.Read at) are h = record { first_texts = (texts, are); cannot = h }
+files_rest source first names work texts (files.TooLarge at) are h = record { first_texts = (texts, are); first = h }
+files_rest source first names work texts (files.Fault at kind place) are h = record { first_texts = (texts, are); first = h }
+files_rest source first names work texts files.OutOfMemory are h = tt
 
 -- a refusal of what is made
-pub made_rest : (source : SeenSource) (names texts : List Two) (work : Work) (r : FilesRefusal) → Refuses (ReadsMade texts) r → Rests source (record { first = None; texts = made names texts; work = work }) (Files r)
+pub made_rest : (source : SeenSource) (names texts : List Two) (work : Work) (r : FilesRefusal) → Refuses (ReadsMade texts) r → Rests source (record { first = []; texts = made names texts; work = work }) (Files r)
 made_rest source names texts work (files.Read at) h = absurd (never_read at texts h)
-made_rest source names texts work (files.TooLarge at) h = record { first_text = (None, tt); first = h }
-made_rest source names texts work (files.Fault at kind place) h = record { first_text = (None, tt); first = h }
+made_rest source names texts work (files.TooLarge at) h = record { first_texts = ([], tt); first = h }
+made_rest source names texts work (files.Fault at kind place) h = record { first_texts = ([], tt); first = h }
 made_rest source names texts work files.OutOfMemory h = tt
 
 too_many_tries : (work : Work) (team : List Factor) (agent : ℕ) → IsGroundRefused work team (TooManyTries agent) → IsSizeRefused work team (TooManyTries agent)
 too_many_tries (searched s) team agent h = h
 too_many_tries (replayed s) team agent h = h
 too_many_tries checked team agent h = h
+too_many_tries audited team agent h = h
 
 too_many_actions : (work : Work) (team : List Factor) (agent n : ℕ) → IsGroundRefused work team (TooManyActions agent n) → IsSizeRefused work team (TooManyActions agent n)
 too_many_actions (searched s) team agent n h = h
 too_many_actions (replayed s) team agent n h = h
 too_many_actions checked team agent n h = h
+too_many_actions audited team agent n h = h
 
 too_many_facts : (work : Work) (team : List Factor) (agent n : ℕ) → IsGroundRefused work team (TooManyFacts agent n) → IsSizeRefused work team (TooManyFacts agent n)
 too_many_facts (searched s) team agent n h = h
 too_many_facts (replayed s) team agent n h = h
 too_many_facts checked team agent n h = h
+too_many_facts audited team agent n h = h
 
 -- a team that the texts lead to, and one of its agents whose factor is not grounded
-pub sizes_rest : (source : SeenSource) (request : TeamRequest) (text : Option Text) (team : List Factor) (r : GroundRefusal) → IsFirstText source.held request.first text → IsTeam source.held request.texts team → IsGroundRefused request.work team r → Rests source request (Sizes r)
-sizes_rest source request text team (TooManyTries agent) is is_team h =
-    record { first_text = (text, is); team = team; is_team = is_team; refused = too_many_tries request.work team agent h }
-sizes_rest source request text team (TooManyActions agent n) is is_team h =
-    record { first_text = (text, is); team = team; is_team = is_team; refused = too_many_actions request.work team agent n h }
-sizes_rest source request text team (TooManyFacts agent n) is is_team h =
-    record { first_text = (text, is); team = team; is_team = is_team; refused = too_many_facts request.work team agent n h }
-sizes_rest source request text team OutOfMemory is is_team h = tt
+pub sizes_rest : (source : SeenSource) (request : TeamRequest) (texts : List Text) (team : List Factor) (r : GroundRefusal) → AreTextsOf source.held request.first texts → IsTeam source.held request.texts team → IsGroundRefused request.work team r → Rests source request (Sizes r)
+sizes_rest source request texts team (TooManyTries agent) are is_team h =
+    record { first_texts = (texts, are); team = team; is_team = is_team; refused = too_many_tries request.work team agent h }
+sizes_rest source request texts team (TooManyActions agent n) are is_team h =
+    record { first_texts = (texts, are); team = team; is_team = is_team; refused = too_many_actions request.work team agent n h }
+sizes_rest source request texts team (TooManyFacts agent n) are is_team h =
+    record { first_texts = (texts, are); team = team; is_team = is_team; refused = too_many_facts request.work team agent n h }
+sizes_rest source request texts team OutOfMemory are is_team h = tt
 
--- a refusal of a team that the texts lead to, or of the first text
-pub team_rests : (source : SeenSource) (request : TeamRequest) (text : Text) (team : List Factor) (r : Refusal) → IsFirstText source.held request.first (Some text) → IsTeam source.held request.texts team → IsRefusedTeam request.work team text r → Rests source request r
-team_rests source request text team (Files r) is is_team h = subst (λ x. Rests source request (Files x)) (sym h) tt
-team_rests source request text team (Sizes r) is is_team h = sizes_rest source request (Some text) team r is is_team h
-team_rests source request text team (First first.Read) is is_team h = absurd h
-team_rests source request text team (First first.TooLarge) is is_team h = absurd h
-team_rests source request text team (First (first.Line n)) is is_team h =
-    record { text = text; is_text = is; team = team; is_team = is_team; refused = h }
+-- a refusal of a team that the texts lead to, or of a first text
+pub team_rests : (source : SeenSource) (request : TeamRequest) (texts : List Text) (team : List Factor) (r : Refusal) → AreTextsOf source.held request.first texts → IsTeam source.held request.texts team → IsRefusedTeam request.work team texts r → Rests source request r
+team_rests source request texts team (Files r) are is_team h = subst (λ x. Rests source request (Files x)) (sym h) tt
+team_rests source request texts team (Sizes r) are is_team h = sizes_rest source request texts team r are is_team h
+team_rests source request texts team (First place first.Read) are is_team h = absurd h
+team_rests source request texts team (First place first.TooLarge) are is_team h = absurd h
+team_rests source request texts team (First place (first.Line n)) are is_team h =
+    record { texts = texts; are_texts = are; team = team; is_team = is_team; refused = h }
 
-pub refused_replay : (s : Searching) (team : List Factor) (text : Text) (r : ReplayRefusal) → ReplayRefuses (values_of s.heuristic) s.limit team text r → IsRefusedTeam (replayed s) team text (refusal_of r)
+pub refused_replay : (s : Searching) (team : List Factor) (text : Text) (r : ReplayRefusal) → ReplayRefuses (values_of s.heuristic) s.limit team text r → IsRefusedTeam (replayed s) team (text ∷ []) (refusal_of r)
 refused_replay s team text (replay.Sizes r) h = h
-refused_replay s team text (replay.Line n) h = h
+refused_replay s team text (replay.Line n) h = (refl, h)
+
+pub refused_audit : (team : List Factor) (certificate plan : Text) (r : AuditRefusal) → IsRefusedAudit team certificate plan r → IsRefusedTeam audited team (certificate ∷ plan ∷ []) (refusal_of_audit r)
+refused_audit team certificate plan (audit.Sizes r) h = h
+refused_audit team certificate plan (audit.Certificate n) h = h
+refused_audit team certificate plan (audit.Plan n) h = h
 
 -- a file that cannot be read has its status
 pub reading_status : (r : FilesRefusal) → IsOfReading r → status_of_files r ≡ status.Read
@@ -162,7 +175,7 @@ decided_solve held w names team d same holds one_each all h = (
   record {
     team = team;
     is_team = record {
-      is_first = tt;
+      are_first = tt;
       is_team = subst (λ ns. IfSome held (λ files. HoldsTeam files ns team)) same holds;
       one_each = one_each ∙ ap length same;
       checked = all;
@@ -174,13 +187,13 @@ decided_solve held w names team d same holds one_each all h = (
   h.ended,
 )
 
-pub decided_replay : (held : Option Held) (w : ToReplay) (names : List Two) (text : Text) (team : List Factor) (d : Decision) → names ≡ agents_of w.names → IsFirstText held (Some (record { name = w.schedule; longest = longest_schedule })) (Some text) → IfSome held (λ files. HoldsTeam files names team) → length team ≡ length names → All IsChecked team → ReplaysBy w.search text team d → Decides held (replays w) d
+pub decided_replay : (held : Option Held) (w : ToReplay) (names : List Two) (text : Text) (team : List Factor) (d : Decision) → names ≡ agents_of w.names → IsTextOf held (record { name = w.schedule; longest = longest_schedule }) text → IfSome held (λ files. HoldsTeam files names team) → length team ≡ length names → All IsChecked team → ReplaysBy w.search text team d → Decides held (replays w) d
 decided_replay held w names text team d same is holds one_each all h = (
   record {
     schedule = text;
     team = team;
     is_team = record {
-      is_first = is;
+      are_first = (is, tt);
       is_team = subst (λ ns. IfSome held (λ files. HoldsTeam files ns team)) same holds;
       one_each = one_each ∙ ap length same;
       checked = all;
@@ -192,12 +205,12 @@ decided_replay held w names text team d same is holds one_each all h = (
   h.ended,
 )
 
-pub decided_check : (held : Option Held) (w : ToCheck) (names : List Two) (text : Text) (team : List Factor) (d : Decision) → names ≡ agents_of w.names → IsFirstText held (Some (record { name = w.plan; longest = longest_plan })) (Some text) → IfSome held (λ files. HoldsTeam files names team) → length team ≡ length names → All IsChecked team → ChecksFor w.steps text team d → Decides held (checks w) d
+pub decided_check : (held : Option Held) (w : ToCheck) (names : List Two) (text : Text) (team : List Factor) (d : Decision) → names ≡ agents_of w.names → IsTextOf held (record { name = w.plan; longest = longest_plan }) text → IfSome held (λ files. HoldsTeam files names team) → length team ≡ length names → All IsChecked team → ChecksFor w.steps text team d → Decides held (checks w) d
 decided_check held w names text team d same is holds one_each all h = record {
   first = text;
   team = team;
   is_team = record {
-    is_first = is;
+    are_first = (is, tt);
     is_team = subst (λ ns. IfSome held (λ files. HoldsTeam files ns team)) same holds;
     one_each = one_each ∙ ap length same;
     checked = all;
@@ -210,12 +223,59 @@ decided_check held w names text team d same is holds one_each all h = record {
   is_valid_text = told_exactly w.steps team h.plan d.status (told d) h.is_told.printed h.is_told.ended;
 }
 
+pub decided_certify : (held : Option Held) (w : ToCertify) (names : List Two) (team : List Factor) (d : Decision) → names ≡ agents_of w.names → IfSome held (λ files. HoldsTeam files names team) → length team ≡ length names → All IsChecked team → CertifiesFor w.limit team d → Decides held (certifies w) d
+decided_certify held w names team d same holds one_each all h = (
+  record {
+    team = team;
+    is_team = record {
+      are_first = tt;
+      is_team = subst (λ ns. IfSome held (λ files. HoldsTeam files ns team)) same holds;
+      one_each = one_each ∙ ap length same;
+      checked = all;
+    };
+    outcome = h.outcome;
+    within = h.within;
+    certified = h.certified;
+  },
+  h.ended,
+)
+
+pub decided_audit : (held : Option Held) (w : ToAudit) (names : List Two) (certificate plan : Text) (team : List Factor) (d : Decision) → names ≡ agents_of w.names → IsTextOf held (record { name = w.certificate; longest = longest_certificate }) certificate → IsTextOf held (record { name = w.plan; longest = longest_plan }) plan → IfSome held (λ files. HoldsTeam files names team) → length team ≡ length names → All IsChecked team → AuditsFor certificate plan team d → Decides held (audits w) d
+decided_audit held w names certificate plan team d same first second holds one_each all h = record {
+  certificate = certificate;
+  plan = plan;
+  team = team;
+  is_team = record {
+    are_first = (first, (second, tt));
+    is_team = subst (λ ns. IfSome held (λ files. HoldsTeam files ns team)) same holds;
+    one_each = one_each ∙ ap length same;
+    checked = all;
+  };
+  found = h.found;
+  is_audited = h.is_audited;
+  empty = h.is_told.empty;
+  printed = h.is_told.printed;
+  is_ended = h.is_told.ended;
+}
+
+-- what certifies an answer, told
+pub certifies_for : (limit : ℕ) (team : List Factor) (c : Certified) (d : Decision) → AreWithin team → IsCertified limit team c.solution c.text → IsToldByCertificate c d → CertifiesFor limit team d
+certifies_for limit team c d within certified is = record {
+  outcome = c.solution.text;
+  within = within;
+  certified =
+      subst (λ s. IsCertified limit team s (told d))
+      (λ i. record { views = sym is.views i; log = sym is.log i; answer = sym is.answer i; text = c.solution.text })
+      (subst (IsCertified limit team c.solution) (sym is.printed) certified);
+  ended = is.ended ∙ ap answer_status (sym is.answer);
+}
+
 pub decided_make : (held : Option Held) (w : ToMake) (texts : List Text) (size : ℕ) (team : List Factor) (d : Decision) → texts ≡ delivery w.size w.number → size ≡ w.size → ReadsMade (agents_of texts) (Ok team) → length team ≡ length (names_of_texts (made_texts w.size w.number)) → All IsChecked team → MakesFor w.search w.work.one w.show texts size team d → Decides held (makes w) d
 decided_make held w texts size team d same same_size reads one_each all h = (
   record {
     team = team;
     is_team = record {
-      is_first = tt;
+      are_first = tt;
       is_team = subst (λ ts. ReadsMade (agents_of ts) (Ok team)) same reads;
       one_each = one_each;
       checked = all;

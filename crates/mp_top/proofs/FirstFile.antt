@@ -1,5 +1,6 @@
 -- From what was fetched of the first file to what it holds.
 use Rattle.std.proofs.Common.{◌≡◌, ◌+◌, ◌<◌, ◌≤◌, ◌∙◌, inl, inr, ℕ, min, length, take, Option, Some, None, IfSome, IsSomeAnd, ap, sym, arith}
+use Rattle.std.specs.Prelude.{slice_get}
 use Rattle.std.proofs.lemmas.List.{length-take, take_all}
 use Rattle.mp_joint.specs.Fact.{Text}
 use Rattle.mp_outside.specs.Acts.{FileAsked}
@@ -8,6 +9,7 @@ use Rattle.mp_files.specs.Cause.{SeenSource}
 use Rattle.mp_top.specs.Asked.{TeamRequest}
 use Rattle.mp_top.specs.Cause.{CannotReadFirst}
 use Rattle.mp_top.specs.First.{IsFirstLong}
+use Rattle.mp_top.specs.FirstText.{HaveTexts}
 
 -- a front of n + 1 bytes that is not longer than n is the whole
 front_is_whole : (n : ℕ) (whole bytes : Text) → bytes ≡ take (n + 1) whole → length bytes ≤ n → bytes ≡ whole
@@ -36,11 +38,11 @@ pub long_held : (n : ℕ) (held : Option Held) (name bytes : Text) → IsFrontOf
 long_held n None name bytes f h = tt
 long_held n (Some files) name bytes f h = long_in n (files name) bytes f h
 
-pub too_long : (held : Option Held) (request : TeamRequest) (file : FileAsked) → request.first ≡ Some file → IfSome held (λ files. IsSomeAnd (files file.name) (λ t. file.longest < length t)) → IsFirstLong held request
-too_long held request file asked long = record { file = file; asked = asked; long = long }
+pub too_long : (held : Option Held) (request : TeamRequest) (place : ℕ) (file : FileAsked) → slice_get request.first place ≡ Some file → HaveTexts held (take place request.first) → IfSome held (λ files. IsSomeAnd (files file.name) (λ t. file.longest < length t)) → IsFirstLong held request place
+too_long held request place file asked before long = record { file = file; asked = asked; before = before; long = long }
 
-pub absent : (source : SeenSource) (request : TeamRequest) (file : FileAsked) → request.first ≡ Some file → Lacks source.held file.name → CannotReadFirst source request
-absent source request file asked lacks = record { file = file; asked = asked; because = inl lacks }
+pub absent : (source : SeenSource) (request : TeamRequest) (place : ℕ) (file : FileAsked) → slice_get request.first place ≡ Some file → HaveTexts source.held (take place request.first) → Lacks source.held file.name → CannotReadFirst source request place
+absent source request place file asked before lacks = record { file = file; asked = asked; before = before; because = inl lacks }
 
-pub failed : (source : SeenSource) (request : TeamRequest) (file : FileAsked) → request.first ≡ Some file → source.before < source.now → FaultAt source.held source.fault_at (Some file.name) → CannotReadFirst source request
-failed source request file asked rose at = record { file = file; asked = asked; because = inr (rose, at) }
+pub failed : (source : SeenSource) (request : TeamRequest) (place : ℕ) (file : FileAsked) → slice_get request.first place ≡ Some file → HaveTexts source.held (take place request.first) → source.before < source.now → FaultAt source.held source.fault_at (Some file.name) → CannotReadFirst source request place
+failed source request place file asked before rose at = record { file = file; asked = asked; before = before; because = inr (rose, at) }

@@ -1,5 +1,5 @@
 -- What a call keeps, by how it ends.
-use Rattle.std.proofs.Common.{◌≡◌, ◌<◌, ◌⊎◌, inl, inr, ℕ, List, [], Bool, true, false, Option, Some, None, Result, Ok, Err, IfOk, IfErr, IfSome, MatchOption, refl, sym, ap, ◌∙◌, subst, arith, if◌then◌else◌}
+use Rattle.std.proofs.Common.{◌≡◌, ◌<◌, ◌⊎◌, inl, inr, ℕ, List, [], ◌∷◌, Bool, true, false, Option, Some, None, Result, Ok, Err, IfOk, IfErr, IfSome, MatchOption, refl, sym, ap, ◌∙◌, subst, arith, if◌then◌else◌}
 use Rattle.mp_factor.specs.declared.factor.Factor.{Factor}
 use Rattle.mp_files.specs.Cause.{SeenSource}
 use Rattle.mp_files.specs.Team.{Two}
@@ -9,6 +9,7 @@ use Rattle.mp_ground.specs.declared.refusal.GroundRefusal.TheVariants as sizes
 use Rattle.mp_joint.specs.Fact.{Text}
 use Rattle.mp_joint.specs.declared.plan.PlanStep.{PlanStep}
 use Rattle.mp_messages.specs.declared.history.Event.{Event}
+use Rattle.mp_optimality.specs.Told.{is_valid}
 use Rattle.mp_outside.specs.Source.{Files as Held}
 use Rattle.mp_plan_verdict.specs.Verdict.{verdict}
 use Rattle.mp_sets.specs.Numbers.{Numbers}
@@ -18,19 +19,19 @@ use Rattle.mp_solutions.specs.declared.solution.Solution.{Solution}
 use Rattle.mp_solutions.proofs.ToEnd.{found_to_end}
 use Rattle.mp_task.specs.AgentTask.{AgentTask}
 use Rattle.mp_words.specs.Requests.{Searching, Wanted, request_of}
-use Rattle.mp_words.specs.Requests.Wanted.{checks, makes, replays, solves}
+use Rattle.mp_words.specs.Requests.Wanted.{audits, certifies, checks, makes, replays, solves}
 use Rattle.mp_world.specs.RoundRobin.{is_over}
 use Rattle.mp_world.specs.World.{World}
 use Rattle.mp_world.specs.declared.answer.Answer.{Answer}
 use Rattle.mp_world.specs.declared.answer.Answer.TheVariants as answer
-use Rattle.mp_top.specs.Asked.{TeamRequest, files_asked, team_request, texts_of, values_of}
+use Rattle.mp_top.specs.Asked.{TeamRequest, files_asked, team_request, texts_of, values_of, without_heuristic}
 use Rattle.mp_top.specs.Call.{Call, Says}
 use Rattle.mp_top.specs.Cause.{CannotReadFactor, CannotReadFirst, Rests}
 use Rattle.mp_top.specs.Decided.{Decides, report_of, told}
 use Rattle.mp_top.specs.First.{ComesFirst, IsAccepted, IsFirst}
-use Rattle.mp_top.specs.FirstText.{IsFirstText}
+use Rattle.mp_top.specs.FirstText.{AreTextsOf}
 use Rattle.mp_top.specs.Keeps.{IsOutcomeFor, IsOutcomeStatus, IsSolved as IsSolvedStatus, IsUndecided, Keeps, PrintsFor, PrintsNothing, PrintsOutcome, ReadsInTurn, line_for}
-use Rattle.mp_top.specs.Outcome.{IsOutcome, Searches, answer_status, is_valid, reported}
+use Rattle.mp_top.specs.Outcome.{IsOutcome, Searches, answer_status, reported}
 use Rattle.mp_top.specs.Printed.{Publishes, TellsRefusal, Writes}
 use Rattle.mp_top.specs.Refusal.{line_of, memory_line, status_of, words_line, write_line}
 use Rattle.mp_top.specs.Team.{IsTeam}
@@ -44,12 +45,12 @@ use Rattle.mp_top.specs.declared.status.Status.{Status}
 use Rattle.mp_top.specs.declared.status.Status.TheVariants as status
 use Rattle.mp_top.proofs.Acts.{nothing_read}
 
--- where the texts lead to a team of which nothing is refused, nor of the text of the first file, no refusal is the first one
+-- where the texts lead to a team of which nothing is refused, nor of the texts of the first files, no refusal is the first one
 abbrev pub NoneFirst : Type 0
 NoneFirst =
-    (files : Held) (request : TeamRequest) (text : Option Text) (team : List Factor) (r : Refusal)
-    → IsFirstText (Some files) request.first text → IsTeam (Some files) request.texts team
-    → IsAccepted request.work team text
+    (files : Held) (request : TeamRequest) (texts : List Text) (team : List Factor) (r : Refusal)
+    → AreTextsOf (Some files) request.first texts → IsTeam (Some files) request.texts team
+    → IsAccepted request.work team texts
     → IsFirst files request r → ⊥
 
 -- and at most one is
@@ -154,9 +155,9 @@ not_words (Sizes (sizes.TooManyTries agent)) is = absurd (cc)
 not_words (Sizes (sizes.TooManyActions agent n)) is = absurd (cc)
 not_words (Sizes (sizes.TooManyFacts agent n)) is = absurd (cc)
 not_words (Sizes sizes.OutOfMemory) is = absurd (cc)
-not_words (First first.Read) is = absurd (cc)
-not_words (First first.TooLarge) is = absurd (cc)
-not_words (First (first.Line n)) is = absurd (cc)
+not_words (First place first.Read) is = absurd (cc)
+not_words (First place first.TooLarge) is = absurd (cc)
+not_words (First place (first.Line n)) is = absurd (cc)
 
 not_write : (r : Refusal) → status_of r ≡ status.Write → ⊥
 not_write (Files (files.Read at)) is = absurd (cc)
@@ -167,9 +168,9 @@ not_write (Sizes (sizes.TooManyTries agent)) is = absurd (cc)
 not_write (Sizes (sizes.TooManyActions agent n)) is = absurd (cc)
 not_write (Sizes (sizes.TooManyFacts agent n)) is = absurd (cc)
 not_write (Sizes sizes.OutOfMemory) is = absurd (cc)
-not_write (First first.Read) is = absurd (cc)
-not_write (First first.TooLarge) is = absurd (cc)
-not_write (First (first.Line n)) is = absurd (cc)
+not_write (First place first.Read) is = absurd (cc)
+not_write (First place first.TooLarge) is = absurd (cc)
+not_write (First place (first.Line n)) is = absurd (cc)
 
 not_undecided : (r : Refusal) → status_of r ≡ status.Undecided → ⊥
 not_undecided (Files (files.Read at)) is = absurd (cc)
@@ -180,11 +181,11 @@ not_undecided (Sizes (sizes.TooManyTries agent)) is = absurd (cc)
 not_undecided (Sizes (sizes.TooManyActions agent n)) is = absurd (cc)
 not_undecided (Sizes (sizes.TooManyFacts agent n)) is = absurd (cc)
 not_undecided (Sizes sizes.OutOfMemory) is = absurd (cc)
-not_undecided (First first.Read) is = absurd (cc)
-not_undecided (First first.TooLarge) is = absurd (cc)
-not_undecided (First (first.Line n)) is = absurd (cc)
+not_undecided (First place first.Read) is = absurd (cc)
+not_undecided (First place first.TooLarge) is = absurd (cc)
+not_undecided (First place (first.Line n)) is = absurd (cc)
 
-cannot_read : (source : SeenSource) (request : TeamRequest) (r : Refusal) → Rests source request r → status_of r ≡ status.Read → CannotReadFirst source request ⊎ ((at : FileOf) × CannotReadFactor source request at)
+cannot_read : (source : SeenSource) (request : TeamRequest) (r : Refusal) → Rests source request r → status_of r ≡ status.Read → ((place : ℕ) × CannotReadFirst source request place) ⊎ ((at : FileOf) × CannotReadFactor source request at)
 cannot_read source request (Files (files.Read at)) h is = inr (at, h)
 cannot_read source request (Files (files.TooLarge at)) h is = absurd (cc)
 cannot_read source request (Files (files.Fault at kind place)) h is = absurd (cc)
@@ -193,9 +194,9 @@ cannot_read source request (Sizes (sizes.TooManyTries agent)) h is = absurd (cc)
 cannot_read source request (Sizes (sizes.TooManyActions agent n)) h is = absurd (cc)
 cannot_read source request (Sizes (sizes.TooManyFacts agent n)) h is = absurd (cc)
 cannot_read source request (Sizes sizes.OutOfMemory) h is = absurd (cc)
-cannot_read source request (First first.Read) h is = inl h
-cannot_read source request (First first.TooLarge) h is = absurd (cc)
-cannot_read source request (First (first.Line n)) h is = absurd (cc)
+cannot_read source request (First place first.Read) h is = inl (place, h)
+cannot_read source request (First place first.TooLarge) h is = absurd (cc)
+cannot_read source request (First place (first.Line n)) h is = absurd (cc)
 
 nothing_printed : (call : Call) (request : Wanted) (r : Refusal) → PrintsNothing call → PrintsFor call request (status_of r)
 nothing_printed call request (Files (files.Read at)) h = h
@@ -206,9 +207,9 @@ nothing_printed call request (Sizes (sizes.TooManyTries agent)) h = h
 nothing_printed call request (Sizes (sizes.TooManyActions agent n)) h = h
 nothing_printed call request (Sizes (sizes.TooManyFacts agent n)) h = h
 nothing_printed call request (Sizes sizes.OutOfMemory) h = h
-nothing_printed call request (First first.Read) h = h
-nothing_printed call request (First first.TooLarge) h = h
-nothing_printed call request (First (first.Line n)) h = h
+nothing_printed call request (First place first.Read) h = h
+nothing_printed call request (First place first.TooLarge) h = h
+nothing_printed call request (First place (first.Line n)) h = h
 
 -- what is told where what the files hold has a first refusal
 abbrev Tells : Call → Wanted → Held → Type 0
@@ -245,9 +246,9 @@ module _ (one : OneFirst) (call : Call) (request : Wanted) where
   tells_first (Sizes (sizes.TooManyActions agent n)) h is says = first_told (Sizes (sizes.TooManyActions agent n)) h is says
   tells_first (Sizes (sizes.TooManyFacts agent n)) h is says = first_told (Sizes (sizes.TooManyFacts agent n)) h is says
   tells_first (Sizes sizes.OutOfMemory) h is says = memory_told is
-  tells_first (First first.Read) h is says = read_told is
-  tells_first (First first.TooLarge) h is says = first_told (First first.TooLarge) h is says
-  tells_first (First (first.Line n)) h is says = first_told (First (first.Line n)) h is says
+  tells_first (First place first.Read) h is says = read_told is
+  tells_first (First place first.TooLarge) h is says = first_told (First place first.TooLarge) h is says
+  tells_first (First place (first.Line n)) h is says = first_told (First place (first.Line n)) h is says
 
 -- a refusal
 pub kept_refusal : OneFirst → (call : Call) (request : Wanted) (r : Refusal) → request_of call.words ≡ Some request → Rests call.source (team_request request) r → (call.source.before < call.source.now → status_of r ≡ status.Read) → ReadsInTurn call (files_asked (team_request request)) → call.status ≡ status_of r → Unwritten call → Says call.err (line_for request r) → Keeps call
@@ -308,42 +309,61 @@ outcome_status held (replays w) report ended text (o, is) =
 outcome_status held (checks w) report ended text o =
     subst (λ e. (e ≡ status.Solved) ⊎ (e ≡ status.No)) (sym o.is_ended)
     (valid_status (is_valid (verdict o.team o.plan.plan) o.plan.cost))
+outcome_status held (certifies w) report ended text (o, is) =
+    subst IsSolvedStatus (sym is)
+    (solved_status (without_heuristic w.limit) true o.team (reported report o.outcome) o.certified.solution)
+outcome_status held (audits w) report ended text o =
+    subst (λ e. (e ≡ status.Solved) ⊎ (e ≡ status.No)) (sym o.is_ended) (valid_status o.found.optimal)
 outcome_status held (makes w) report ended text (o, is) =
     subst IsSolvedStatus (sym is) (solved_status w.search w.work.one o.team (reported report o.outcome) o.solved.found)
 
 -- nothing is refused of what an outcome is for
 pub record IsFine (held : Option Held) (request : TeamRequest) : Type 0 where
-  pub text : Option Text
-  pub is_text : IsFirstText held request.first text
+  pub texts : List Text
+  pub are_texts : AreTextsOf held request.first texts
   pub team : List Factor
   pub is_team : IsTeam held request.texts team
-  pub accepted : IsAccepted request.work team text
+  pub accepted : IsAccepted request.work team texts
 
 outcome_fine : (held : Option Held) (request : Wanted) (report : Report) (ended : Status) (text : Text) → IsOutcome held request report ended text → IsFine held (team_request request)
 outcome_fine held (solves w) report ended text (o, is) = record {
-  text = None;
-  is_text = tt;
+  texts = [];
+  are_texts = tt;
   team = o.team;
   is_team = o.is_team.is_team;
   accepted = o.solved.within;
 }
 outcome_fine held (replays w) report ended text (o, is) = record {
-  text = Some o.schedule;
-  is_text = o.is_team.is_first;
+  texts = o.schedule ∷ [];
+  are_texts = o.is_team.are_first;
   team = o.team;
   is_team = o.is_team.is_team;
   accepted = (o.replayed.within, (reported report o.outcome, o.replayed.found));
 }
 outcome_fine held (checks w) report ended text o = record {
-  text = Some o.first;
-  is_text = o.is_team.is_first;
+  texts = o.first ∷ [];
+  are_texts = o.is_team.are_first;
   team = o.team;
   is_team = o.is_team.is_team;
   accepted = (o.plan, o.is_plan);
 }
+outcome_fine held (certifies w) report ended text (o, is) = record {
+  texts = [];
+  are_texts = tt;
+  team = o.team;
+  is_team = o.is_team.is_team;
+  accepted = o.within;
+}
+outcome_fine held (audits w) report ended text o = record {
+  texts = o.certificate ∷ o.plan ∷ [];
+  are_texts = o.is_team.are_first;
+  team = o.team;
+  is_team = o.is_team.is_team;
+  accepted = (o.is_audited.accepted.fits.team_has.within, o.is_audited.accepted);
+}
 outcome_fine held (makes w) report ended text (o, is) = record {
-  text = None;
-  is_text = tt;
+  texts = [];
+  are_texts = tt;
   team = o.team;
   is_team = o.is_team.is_team;
   accepted = o.solved.within;
@@ -353,7 +373,7 @@ outcome_fine held (makes w) report ended text (o, is) = record {
 none_told : NoneFirst → (call : Call) (request : Wanted) → IsFine call.source.held (team_request request) → IfSome call.source.held (Tells call request)
 none_told none call request fine =
     weaken call.source.held (λ files. IsFine (Some files) (team_request request)) (Tells call request)
-    (λ files h s first. absurd (none files (team_request request) h.text h.team s h.is_text h.is_team h.accepted first))
+    (λ files h s first. absurd (none files (team_request request) h.texts h.team s h.are_texts h.is_team h.accepted first))
     (in_told call.source.held (λ held. IsFine held (team_request request)) fine)
 
 solved_printed : (call : Call) (request : Wanted) (s : Status) → IsSolvedStatus s → PrintsOutcome call request → PrintsFor call request s
@@ -367,6 +387,9 @@ printed_outcome call (replays w) s (inl is) h = solved_printed call (replays w) 
 printed_outcome call (replays w) s (inr is) h = subst (λ x. PrintsFor call (replays w) x) (sym is) (tt, h)
 printed_outcome call (checks w) s (inl is) h = solved_printed call (checks w) s (inl is) h
 printed_outcome call (checks w) s (inr is) h = solved_printed call (checks w) s (inr (inl is)) h
+printed_outcome call (certifies w) s is h = solved_printed call (certifies w) s is h
+printed_outcome call (audits w) s (inl is) h = solved_printed call (audits w) s (inl is) h
+printed_outcome call (audits w) s (inr is) h = solved_printed call (audits w) s (inr (inl is)) h
 printed_outcome call (makes w) s is h = solved_printed call (makes w) s is h
 
 -- no status of an outcome is that of words, of a read or of a write
@@ -395,6 +418,9 @@ not_outcome (replays w) s (inl is) h = not_solved s is h
 not_outcome (replays w) s (inr is) h = not_unfinished s is h
 not_outcome (checks w) s (inl is) h = not_solved s (inl is) h
 not_outcome (checks w) s (inr is) h = not_solved s (inr (inl is)) h
+not_outcome (certifies w) s is h = not_solved s is h
+not_outcome (audits w) s (inl is) h = not_solved s (inl is) h
+not_outcome (audits w) s (inr is) h = not_solved s (inr (inl is)) h
 not_outcome (makes w) s is h = not_solved s is h
 
 -- an outcome, written whole or cut off
@@ -444,10 +470,10 @@ module _ (none : NoneFirst) (call : Call) (request : Wanted) (d : Decision) (ask
       }
 
 -- what a call keeps that ends with what was decided
-pub kept : OneFirst → NoneFirst → (call : Call) (request : Wanted) (decided : Result Decision Refusal) (name : Option Text) (agents : List Two) → request_of call.words ≡ Some request → ((r : Refusal) → line_of name agents r ≡ line_for request r) → IfOk decided (Decides call.source.held request) → IfErr decided (Rests call.source (team_request request)) → IfOk decided (λ _. call.source.now ≡ call.source.before) → IfErr decided (λ r. call.source.before < call.source.now → status_of r ≡ status.Read) → ReadsInTurn call (files_asked (team_request request)) → AreSpent call.source.held request → IfOk decided (Publishes call.out call.err call.report call.status) → IfErr decided (TellsRefusal name agents call.out call.err call.before call.report call.status) → Keeps call
-kept one none call request (Ok d) name agents asks lines outcome cause no_fault fault reads spent published tells =
+pub kept : OneFirst → NoneFirst → (call : Call) (request : Wanted) (decided : Result Decision Refusal) (names : List Text) (agents : List Two) → request_of call.words ≡ Some request → ((r : Refusal) → line_of names agents r ≡ line_for request r) → IfOk decided (Decides call.source.held request) → IfErr decided (Rests call.source (team_request request)) → IfOk decided (λ _. call.source.now ≡ call.source.before) → IfErr decided (λ r. call.source.before < call.source.now → status_of r ≡ status.Read) → ReadsInTurn call (files_asked (team_request request)) → AreSpent call.source.held request → IfOk decided (Publishes call.out call.err call.report call.status) → IfErr decided (TellsRefusal names agents call.out call.err call.before call.report call.status) → Keeps call
+kept one none call request (Ok d) names agents asks lines outcome cause no_fault fault reads spent published tells =
     kept_outcome none call request d asks outcome published.0 no_fault reads spent published.1
-kept one none call request (Err r) name agents asks lines outcome cause no_fault fault reads spent published tells =
+kept one none call request (Err r) names agents asks lines outcome cause no_fault fault reads spent published tells =
     kept_refusal one call request r asks cause fault reads tells.is_ended
     (record { out = tells.nothing_written; no_fault = tells.no_fault; report = tells.same_report })
     (subst (λ line. Says call.err line) (lines r) tells.line)

@@ -16,6 +16,8 @@ pub mod One
 pub mod Said
 -- from a decision on a team to what the texts lead to
 pub mod Decided
+-- what was fetched of two first files is what they hold
+pub mod TwoTexts
 -- what was done at a source for a request
 pub mod Acts
 -- what a call keeps, by how it ends

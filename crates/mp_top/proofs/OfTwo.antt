@@ -1,5 +1,5 @@
 -- What is printed for two requests.
-use Rattle.std.proofs.Common.{◌≡◌, ◌≤◌, ℕ, Bool, true, List, ◌∷◌, ◌++◌, length, map, All, Option, Some, None, refl, sym, ap, subst, ◌∙◌}
+use Rattle.std.proofs.Common.{◌≡◌, ◌≤◌, ℕ, Bool, true, List, [], ◌∷◌, ◌++◌, length, map, All, Option, Some, None, refl, sym, ap, subst, ◌∙◌}
 use Rattle.std.proofs.lemmas.Option.{same_Some}
 use Rattle.mp_factor.specs.declared.factor.Factor.{Factor}
 use Rattle.mp_grounder.specs.Checked.{IsChecked}
@@ -7,6 +7,7 @@ use Rattle.mp_joint.specs.Fact.{Text}
 use Rattle.mp_logs.specs.Alike.{AreAlike}
 use Rattle.mp_messages.specs.History.{schedule}
 use Rattle.mp_messages.specs.declared.history.Event.{Event}
+use Rattle.mp_optimality.specs.Certified.{IsCertified}
 use Rattle.mp_outside.specs.Acts.{FileAsked}
 use Rattle.mp_outside.specs.Source.{Files}
 use Rattle.mp_renaming.specs.Renaming.{Renaming}
@@ -24,15 +25,15 @@ use Rattle.mp_text.specs.Alike.{TellTheSame}
 use Rattle.mp_text.specs.Schedule.{is_end}
 use Rattle.mp_text.specs.Trace.{trace_text}
 use Rattle.mp_words.specs.Requests.{Searching, ToReplay, Wanted}
-use Rattle.mp_words.specs.Requests.Wanted.{checks, makes, replays, solves}
+use Rattle.mp_words.specs.Requests.Wanted.{audits, certifies, checks, makes, replays, solves}
 use Rattle.mp_solve.specs.Refused.{AreWithin}
 use Rattle.mp_world.specs.Logs.{IsLog}
 use Rattle.mp_world.specs.declared.answer.Answer.{Answer}
 use Rattle.mp_world.specs.declared.answer.Answer.TheVariants as answer
 use Rattle.mp_top.specs.Asked.Work.{searched}
-use Rattle.mp_top.specs.Asked.{KeepsLimits, TeamRequest, Texts, agents_of, longest_schedule, names_of_texts, team_request, texts_of, values_of}
+use Rattle.mp_top.specs.Asked.{KeepsLimits, TeamRequest, Texts, agents_of, longest_schedule, names_of_texts, team_request, texts_of, values_of, without_heuristic}
 use Rattle.mp_top.specs.First.{IsAccepted, IsFirst}
-use Rattle.mp_top.specs.FirstText.{IsFirstText, IsHeld}
+use Rattle.mp_top.specs.FirstText.{AreTextsOf, IsHeld, IsTextOf, text_at}
 use Rattle.mp_top.specs.Outcome.{AreSameRuns, HasTrace, IsInTurn, IsOutcome, IsPrintedAgain, IsSolved, Printed, Searches, answer_status, behind_trace, printed_text, reported, team_in}
 use Rattle.mp_top.specs.Team.{IsFoundForBoth, IsTeam}
 use Rattle.mp_top.specs.declared.refusal.Refusal.{Refusal}
@@ -41,6 +42,7 @@ use Rattle.mp_top.specs.declared.refusal.FirstRefusal.TheVariants as of_first
 use Rattle.mp_top.specs.declared.report.Report.{Report}
 use Rattle.mp_top.specs.declared.status.Status.{Status}
 use Rattle.mp_top.proofs.Checked.{checked_team}
+use Rattle.mp_top.proofs.One.{one_texts}
 use Rattle.mp_top.proofs.OneTeam.{TeamLaw, one_team, team_held, team_of_both}
 
 -- what was found was found for a team by the events of some schedule, and has a text
@@ -64,10 +66,16 @@ solved_in_turn s one team report outcome alone solved =
     subst (λ o. IsFoundOn (values_of s.heuristic) s.limit team o (reported report outcome)) alone solved.found in
     (found.schedule, found.in_turn)
 
+-- what certifies a search is of one on one thread alone
+certified_solved : (limit : ℕ) (team : List Factor) (report : Report) (outcome text : Text) → AreWithin team → IsCertified limit team (reported report outcome) text → IsSolved (without_heuristic limit) true team report outcome
+certified_solved limit team report outcome text within h = record { within = within; found = h.solution }
+
 abbrev pub outcome_text : (held : Option Files) (request : Wanted) (s : Searching) (report : Report) (ended : Status) (text : Text) → Searches request s → IsOutcome held request report ended text → Text
 outcome_text held (solves w) s report ended text is (o, end) = o.outcome
 outcome_text held (replays w) s report ended text is (o, end) = o.outcome
 outcome_text held (checks w) s report ended text is o = absurd is
+outcome_text held (certifies w) s report ended text is (o, end) = o.outcome
+outcome_text held (audits w) s report ended text is o = absurd is
 outcome_text held (makes w) s report ended text is (o, end) = o.outcome
 
 pub outcome_found : (held : Option Files) (request : Wanted) (s : Searching) (report : Report) (ended : Status) (text : Text) (is : Searches request s) (o : IsOutcome held request report ended text) → FoundBy s (team_in held request report ended text o) report (outcome_text held request s report ended text is o)
@@ -76,6 +84,10 @@ outcome_found held (solves w) s report ended text is (o, end) =
 outcome_found held (replays w) s report ended text is (o, end) =
     subst (λ how. FoundBy how o.team report o.outcome) is (map (λ line. line.event) o.replayed.found.lines, o.replayed.found.in_turn.is_found)
 outcome_found held (checks w) s report ended text is o = absurd is
+outcome_found held (certifies w) s report ended text is (o, end) =
+    subst (λ how. FoundBy how o.team report o.outcome) is
+    (solved_by (without_heuristic w.limit) true o.team report o.outcome (certified_solved w.limit o.team report o.outcome text o.within o.certified))
+outcome_found held (audits w) s report ended text is o = absurd is
 outcome_found held (makes w) s report ended text is (o, end) =
     subst (λ how. FoundBy how o.team report o.outcome) is (solved_by w.search w.work.one o.team report o.outcome o.solved)
 
@@ -85,6 +97,10 @@ outcome_in_turn held (solves w) s report ended text is turn (o, end) =
 outcome_in_turn held (replays w) s report ended text is turn (o, end) =
     subst (λ how. FoundInTurn how o.team report o.outcome) is (map (λ line. line.event) o.replayed.found.lines, o.replayed.found.in_turn)
 outcome_in_turn held (checks w) s report ended text is turn o = absurd is
+outcome_in_turn held (certifies w) s report ended text is turn (o, end) =
+    subst (λ how. FoundInTurn how o.team report o.outcome) is
+    (solved_in_turn (without_heuristic w.limit) true o.team report o.outcome refl (certified_solved w.limit o.team report o.outcome text o.within o.certified))
+outcome_in_turn held (audits w) s report ended text is turn o = absurd is
 outcome_in_turn held (makes w) s report ended text is turn (o, end) =
     subst (λ how. FoundInTurn how o.team report o.outcome) is (solved_in_turn w.search w.work.one o.team report o.outcome turn o.solved)
 
@@ -92,12 +108,16 @@ pub outcome_checked : (held : Option Files) (request : Wanted) (report : Report)
 outcome_checked held (solves w) report ended text (o, end) = o.is_team.checked
 outcome_checked held (replays w) report ended text (o, end) = o.is_team.checked
 outcome_checked held (checks w) report ended text o = o.is_team.checked
+outcome_checked held (certifies w) report ended text (o, end) = o.is_team.checked
+outcome_checked held (audits w) report ended text o = o.is_team.checked
 outcome_checked held (makes w) report ended text (o, end) = o.is_team.checked
 
 pub of_each : (held : Option Files) (request : Wanted) (report : Report) (ended : Status) (text : Text) → (o : IsOutcome held request report ended text) → length (team_in held request report ended text o) ≡ length (names_of_texts (texts_of request))
 of_each held (solves w) report ended text (o, end) = o.is_team.one_each
 of_each held (replays w) report ended text (o, end) = o.is_team.one_each
 of_each held (checks w) report ended text o = o.is_team.one_each
+of_each held (certifies w) report ended text (o, end) = o.is_team.one_each
+of_each held (audits w) report ended text o = o.is_team.one_each
 of_each held (makes w) report ended text (o, end) = o.is_team.one_each
 
 pub few_agents : (held : Option Files) (request : Wanted) (report : Report) (ended : Status) (text : Text) → KeepsLimits request → (o : IsOutcome held request report ended text) → length (team_in held request report ended text o) ≤ 16
@@ -107,24 +127,30 @@ pub outcome_team : (held : Option Files) (request : Wanted) (report : Report) (e
 outcome_team held (solves w) report ended text (o, end) = o.is_team.is_team
 outcome_team held (replays w) report ended text (o, end) = o.is_team.is_team
 outcome_team held (checks w) report ended text o = o.is_team.is_team
+outcome_team held (certifies w) report ended text (o, end) = o.is_team.is_team
+outcome_team held (audits w) report ended text o = o.is_team.is_team
 outcome_team held (makes w) report ended text (o, end) = o.is_team.is_team
 
 pub outcome_within : (held : Option Files) (request : Wanted) (s : Searching) (report : Report) (ended : Status) (text : Text) → Searches request s → (o : IsOutcome held request report ended text) → AreWithin (team_in held request report ended text o)
 outcome_within held (solves w) s report ended text is (o, end) = o.solved.within
 outcome_within held (replays w) s report ended text is (o, end) = o.replayed.within
 outcome_within held (checks w) s report ended text is o = absurd is
+outcome_within held (certifies w) s report ended text is (o, end) = o.within
+outcome_within held (audits w) s report ended text is o = absurd is
 outcome_within held (makes w) s report ended text is (o, end) = o.solved.within
 
 pub outcome_status : (held : Option Files) (request : Wanted) (s : Searching) (report : Report) (ended : Status) (text : Text) → Searches request s → IsOutcome held request report ended text → ended ≡ answer_status report.answer
 outcome_status held (solves w) s report ended text is (o, end) = end
 outcome_status held (replays w) s report ended text is (o, end) = end
 outcome_status held (checks w) s report ended text is o = absurd is
+outcome_status held (certifies w) s report ended text is (o, end) = end
+outcome_status held (audits w) s report ended text is o = absurd is
 outcome_status held (makes w) s report ended text is (o, end) = end
 
 -- ---- traces
 
 -- the text of the first file is the one that is held
-text_held : (held : Option Files) (file : FileAsked) (text first : Text) → IsHeld held file.name text → IsFirstText held (Some file) (Some first) → first ≡ text
+text_held : (held : Option Files) (file : FileAsked) (text first : Text) → IsHeld held file.name text → IsTextOf held file first → first ≡ text
 text_held None file text first there is = absurd there
 text_held (Some files) file text first there is = same_Some first text (sym is.0 ∙ there)
 
@@ -139,6 +165,8 @@ traced : (held : Option Files) (request : Wanted) (s : Searching) (report : Repo
 traced held (solves w) s report ended text is trace (o, end) = o.printed ∙ ap (λ t. printed_text t report.log report.answer o.outcome) trace
 traced held (replays w) s report ended text is trace (o, end) = o.printed
 traced held (checks w) s report ended text is trace o = absurd is
+traced held (certifies w) s report ended text is trace (o, end) = absurd trace
+traced held (audits w) s report ended text is trace o = absurd is
 traced held (makes w) s report ended text is trace (o, end) = absurd trace
 
 -- begins with it
@@ -162,9 +190,9 @@ NoLineRefused =
 -- where nothing is refused of what the texts lead to, there is no first refusal
 abbrev pub NoneFirst : Type 0
 NoneFirst =
-    (files : Files) (request : TeamRequest) (text : Option Text) (team : List Factor) (r : Refusal)
-    → IsFirstText (Some files) request.first text
-    → IsTeam (Some files) request.texts team → IsAccepted request.work team text
+    (files : Files) (request : TeamRequest) (texts : List Text) (team : List Factor) (r : Refusal)
+    → AreTextsOf (Some files) request.first texts
+    → IsTeam (Some files) request.texts team → IsAccepted request.work team texts
     → IsFirst files request r → ⊥
 
 -- the same texts for a search
@@ -177,24 +205,25 @@ to_search replay = record {
 
 -- Texts lead to a team whose sizes keep the limits, and no line of the first file is refused: then nothing is.
 module _ (law : TeamLaw) (none : NoneFirst) (files : Files) (replay : ToReplay) (text : Text) (team : List Factor)
-    (is_text : IsFirstText (Some files) (team_request (replays replay)).first (Some text))
+    (are_texts : AreTextsOf (Some files) (team_request (replays replay)).first (text ∷ []))
     (is_team : IsTeam (Some files) (texts_of (replays replay)) team) (within : AreWithin team)
     (no_line : (n : ℕ) → IsRefusedLine (values_of replay.search.heuristic) replay.search.limit team text n → ⊥) where
   none_else : (r : Refusal) → IsFirst files (to_search replay) r → ⊥
-  none_else r comes = none files (to_search replay) (Some text) team r is_text is_team within comes
+  none_else r comes = none files (to_search replay) (text ∷ []) team r are_texts is_team within comes
 
   none_refused : (r : Refusal) → IsFirst files (team_request (replays replay)) r → ⊥
-  none_refused (FilesRefused r) h = none_else (FilesRefused r) (record { first_text = h.first_text; first = h.first })
+  none_refused (FilesRefused r) h = none_else (FilesRefused r) (record { first_texts = h.first_texts; first = h.first })
   none_refused (Sizes r) h =
-      none_else (Sizes r) (record { first_text = h.first_text; team = h.team; is_team = h.is_team; refused = h.refused })
-  none_refused (First of_first.Read) h = none_else (First of_first.Read) (record { file = h.file; asked = h.asked; absent = h.absent })
-  none_refused (First of_first.TooLarge) h = none_else (First of_first.TooLarge) (record { file = h.file; asked = h.asked; long = h.long })
-  none_refused (First (of_first.Line n)) h =
+      none_else (Sizes r) (record { first_texts = h.first_texts; team = h.team; is_team = h.is_team; refused = h.refused })
+  none_refused (First place of_first.Read) h = none_else (First place of_first.Read) (record { file = h.file; asked = h.asked; before = h.before; absent = h.absent })
+  none_refused (First place of_first.TooLarge) h = none_else (First place of_first.TooLarge) (record { file = h.file; asked = h.asked; before = h.before; long = h.long })
+  none_refused (First place (of_first.Line n)) h =
       let same : h.team ≡ team = one_team law files (texts_of (replays replay)) team h.team is_team h.is_team in
-      let read : h.text ≡ text = same_Some h.text text (sym h.is_text.0 ∙ is_text.0) in
+      let read : text_at h.texts 0 ≡ text =
+      ap (λ ts. text_at ts 0) (one_texts files (team_request (replays replay)).first h.texts (text ∷ []) h.are_texts are_texts) in
       no_line n
       (subst (λ t. IsRefusedLine (values_of replay.search.heuristic) replay.search.limit team t n) read
-      (subst (λ t. IsRefusedLine (values_of replay.search.heuristic) replay.search.limit t h.text n) same h.refused.1))
+      (subst (λ t. IsRefusedLine (values_of replay.search.heuristic) replay.search.limit t (text_at h.texts 0) n) same h.refused.1.1))
 
 pub trace_accepted : NoLineRefused → TeamLaw → NoneFirst → (held : Option Files) (files : Files) (request : Wanted) (replay : ToReplay) (first : Printed held request) (r : Refusal) → KeepsLimits request → Searches request replay.search → HasTrace request → IsFoundForBoth held (Some files) (texts_of request) (texts_of (replays replay)) → files replay.schedule ≡ Some first.text → length first.text ≤ longest_schedule → IsFirst files (team_request (replays replay)) r → ⊥
 trace_accepted accepted law none held files request replay first r keeps is trace both there short refused =
@@ -203,7 +232,7 @@ trace_accepted accepted law none held files request replay first r keeps is trac
     let found = outcome_found held request s first.report first.ended first.text is first.outcome in
     let outcome = outcome_text held request s first.report first.ended first.text is first.outcome in
     none_refused law none files replay first.text team
-    (there, short)
+    ((there, short), tt)
     (team_held law held files (texts_of request) (agents_of replay.names) team both (outcome_team held request first.report first.ended first.text first.outcome))
     (outcome_within held request s first.report first.ended first.text is first.outcome)
     (λ n. accepted (values_of s.heuristic) s.limit team found.0 (reported first.report outcome) first.text n
@@ -276,7 +305,7 @@ printed_again law turn files held other request replay first second keeps is tra
     (outcome_team held request first.report first.ended first.text first.outcome) second.outcome.0.is_team.is_team in
     let text =
     text_held other (record { name = replay.schedule; longest = longest_schedule }) first.text second.outcome.0.schedule
-    there second.outcome.0.is_team.is_first in
+    there second.outcome.0.is_team.are_first.0 in
     let again =
     trace_again held other request replay first.report second.report first.ended second.ended first.text second.text
     first.outcome second.outcome law keeps is trace team text in

@@ -2,9 +2,7 @@
 -- heuristic and may expand as many as there are sets of its facts.
 use Rattle.std.proofs.Common.{◌≡◌, ◌<◌, ◌≤◌, ◌+◌, ◌^◌, ℕ, Bool, true, false, cond, List, [], ◌∷◌, length, map, All, Option, Some, None, refl, sym, ap, subst, ◌∙◌, arith}
 use Rattle.std.specs.Prelude.{◌==◌, filter, if◌then◌else◌, slice_get}
-use Rattle.std.specs.List.{AllByRecursion}
 use Rattle.std.specs.Option.{option_map_or}
-use Rattle.std.proofs.lemmas.List.Elements.{All-from_recursion}
 use Rattle.std.proofs.lemmas.Option.{none-some, same_Some}
 use Rattle.mp_factor.specs.declared.factor.Factor.{Factor}
 use Rattle.mp_grounder.specs.Checked.{IsChecked}
@@ -16,6 +14,7 @@ use Rattle.mp_messages.specs.declared.history.Entry.{Entry}
 use Rattle.mp_messages.specs.declared.history.Entry.TheVariants.{Act, Put, Took}
 use Rattle.mp_messages.specs.declared.history.Event.{Event}
 use Rattle.mp_messages.specs.declared.history.Kind.TheVariants.{Expand, Start}
+use Rattle.mp_optimality.proofs.Tasks.{agreeing, as_many_tasks, within}
 use Rattle.mp_outside.specs.Source.{Files}
 use Rattle.mp_sets.specs.Numbers.{Numbers}
 use Rattle.mp_snapshot.specs.declared.verdict.Verdict.{Verdict}
@@ -23,17 +22,8 @@ use Rattle.mp_snapshot.specs.declared.verdict.Verdict.TheVariants.{Continue, NoP
 use Rattle.mp_solutions.specs.Right.{IsLeftUndecided, IsRight}
 use Rattle.mp_solutions.specs.Solution.{IsFound}
 use Rattle.mp_solutions.specs.declared.solution.Solution.{Solution}
-use Rattle.mp_solve.specs.Refused.{AreWithin}
-use Rattle.mp_split.specs.Begun.{AreBegun}
-use Rattle.mp_split.specs.Common.{IsOfTeam, common_of}
-use Rattle.mp_split.specs.TaskOf.{table, task_of}
-use Rattle.mp_split.specs.Team.{AreTasksOf, shown_by}
+use Rattle.mp_split.specs.Team.{AreTasksOf}
 use Rattle.mp_split.specs.declared.team.Tasks.{Tasks}
-use Rattle.mp_split.proofs.Each.{each, each_mapped, each_of_all}
-use Rattle.mp_split.proofs.FirstAgents.{all_ready}
-use Rattle.mp_split.proofs.OneTask.{within_limits}
-use Rattle.mp_split.proofs.Together.{of_one_team, same_task}
-use Rattle.mp_stands.proofs.Files.{files_stand}
 use Rattle.mp_task.specs.Agree.{Agree}
 use Rattle.mp_task.specs.AgentTask.{AgentTask}
 use Rattle.mp_task.specs.Limits.{IsWithinLimits}
@@ -41,7 +31,7 @@ use Rattle.mp_team_explored.specs.Expansions.{nothing_known}
 use Rattle.mp_team_verdicts.proofs.Alone.{few_if_spent}
 use Rattle.mp_team_verdicts.proofs.Counts.{count_by, counted_in_runs}
 use Rattle.mp_words.specs.Requests.{Searching, Wanted}
-use Rattle.mp_words.specs.Requests.Wanted.{checks, makes, replays, solves}
+use Rattle.mp_words.specs.Requests.Wanted.{audits, certifies, checks, makes, replays, solves}
 use Rattle.mp_words.specs.declared.asked.Choice.{Choice}
 use Rattle.mp_words.specs.declared.asked.Choice.TheVariants.{Blind}
 use Rattle.mp_world.proofs.Mail.{agent_of_team}
@@ -73,29 +63,6 @@ count_log agent (Act by Expand ∷ log) =
 count_log agent (Act by Start ∷ log) = let rest = count_log agent log in omega arith
 count_log agent (Put from to bytes ∷ log) = count_log agent log
 count_log agent (Took by from bytes ∷ log) = let rest = count_log agent log in omega arith
-
--- ---- the tasks of a team agree and keep the limits
-
-agreeing : (team : List Factor) (t : Tasks) → All IsChecked team → AreTasksOf team t → Agree t.tasks
-agreeing team t checked are = (files_stand team t checked are).2.agree
-
-as_many_tasks : (team : List Factor) (t : Tasks) → All IsChecked team → AreTasksOf team t → length t.tasks ≡ length team
-as_many_tasks team t checked are = (files_stand team t checked are).2.one_each
-
-within : (team : List Factor) (t : Tasks) → AreTasksOf team t → AreWithin team → length team ≤ 16 → All IsWithinLimits t.tasks
-within team t are sizes most =
-    let grounds = are.grounds in
-    let shown = shown_by team grounds in
-    let count = are.grounded.one_each in
-    let begun : AreBegun team grounds = record { each = are.grounded.each; within = λ place factor less at. sizes place factor at } in
-    let of_team : All (IsOfTeam (table shown) (common_of (table shown) shown.init shown.views)) grounds =
-    of_one_team shown grounds (all_ready team grounds count begun) (omega (arith, count, most)) refl in
-    let fit : AllByRecursion (λ g. IsWithinLimits (task_of shown g)) grounds =
-    each grounds
-    (λ g is. subst IsWithinLimits (same_task shown g) (within_limits (table shown) (common_of (table shown) shown.init shown.views) g is))
-    (each_of_all (IsOfTeam (table shown) (common_of (table shown) shown.init shown.views)) grounds of_team) in
-    subst (All IsWithinLimits) (sym are.tasks)
-    (All-from_recursion IsWithinLimits (map (task_of shown) grounds) (each_mapped IsWithinLimits (task_of shown) grounds fit))
 
 -- ---- the verdict of a team that decided nothing
 
@@ -186,6 +153,8 @@ few_entries : (request : Wanted) (s : Searching) → Searches request s → Keep
 few_entries (solves w) s is keeps = subst (λ (x : Searching). x.limit ≤ 10000000) is keeps.work.limit
 few_entries (replays w) s is keeps = subst (λ (x : Searching). x.limit ≤ 10000000) is keeps.work.limit
 few_entries (checks w) s is keeps = absurd is
+few_entries (certifies w) s is keeps = subst (λ (x : Searching). x.limit ≤ 10000000) is keeps.work.limit
+few_entries (audits w) s is keeps = absurd is
 few_entries (makes w) s is keeps = subst (λ (x : Searching). x.limit ≤ 10000000) is keeps.work.limit
 
 undecided_answer : (a : Answer) → status.Undecided ≡ answer_status a → a ≡ answer.Undecided

@@ -5,6 +5,8 @@ use Rattle.std.proofs.lemmas.Bool.{eqb-true}
 use Rattle.mp_factor.specs.declared.factor.Factor.{Factor}
 use Rattle.mp_joint.specs.Fact.{Text}
 use Rattle.mp_joint.specs.declared.plan.PlanStep.{PlanStep}
+use Rattle.mp_optimality.specs.Told.{is_valid}
+use Rattle.mp_optimality.proofs.Telling.{first_of, not_valid_begins}
 use Rattle.mp_plan_verdict.specs.Verdict.{verdict}
 use Rattle.mp_plan_verdict.specs.declared.verdict.CheckVerdict.{CheckVerdict}
 use Rattle.mp_plan_verdict.specs.declared.verdict.CheckVerdict.TheVariants.{Valid, NoAction, Missing, Forbidden, GoalMissing, GoalForbidden}
@@ -14,17 +16,13 @@ use Rattle.mp_plans.specs.declared.plan.PlanText.{PlanText}
 use Rattle.mp_steps.specs.Packed.{IsNotValid, IsPacked}
 use Rattle.mp_steps.specs.declared.plan.Packed.{Packed}
 use Rattle.mp_top.specs.Decided.{IsToldByTeam, IsToldOfPlan, IsToldOfSteps}
-use Rattle.mp_top.specs.Outcome.{TellsValid, is_valid, packing_of, plan_status, told_plan, valid_text}
+use Rattle.mp_top.specs.Outcome.{TellsValid, packing_of, plan_status, told_plan, valid_text}
 use Rattle.mp_top.specs.declared.decision.Decision.{Decision}
 use Rattle.mp_top.specs.declared.status.Status.{Status}
 use Rattle.mp_top.specs.declared.status.Status.TheVariants as status
 
 abbrev IsValidText : Text → Type 0
 IsValidText text = (cost : ℕ) × (text ≡ valid_text cost)
-
-first_of : Text → ℕ
-first_of [] = 0
-first_of (byte ∷ text) = byte
 
 -- a text that begins otherwise
 not_valid : (ended : Status) (text : Text) → ended ≡ status.No → first_of text ≡ 105 → (ended ≡ status.Solved) ↔ IsValidText text
@@ -59,16 +57,6 @@ steps_by : (valid : Bool) (ended : Status) (text steps other : Text) → text �
     → (ended ≡ status.Solved) ↔ (text ≡ steps)
 steps_by true ended text steps other printed is begins found = (λ _. printed, λ _. is)
 steps_by false ended text steps other printed is begins found = not_steps ended text other is printed (found refl) steps begins
-
--- a verdict that a plan is not valid at the cost that is stated
-not_valid_begins : (found : CheckVerdict) (stated : ℕ) → is_valid found stated ≡ false → first_of (verdict_text found stated) ≡ 105
-unfolding first_of verdict_line
-not_valid_begins (Valid cost) stated h = ap (λ b. first_of ((if b then codes "valid cost " ++ decimal cost else codes "invalid cost is " ++ decimal cost) ++ 10 ∷ [])) h
-not_valid_begins (NoAction time) stated h = refl
-not_valid_begins (Missing time fact) stated h = refl
-not_valid_begins (Forbidden time fact) stated h = refl
-not_valid_begins (GoalMissing fact) stated h = refl
-not_valid_begins (GoalForbidden fact) stated h = refl
 
 steps_begin : (plan : List PlanStep) (packed : Packed) → first_of (steps_text plan packed) ≡ 99
 unfolding first_of

@@ -8,7 +8,7 @@ use Rattle.std.specs.Option.{is_none}
 use Rattle.std.specs.Str.{bytes_eq}
 use Rattle.mp_words.specs.Asked.{Asked, nothing}
 use Rattle.mp_words.specs.Numbers.{number_between}
-use Rattle.mp_words.specs.Requests.{Wanted, check_of, check_with, command_of, has_no_search, has_no_work, is_team, make_of, make_with, make_words, replay_of, replay_with, request_of, searching, solve_of}
+use Rattle.mp_words.specs.Requests.{Wanted, audit_of, audit_with, certify_of, check_of, check_with, command_of, has_no_search, has_no_work, is_team, make_of, make_with, make_words, replay_of, replay_with, request_of, searching, solve_of}
 use Rattle.mp_words.specs.Words.{after_free_word, after_option, after_valued, after_word, after_words, behind, is_plain, with_heuristic, with_limit, with_option, with_value, with_workers}
 use Rattle.mp_words.specs.Reads.{wanted_by}
 use Rattle.mp_words.specs.declared.asked.Request.{Request}
@@ -118,6 +118,32 @@ check_keeps steps a fits =
     either (is_none a.awaited && (has_no_search a && (has_no_work a && not (a.trace || a.show)))) _ None KeepsLimits
     (λ is. check_with_keeps steps a.plain) (λ is. tt)
 
+certify_keeps : (a : Asked) → Fits a → IfSome (certify_of a) KeepsLimits
+certify_keeps a fits =
+    either (is_none a.awaited && (is_none a.heuristic && (has_no_work a && (not (a.trace || a.show) && is_team a.plain)))) _ None KeepsLimits
+    (λ is.
+    let free = and_parts (is_none a.awaited) _ is in
+    let blind = and_parts (is_none a.heuristic) _ free.1 in
+    let alone = and_parts (has_no_work a) _ blind.1 in
+    let plain = and_parts (not (a.trace || a.show)) (is_team a.plain) alone.1 in
+    let limit = within_or a.limit fits in
+    let h = few a.plain plain.1 in
+    record { work = record { from_1 = limit.0; limit = limit.1 }; made = tt; some = h.0; at_most = h.1 })
+    (λ is. tt)
+
+audit_with_keeps : (names : List (List ℕ)) → IfSome (audit_with names) KeepsLimits
+audit_with_keeps [] = tt
+audit_with_keeps (certificate ∷ []) = tt
+audit_with_keeps (certificate ∷ plan ∷ names) =
+    either (is_team names) _ None KeepsLimits
+    (λ is. let h = few names is in record { work = tt; made = tt; some = h.0; at_most = h.1 })
+    (λ is. tt)
+
+audit_keeps : (a : Asked) → Fits a → IfSome (audit_of a) KeepsLimits
+audit_keeps a fits =
+    either (is_none a.awaited && (has_no_search a && (has_no_work a && not (a.trace || a.show)))) _ None KeepsLimits
+    (λ is. audit_with_keeps a.plain) (λ is. tt)
+
 made_size : (size : ℕ) → length (map made_name (range_with_len 1 size)) ≡ size
 made_size size = length-map-range_with_len made_name 1 size
 
@@ -165,7 +191,9 @@ by_command command a fits =
     (λ _. either (bytes_eq command (codes "replay")) _ _ KeepsLimits (λ is. replay_keeps a fits)
     (λ _. either (bytes_eq command (codes "check")) _ _ KeepsLimits (λ is. check_keeps false a fits)
     (λ _. either (bytes_eq command (codes "steps")) _ _ KeepsLimits (λ is. check_keeps true a fits)
-    (λ _. either (bytes_eq command (codes "make")) _ None KeepsLimits (λ is. make_keeps a fits) (λ is. tt)))))
+    (λ _. either (bytes_eq command (codes "certify")) _ _ KeepsLimits (λ is. certify_keeps a fits)
+    (λ _. either (bytes_eq command (codes "audit")) _ _ KeepsLimits (λ is. audit_keeps a fits)
+    (λ _. either (bytes_eq command (codes "make")) _ None KeepsLimits (λ is. make_keeps a fits) (λ is. tt)))))))
 
 wanted_keeps : (words : List (List ℕ)) → IfSome (request_of words) KeepsLimits
 wanted_keeps [] = tt

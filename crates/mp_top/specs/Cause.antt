@@ -1,5 +1,5 @@
 -- What a refusal rests on.
-use Rattle.std.specs.Prelude.{◌≡◌, ◌<◌, ◌⊎◌, Some, None, IsSomeAnd}
+use Rattle.std.specs.Prelude.{◌≡◌, ◌<◌, ◌⊎◌, ℕ, slice_get, take, Some, None, IsSomeAnd}
 use Rattle.mp_outside.specs.Acts.{FileAsked}
 use Rattle.mp_outside.specs.Source.{FaultAt}
 use Rattle.mp_files.specs.Cause.{CannotRead, SeenSource}
@@ -11,16 +11,18 @@ use Rattle.mp_ground.specs.declared.refusal.GroundRefusal.TheVariants as sizes
 use Rattle.mp_top.specs.Asked.{TeamRequest, Texts}
 use Rattle.mp_top.specs.Asked.Texts.{in_files, made}
 use Rattle.mp_top.specs.First.{ComesFirst}
-use Rattle.mp_top.specs.FirstText.{HasFirstText}
+use Rattle.mp_top.specs.FirstText.{HaveTexts}
 use Rattle.mp_top.specs.declared.refusal.FirstRefusal.{FirstRefusal}
 use Rattle.mp_top.specs.declared.refusal.FirstRefusal.TheVariants as first
 use Rattle.mp_top.specs.declared.refusal.Refusal.{Refusal}
 use Rattle.mp_top.specs.declared.refusal.Refusal.TheVariants.{Files, First, Sizes}
 
--- the first file cannot be read: the source tells that it is not there, or a read of it had a fault
-pub record CannotReadFirst (source : SeenSource) (request : TeamRequest) : Type 0 where
+-- the first file at this place cannot be read: the source tells that it is not there, or a read of it had a fault; and those
+-- before it fit
+pub record CannotReadFirst (source : SeenSource) (request : TeamRequest) (place : ℕ) : Type 0 where
   pub file : FileAsked
-  pub asked : request.first ≡ Some file
+  pub asked : slice_get request.first place ≡ Some file
+  pub before : HaveTexts source.held (take place request.first)
   pub because :
       IsSomeAnd source.held (λ files. files file.name ≡ None)
       ⊎ ((source.before < source.now) × FaultAt source.held source.fault_at (Some file.name))
@@ -30,9 +32,9 @@ abbrev pub CannotReadTexts : SeenSource → Texts → FileOf → Type 0
 CannotReadTexts source (in_files names) at = CannotRead source names at
 CannotReadTexts source (made names texts) at = ⊥
 
--- and the first file, where one is asked for, fits
+-- and the first files fit
 pub record CannotReadFactor (source : SeenSource) (request : TeamRequest) (at : FileOf) : Type 0 where
-  pub first_text : HasFirstText source.held request.first
+  pub first_texts : HaveTexts source.held request.first
   pub cannot : CannotReadTexts source request.texts at
 
 module _ (source : SeenSource) (request : TeamRequest) where
@@ -50,14 +52,14 @@ module _ (source : SeenSource) (request : TeamRequest) where
       ComesFirst source.held request (Sizes (sizes.TooManyFacts agent number))
   RestsOnSizes sizes.OutOfMemory = Unit {0}
 
-  abbrev pub RestsOnFirst : FirstRefusal → Type 0
-  RestsOnFirst first.Read = CannotReadFirst source request
-  RestsOnFirst first.TooLarge = ComesFirst source.held request (First first.TooLarge)
-  RestsOnFirst (first.Line number) = ComesFirst source.held request (First (first.Line number))
+  abbrev pub RestsOnFirst : ℕ → FirstRefusal → Type 0
+  RestsOnFirst place first.Read = CannotReadFirst source request place
+  RestsOnFirst place first.TooLarge = ComesFirst source.held request (First place first.TooLarge)
+  RestsOnFirst place (first.Line number) = ComesFirst source.held request (First place (first.Line number))
 
   -- What a refusal of a request rests on: on being the first one, where the source tells, but for faults of reading and
   -- want of memory.
   abbrev pub Rests : Refusal → Type 0
   Rests (Files r) = RestsOnFiles r
   Rests (Sizes r) = RestsOnSizes r
-  Rests (First r) = RestsOnFirst r
+  Rests (First place r) = RestsOnFirst place r

@@ -3,6 +3,12 @@ use Rattle.std.specs.Prelude.{◌≡◌, ◌==◌, ◌++◌, ℕ, Bool, true, Li
 use Rattle.mp_factor.specs.declared.factor.Factor.{Factor}
 use Rattle.mp_joint.specs.Fact.{Text}
 use Rattle.mp_ground.specs.declared.refusal.GroundRefusal.{GroundRefusal}
+use Rattle.mp_optimality.specs.Audits.{IsAudited}
+use Rattle.mp_optimality.specs.Certified.{IsCertified}
+use Rattle.mp_optimality.specs.declared.auditing.PlanAudit.{PlanAudit}
+use Rattle.mp_optimality.specs.declared.certifying.Certified.{Certified}
+use Rattle.mp_optimality.specs.declared.refusal.AuditRefusal.{AuditRefusal}
+use Rattle.mp_optimality.specs.declared.refusal.AuditRefusal.TheVariants as audit
 use Rattle.mp_outside.specs.Source.{Files as Held}
 use Rattle.mp_plan_verdict.specs.Verdict.{verdict}
 use Rattle.mp_plan_verdict.specs.declared.verdict.CheckVerdict.{CheckVerdict}
@@ -13,13 +19,14 @@ use Rattle.mp_plans.specs.Verdict.{verdict_text}
 use Rattle.mp_plans.specs.declared.plan.PlanText.{PlanText}
 use Rattle.mp_steps.specs.declared.plan.Packed.{Packed}
 use Rattle.mp_solutions.specs.declared.solution.Solution.{Solution}
+use Rattle.mp_solve.specs.Refused.{AreWithin}
 use Rattle.mp_solve.specs.declared.refusal.ReplayRefusal.{ReplayRefusal}
 use Rattle.mp_solve.specs.declared.refusal.ReplayRefusal.TheVariants as replay
 use Rattle.mp_split.specs.Team.{IsFirstRefusal}
 use Rattle.mp_top.specs.Asked.{Work}
-use Rattle.mp_top.specs.Asked.Work.{checked, replayed, searched}
+use Rattle.mp_top.specs.Asked.Work.{audited, checked, replayed, searched}
 use Rattle.mp_top.specs.First.{IsTextLineRefused}
-use Rattle.mp_top.specs.Outcome.{IsOutcome, IsReplayedBy, IsSolved, answer_status, plan_status, printed_text, told_made, told_plan}
+use Rattle.mp_top.specs.Outcome.{IsOutcome, IsReplayedBy, IsSolved, answer_status, audit_status, plan_status, printed_text, reported, told_made, told_plan}
 use Rattle.mp_top.specs.Report.{IsEmptyReport}
 use Rattle.mp_top.specs.declared.decision.Decision.{Decision}
 use Rattle.mp_top.specs.declared.decision.Search.{Search}
@@ -108,22 +115,56 @@ pub record ChecksFor (steps : Bool) (text : Text) (team : List Factor) (d : Deci
   pub is_plan : plan_in (length team) text ≡ Ok plan
   pub is_told : IsToldByTeam steps team plan d
 
+-- what certifies an answer is told
+pub record IsToldByCertificate (c : Certified) (d : Decision) : Type 0 where
+  pub views : d.views ≡ c.solution.views
+  pub log : d.log ≡ c.solution.log
+  pub answer : d.answer ≡ c.solution.answer
+  pub printed : told d ≡ c.text
+  pub ended : d.status ≡ answer_status c.solution.answer
+
+-- what an audit finds is told, with an empty report
+pub record IsToldByAudit (found : PlanAudit) (d : Decision) : Type 0 where
+  pub empty : IsEmptyReport (report_of d)
+  pub printed : told d ≡ found.text
+  pub ended : d.status ≡ audit_status found
+
+-- a team searches without a heuristic, and what certifies its answer is told
+pub record CertifiesFor (limit : ℕ) (team : List Factor) (d : Decision) : Type 0 where
+  pub outcome : Text
+  pub within : AreWithin team
+  pub certified : IsCertified limit team (reported (report_of d) outcome) (told d)
+  pub ended : d.status ≡ answer_status d.answer
+
+-- what is found of the certificate and the plan of two texts, with an empty report
+pub record AuditsFor (certificate plan : Text) (team : List Factor) (d : Decision) : Type 0 where
+  pub found : PlanAudit
+  pub is_audited : IsAudited team certificate plan found
+  pub is_told : IsToldByAudit found d
+
 -- what is said of a schedule that is not replayed
 abbrev pub refusal_of : ReplayRefusal → Refusal
 refusal_of (replay.Sizes r) = Sizes r
-refusal_of (replay.Line number) = First (first.Line number)
+refusal_of (replay.Line number) = First 0 (first.Line number)
+
+-- what is said of a certificate and a plan that are not audited
+abbrev pub refusal_of_audit : AuditRefusal → Refusal
+refusal_of_audit (audit.Sizes r) = Sizes r
+refusal_of_audit (audit.Certificate number) = First 0 (first.Line number)
+refusal_of_audit (audit.Plan number) = First 1 (first.Line number)
 
 -- an agent whose factor is not grounded; a plan is checked without
 abbrev pub IsGroundRefused : Work → List Factor → GroundRefusal → Type 0
 IsGroundRefused (searched s) team r = IsFirstRefusal team r
 IsGroundRefused (replayed s) team r = IsFirstRefusal team r
 IsGroundRefused checked team r = ⊥
+IsGroundRefused audited team r = IsFirstRefusal team r
 
--- a refusal behind the reading of the texts: of the first agent whose factor is not grounded, of a line of the first text,
--- or for want of memory
-abbrev pub IsRefusedTeam : Work → List Factor → Text → Refusal → Type 0
-IsRefusedTeam work team text (Files r) = r ≡ files.OutOfMemory
-IsRefusedTeam work team text (Sizes r) = IsGroundRefused work team r
-IsRefusedTeam work team text (First first.Read) = ⊥
-IsRefusedTeam work team text (First first.TooLarge) = ⊥
-IsRefusedTeam work team text (First (first.Line number)) = IsTextLineRefused work team text number
+-- a refusal behind the reading of the texts: of the first agent whose factor is not grounded, of a line of a first text, or
+-- for want of memory
+abbrev pub IsRefusedTeam : Work → List Factor → List Text → Refusal → Type 0
+IsRefusedTeam work team texts (Files r) = r ≡ files.OutOfMemory
+IsRefusedTeam work team texts (Sizes r) = IsGroundRefused work team r
+IsRefusedTeam work team texts (First place first.Read) = ⊥
+IsRefusedTeam work team texts (First place first.TooLarge) = ⊥
+IsRefusedTeam work team texts (First place (first.Line number)) = IsTextLineRefused work team texts place number

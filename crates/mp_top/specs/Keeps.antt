@@ -1,12 +1,12 @@
 -- What each call of the program keeps.
-use Rattle.std.specs.Prelude.{◌≡◌, ◌<◌, ◌↔◌, ◌⊎◌, List, [], Some, None, MatchOption, IfSome, option_map}
+use Rattle.std.specs.Prelude.{◌≡◌, ◌<◌, ◌↔◌, ◌⊎◌, ℕ, List, [], map, Some, None, MatchOption, IfSome}
 use Rattle.std.specs.Io.KnownBytes.{Appends}
 use Rattle.mp_joint.specs.Fact.{Text}
 use Rattle.mp_outside.specs.Acts.{AreReadInTurn, Does, FileAsked}
 use Rattle.mp_outside.specs.Sink.{AppendsBeginning}
 use Rattle.mp_files.specs.declared.refusal.FileOf.{FileOf}
 use Rattle.mp_words.specs.Requests.{Searching, Wanted, request_of}
-use Rattle.mp_words.specs.Requests.Wanted.{checks, makes, replays, solves}
+use Rattle.mp_words.specs.Requests.Wanted.{audits, certifies, checks, makes, replays, solves}
 use Rattle.mp_top.specs.Asked.{TeamRequest, files_asked, names_of_texts, team_request, texts_of}
 use Rattle.mp_top.specs.Call.{Call, Says}
 use Rattle.mp_top.specs.Cause.{CannotReadFactor, CannotReadFirst, Rests}
@@ -42,6 +42,8 @@ abbrev pub IsReplay : Wanted → Type 0
 IsReplay (solves w) = ⊥
 IsReplay (replays w) = Unit {0}
 IsReplay (checks w) = ⊥
+IsReplay (certifies w) = ⊥
+IsReplay (audits w) = ⊥
 IsReplay (makes w) = ⊥
 
 -- what is printed about a request, by the status
@@ -69,17 +71,19 @@ abbrev pub IsSolved : Status → Type 0
 IsSolved ended = (ended ≡ status.Solved) ⊎ (ended ≡ status.No) ⊎ (ended ≡ status.Undecided)
 
 -- a status of an outcome: of an answer, or that of a schedule that ended before there was one, or of what is found of a
--- plan
+-- plan, or of a certificate and a plan
 abbrev pub IsOutcomeStatus : Wanted → Status → Type 0
 IsOutcomeStatus (solves w) ended = IsSolved ended
 IsOutcomeStatus (replays w) ended = IsSolved ended ⊎ (ended ≡ status.Unfinished)
 IsOutcomeStatus (checks w) ended = (ended ≡ status.Solved) ⊎ (ended ≡ status.No)
+IsOutcomeStatus (certifies w) ended = IsSolved ended
+IsOutcomeStatus (audits w) ended = (ended ≡ status.Solved) ⊎ (ended ≡ status.No)
 IsOutcomeStatus (makes w) ended = IsSolved ended
 
 -- the line of a refusal, with the names that a request has
 abbrev pub line_in : TeamRequest → Refusal → Text
 line_in request r =
-    line_of (option_map (λ (file : FileAsked). file.name) request.first) (names_of_texts request.texts) r
+    line_of (map (λ (file : FileAsked). file.name) request.first) (names_of_texts request.texts) r
 
 abbrev pub line_for : Wanted → Refusal → Text
 line_for request r = line_in (team_request request) r
@@ -102,11 +106,11 @@ IsLineForWords call line =
 abbrev pub IsLine : Call → Text → Type 0
 IsLine call line = MatchOption (request_of call.words) (IsLineForWords call line) (λ request. IsLineFor call request line)
 
--- a file word of accepted words cannot be read: that of the first file, or one of an agent
+-- a file word of accepted words cannot be read: that of a first file, or one of an agent
 abbrev pub CannotReadFile : Call → Type 0
 CannotReadFile call =
     (request : Wanted) × (request_of call.words ≡ Some request)
-    × (CannotReadFirst call.source (team_request request)
+    × (((place : ℕ) × CannotReadFirst call.source (team_request request) place)
     ⊎ ((at : FileOf) × CannotReadFactor call.source (team_request request) at))
 
 -- The first refusal comes, but for faults of reading and want of memory: where what the files hold has one, the status

@@ -1,16 +1,19 @@
 -- What is printed for a request, and the report.
-use Rattle.std.specs.Prelude.{◌≡◌, ◌↔◌, decimal, ℕ, ◌==◌, ◌&&◌, List, [], ◌∷◌, ◌++◌, length, codes, Bool, true, false, Option, Some, None, Ok, All, if◌then◌else◌}
+use Rattle.std.specs.Prelude.{◌≡◌, ◌↔◌, decimal, ℕ, ◌&&◌, List, [], ◌∷◌, ◌++◌, length, codes, Bool, true, false, Option, Ok, All, if◌then◌else◌}
 use Rattle.mp_factor.specs.declared.factor.Factor.{Factor}
 use Rattle.mp_joint.specs.Fact.{Text}
 use Rattle.mp_joint.specs.FactorContribution.{team_of}
 use Rattle.mp_joint.specs.declared.plan.PlanStep.{PlanStep}
 use Rattle.mp_logs.specs.Alike.{AreAlike}
+use Rattle.mp_optimality.specs.Audits.{IsAudited}
+use Rattle.mp_optimality.specs.Certified.{IsCertified}
+use Rattle.mp_optimality.specs.Told.{is_valid}
+use Rattle.mp_optimality.specs.declared.auditing.PlanAudit.{PlanAudit}
 use Rattle.mp_outside.specs.Source.{Files}
 use Rattle.mp_messages.specs.declared.history.Entry.{Entry}
 use Rattle.mp_grounder.specs.Checked.{IsChecked}
 use Rattle.mp_plan_verdict.specs.Verdict.{verdict}
 use Rattle.mp_plan_verdict.specs.declared.verdict.CheckVerdict.{CheckVerdict}
-use Rattle.mp_plan_verdict.specs.declared.verdict.CheckVerdict.TheVariants.{Valid}
 use Rattle.mp_plans.specs.Made.{made_text, shown_text}
 use Rattle.mp_plans.specs.Packed.{steps_text}
 use Rattle.mp_plans.specs.Plan.{plan_in}
@@ -21,15 +24,15 @@ use Rattle.mp_steps.specs.declared.plan.Packed.{Packed}
 use Rattle.mp_text.specs.Alike.{TellTheSame}
 use Rattle.mp_text.specs.Trace.{trace_text}
 use Rattle.mp_words.specs.Requests.{Searching, Wanted}
-use Rattle.mp_words.specs.Requests.Wanted.{checks, makes, replays, solves}
+use Rattle.mp_words.specs.Requests.Wanted.{audits, certifies, checks, makes, replays, solves}
 use Rattle.mp_maker.specs.Delivery.{delivery}
 use Rattle.mp_world.specs.declared.answer.Answer.{Answer}
 use Rattle.mp_world.specs.declared.answer.Answer.TheVariants.{Nothing, Solved, Unsolvable, Undecided}
 use Rattle.mp_solutions.specs.Solution.{IsFoundOn, IsReplayed}
 use Rattle.mp_solutions.specs.declared.solution.Solution.{Solution}
 use Rattle.mp_solve.specs.Refused.{AreWithin}
-use Rattle.mp_top.specs.Asked.{TeamRequest, team_request, values_of, names_of_texts}
-use Rattle.mp_top.specs.FirstText.{IsFirstText}
+use Rattle.mp_top.specs.Asked.{TeamRequest, team_request, values_of, names_of_texts, without_heuristic}
+use Rattle.mp_top.specs.FirstText.{AreTextsOf}
 use Rattle.mp_top.specs.Report.{IsEmptyReport}
 use Rattle.mp_top.specs.Team.{IsTeam}
 use Rattle.mp_top.specs.declared.report.Report.{Report}
@@ -48,10 +51,9 @@ abbrev pub printed_text : Bool → List Entry → Answer → Text → Text
 printed_text trace log answer outcome =
     if trace then trace_text log ++ (behind_trace answer ++ 10 ∷ outcome) else outcome
 
--- The texts of a request lead to this team, with nothing wrong in its factors, and this is the text of the first file,
--- where there is one.
-pub record IsTeamOf (held : Option Files) (request : TeamRequest) (first : Option Text) (team : List Factor) : Type 0 where
-  pub is_first : IsFirstText held request.first first
+-- The texts of a request lead to this team, with nothing wrong in its factors, and these are the texts of the first files.
+pub record IsTeamOf (held : Option Files) (request : TeamRequest) (first : List Text) (team : List Factor) : Type 0 where
+  pub are_first : AreTextsOf held request.first first
   pub is_team : IsTeam held request.texts team
   pub one_each : length team ≡ length (names_of_texts request.texts)
   pub checked : All IsChecked team
@@ -89,7 +91,7 @@ pub record IsOutcomeOfSolve
     (text : Text)
     : Type 0 where
   pub team : List Factor
-  pub is_team : IsTeamOf held request None team
+  pub is_team : IsTeamOf held request [] team
   pub outcome : Text
   pub solved : IsSolved s one team report outcome
   pub printed : text ≡ printed_text trace report.log report.answer outcome
@@ -104,7 +106,7 @@ pub record IsOutcomeOfReplay
     : Type 0 where
   pub schedule : Text
   pub team : List Factor
-  pub is_team : IsTeamOf held request (Some schedule) team
+  pub is_team : IsTeamOf held request (schedule ∷ []) team
   pub outcome : Text
   pub replayed : IsReplayedBy s team schedule report outcome
   pub printed : text ≡ printed_text true report.log report.answer outcome
@@ -124,7 +126,7 @@ pub record IsOutcomeOfMake
     (text : Text)
     : Type 0 where
   pub team : List Factor
-  pub is_team : IsTeamOf held request None team
+  pub is_team : IsTeamOf held request [] team
   pub outcome : Text
   pub solved : IsSolved s one team report outcome
   pub printed : text ≡ told_made show (delivery size number) size report.answer
@@ -135,11 +137,6 @@ answer_status Nothing = status.Unfinished
 answer_status (Solved cost length) = status.Solved
 answer_status Unsolvable = status.No
 answer_status Undecided = status.Undecided
-
--- a plan solves, at the cost that its text states
-abbrev pub is_valid : CheckVerdict → ℕ → Bool
-is_valid (Valid cost) stated = cost == stated
-is_valid _ stated = false
 
 -- the status of a call that printed what is found of a plan
 abbrev pub plan_status : CheckVerdict → ℕ → Status
@@ -179,13 +176,51 @@ pub record IsOutcomeOfCheck
     : Type 0 where
   pub first : Text
   pub team : List Factor
-  pub is_team : IsTeamOf held request (Some first) team
+  pub is_team : IsTeamOf held request (first ∷ []) team
   pub plan : PlanText
   pub is_plan : plan_in (length team) first ≡ Ok plan
   pub empty : IsEmptyReport report
   pub printed : text ≡ told_plan steps team plan
   pub is_ended : ended ≡ plan_status (verdict team plan.plan) plan.cost
   pub is_valid_text : (ended ≡ status.Solved) ↔ TellsValid steps team plan text
+
+-- A plan that is solved for without a heuristic, on one thread alone, as for other requests: the report is that of its outcome,
+-- and what certifies the answer is printed, a certificate where a plan was found.
+pub record IsOutcomeOfCertify
+    (held : Option Files)
+    (request : TeamRequest)
+    (limit : ℕ)
+    (report : Report)
+    (text : Text)
+    : Type 0 where
+  pub team : List Factor
+  pub is_team : IsTeamOf held request [] team
+  pub outcome : Text
+  pub within : AreWithin team
+  pub certified : IsCertified limit team (reported report outcome) text
+
+-- the status of a call that printed what an audit finds
+abbrev pub audit_status : PlanAudit → Status
+audit_status found = if found.optimal then status.Solved else status.No
+
+-- A certificate and a plan that are audited: what is found of them is printed, the status tells whether the plan is optimal, and
+-- the report is empty.
+pub record IsOutcomeOfAudit
+    (held : Option Files)
+    (request : TeamRequest)
+    (report : Report)
+    (ended : Status)
+    (text : Text)
+    : Type 0 where
+  pub certificate : Text
+  pub plan : Text
+  pub team : List Factor
+  pub is_team : IsTeamOf held request (certificate ∷ plan ∷ []) team
+  pub found : PlanAudit
+  pub is_audited : IsAudited team certificate plan found
+  pub empty : IsEmptyReport report
+  pub printed : text ≡ found.text
+  pub is_ended : ended ≡ audit_status found
 
 -- what is printed for a request, with the report and the status of its outcome
 abbrev pub IsOutcome : Option Files → Wanted → Report → Status → Text → Type 0
@@ -197,6 +232,10 @@ IsOutcome held (replays w) report ended text =
     × (ended ≡ answer_status report.answer)
 IsOutcome held (checks w) report ended text =
     IsOutcomeOfCheck held (team_request (checks w)) w.steps report ended text
+IsOutcome held (certifies w) report ended text =
+    IsOutcomeOfCertify held (team_request (certifies w)) w.limit report text
+    × (ended ≡ answer_status report.answer)
+IsOutcome held (audits w) report ended text = IsOutcomeOfAudit held (team_request (audits w)) report ended text
 IsOutcome held (makes w) report ended text =
     IsOutcomeOfMake held (team_request (makes w)) w.search w.work.one w.show w.size w.number report text
     × (ended ≡ answer_status report.answer)
@@ -217,6 +256,8 @@ abbrev pub team_in
 team_in held (solves w) report ended text outcome = outcome.0.team
 team_in held (replays w) report ended text outcome = outcome.0.team
 team_in held (checks w) report ended text outcome = outcome.team
+team_in held (certifies w) report ended text outcome = outcome.0.team
+team_in held (audits w) report ended text outcome = outcome.team
 team_in held (makes w) report ended text outcome = outcome.0.team
 
 -- the agents of a request search so
@@ -224,6 +265,8 @@ abbrev pub Searches : Wanted → Searching → Type 0
 Searches (solves w) s = w.search ≡ s
 Searches (replays w) s = w.search ≡ s
 Searches (checks w) s = ⊥
+Searches (certifies w) s = without_heuristic w.limit ≡ s
+Searches (audits w) s = ⊥
 Searches (makes w) s = w.search ≡ s
 
 -- each event is printed
@@ -231,6 +274,8 @@ abbrev pub HasTrace : Wanted → Type 0
 HasTrace (solves w) = w.trace ≡ true
 HasTrace (replays w) = Unit {0}
 HasTrace (checks w) = ⊥
+HasTrace (certifies w) = ⊥
+HasTrace (audits w) = ⊥
 HasTrace (makes w) = ⊥
 
 -- the events of a request happen one after another: those of a schedule that is replayed, or of a search on one thread alone
@@ -238,6 +283,8 @@ abbrev pub IsInTurn : Wanted → Type 0
 IsInTurn (solves w) = w.work.one ≡ true
 IsInTurn (replays w) = Unit {0}
 IsInTurn (checks w) = ⊥
+IsInTurn (certifies w) = Unit {0}
+IsInTurn (audits w) = ⊥
 IsInTurn (makes w) = w.work.one ≡ true
 
 -- One schedule, the same messages between each two agents in the same order, one trace and the same counts, and one answer.

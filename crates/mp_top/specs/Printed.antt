@@ -1,5 +1,5 @@
 -- What telling a decision comes to.
-use Rattle.std.specs.Prelude.{◌≡◌, ◌<◌, ◌⊎◌, [], List, Option}
+use Rattle.std.specs.Prelude.{◌≡◌, ◌<◌, ◌⊎◌, [], List}
 use Rattle.std.specs.Io.KnownBytes.{Appends}
 use Rattle.mp_files.specs.Team.{Two}
 use Rattle.mp_joint.specs.Fact.{Text}
@@ -24,9 +24,9 @@ Writes out err d ended =
 abbrev pub Publishes : SeenSink → SeenSink → Report → Status → Decision → Type 0
 Publishes out err report ended d = (report ≡ report_of d) × Writes out err d ended
 
--- a refusal is told, with the names of the first file and of the files of the agents, and nothing else is done
+-- a refusal is told, with the names of the first files and of the files of the agents, and nothing else is done
 pub record TellsRefusal
-    (first : Option Text)
+    (first : List Text)
     (agents : List Two)
     (out err : SeenSink)
     (before report : Report)

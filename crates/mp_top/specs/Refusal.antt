@@ -1,5 +1,5 @@
 -- Why a call ends without an outcome: its status, and the line that says so.
-use Rattle.std.specs.Prelude.{ℕ, List, [], ◌∷◌, ◌++◌, codes, decimal, slice_get, Option, unwrap_or}
+use Rattle.std.specs.Prelude.{ℕ, List, [], ◌∷◌, ◌++◌, codes, decimal, slice_get, unwrap_or}
 use Rattle.std.specs.Option.{option_map_or}
 use Rattle.mp_joint.specs.Fact.{Text}
 use Rattle.mp_sexp.specs.declared.tree.Place.{Place}
@@ -39,7 +39,7 @@ status_of_first (first.Line number) = status.Line
 abbrev pub status_of : Refusal → Status
 status_of (Files r) = status_of_files r
 status_of (Sizes r) = status_of_sizes r
-status_of (First r) = status_of_first r
+status_of (First place r) = status_of_first r
 
 -- the word of the command line that names a file
 abbrev pub name_of : List Two → FileOf → Text
@@ -113,14 +113,14 @@ line_of_sizes (sizes.TooManyActions agent number) = sizes_line agent (codes "G2 
 line_of_sizes (sizes.TooManyFacts agent number) = sizes_line agent (codes "G1 facts")
 line_of_sizes sizes.OutOfMemory = memory_line
 
--- a refusal of the first file, which has this name
+-- a refusal of a first file, which has this name
 abbrev pub line_of_first : Text → FirstRefusal → Text
 line_of_first name first.Read = read_line name
 line_of_first name first.TooLarge = too_large_line name
 line_of_first name (first.Line number) = refused_line name number
 
--- a refusal, by the names of the first file and of the files of the agents
-abbrev pub line_of : Option Text → List Two → Refusal → Text
-line_of name agents (Files r) = line_of_files agents r
-line_of name agents (Sizes r) = line_of_sizes r
-line_of name agents (First r) = line_of_first (unwrap_or name []) r
+-- a refusal, by the names of the first files and of the files of the agents
+abbrev pub line_of : List Text → List Two → Refusal → Text
+line_of names agents (Files r) = line_of_files agents r
+line_of names agents (Sizes r) = line_of_sizes r
+line_of names agents (First place r) = line_of_first (unwrap_or (slice_get names place) []) r

@@ -1,6 +1,6 @@
 //! What each request is answered with, whoever finds.
 
-ghost use Rattle.std.specs.Prelude.{◌≡◌, ℕ, List, Some, map, option_map, string_bytes, IfOk, IfErr};
+ghost use Rattle.std.specs.Prelude.{◌≡◌, ℕ, List, Some, map, string_bytes, IfOk, IfErr};
 ghost use Rattle.mp_files.specs.Cause.{seen_source};
 ghost use Rattle.mp_files.specs.Fetched.{names_of};
 ghost use Rattle.mp_top.specs.Asked.{KeepsLimits};
@@ -9,12 +9,14 @@ ghost use Rattle.mp_top.specs.Finding.{ComesOfSearch, WhereItMaySearch};
 ghost use Rattle.mp_top.specs.Keeps.{Keeps};
 ghost use Rattle.mp_top.specs.Printed.{Publishes, TellsRefusal};
 ghost use Rattle.mp_top.specs.Report.{IsEmptyReport};
-ghost use Rattle.mp_words.specs.Reads.{check_by, make_by, replay_by, solve_by, wanted_by};
+ghost use Rattle.mp_words.specs.Reads.{audit_by, certify_by, check_by, make_by, replay_by, solve_by, wanted_by};
 ghost use Rattle.mp_words.specs.Requests.{request_of};
-ghost use Rattle.mp_words.specs.Requests.Wanted.{checks, makes, replays, solves};
+ghost use Rattle.mp_words.specs.Requests.Wanted.{audits, certifies, checks, makes, replays, solves};
 
 use crate::asked::{asked, files_of};
-use crate::deciding::{decide_check, decide_make, decide_replay, decide_solve, size_of};
+use crate::deciding::{
+    decide_audit, decide_certify, decide_check, decide_make, decide_replay, decide_solve, size_of,
+};
 use crate::decision::{Decision, Search};
 use crate::finding::Workers;
 use crate::first::one_first;
@@ -28,7 +30,7 @@ use mp_ground::GroundRefusal;
 use mp_outside::{Sink, Source, put_all};
 use mp_solve::Solution;
 use mp_typing::CheckedFactor;
-use mp_words::{Check, Make, Replay, Request, Solve};
+use mp_words::{Audit, Certify, Check, Make, Replay, Request, Solve};
 use std::alloc::Global;
 
 /// Keeps the decision in the report and writes its text.
@@ -60,10 +62,10 @@ fn publish<K: Sink, E: Sink>(
 }
 
 /// Ends a call with what was decided: a decision is kept and written, a refusal told on `err`, with the names of the first
-/// file, where there is one, and of the files of the agents.
+/// files and of the files of the agents.
 fn end<K: Sink, E: Sink>(
     decided: Result<Decision, Refusal>,
-    first: Option<&str>,
+    first: &[&str],
     files: &[AgentFiles<'_>],
     out: &mut K,
     err: &mut E,
@@ -71,7 +73,7 @@ fn end<K: Sink, E: Sink>(
 ) -> Status
     ensures outcome { IfOk decided (Publishes (seen_sink K.written K.faults out.old out.new)
         (seen_sink E.written E.faults err.old err.new) report.new result) }
-    ensures refusal { IfErr decided (TellsRefusal (option_map (λ name. name.now) first.entry) (map names_of files.now)
+    ensures refusal { IfErr decided (TellsRefusal (map (λ name. name.now) first.now) (map names_of files.now)
         (seen_sink K.written K.faults out.old out.new) (seen_sink E.written E.faults err.old err.new)
         report.old report.new result) }
 {
@@ -120,7 +122,7 @@ fn answer_solve<
         return Status::Memory;
     };
     let decided = decide_solve(alloc, source, request, files.as_slice(), find);
-    end(decided, None, files.as_slice(), out, err, report)
+    end(decided, &[], files.as_slice(), out, err, report)
 }
 
 /// Answers a request for what a team does by a schedule.
@@ -153,7 +155,7 @@ fn answer_replay<S: Source, K: Sink, E: Sink>(
     let decided = decide_replay(alloc, source, request, files.as_slice());
     end(
         decided,
-        Some(request.schedule),
+        &[request.schedule],
         files.as_slice(),
         out,
         err,
@@ -188,9 +190,70 @@ fn answer_check<S: Source, K: Sink, E: Sink>(
         return Status::Memory;
     };
     let decided = decide_check(alloc, source, request, files.as_slice());
+    end(decided, &[request.plan], files.as_slice(), out, err, report)
+}
+
+/// Answers a request for what certifies the answer of a team.
+fn answer_certify<S: Source, K: Sink, E: Sink>(
+    alloc: Global,
+    request: &Certify<'_>,
+    source: &mut S,
+    out: &mut K,
+    err: &mut E,
+    report: &mut Report,
+) -> Status
+    requires { KeepsLimits (certifies (certify_by request.now)) }
+    ensures { (ws : List (List ℕ)) → request_of ws ≡ Some (certifies (certify_by request.now)) → Keeps (record {
+      words = ws;
+      source = seen_source S.held S.faults S.fault_at source.old source.new;
+      acts = seen_acts S.acts source.old source.new;
+      out = seen_sink K.written K.faults out.old out.new;
+      err = seen_sink E.written E.faults err.old err.new;
+      before = report.old;
+      report = report.new;
+      status = result;
+    }) }
+{
+    one_first();
+    undecided_is_spent();
+    let Ok(files) = files_of(alloc, request.names.as_slice()) else {
+        tell_memory(err);
+        return Status::Memory;
+    };
+    let decided = decide_certify(alloc, source, request, files.as_slice());
+    end(decided, &[], files.as_slice(), out, err, report)
+}
+
+/// Answers a request for what an audit of a certificate and a plan finds.
+fn answer_audit<S: Source, K: Sink, E: Sink>(
+    alloc: Global,
+    request: &Audit<'_>,
+    source: &mut S,
+    out: &mut K,
+    err: &mut E,
+    report: &mut Report,
+) -> Status
+    requires { KeepsLimits (audits (audit_by request.now)) }
+    ensures { (ws : List (List ℕ)) → request_of ws ≡ Some (audits (audit_by request.now)) → Keeps (record {
+      words = ws;
+      source = seen_source S.held S.faults S.fault_at source.old source.new;
+      acts = seen_acts S.acts source.old source.new;
+      out = seen_sink K.written K.faults out.old out.new;
+      err = seen_sink E.written E.faults err.old err.new;
+      before = report.old;
+      report = report.new;
+      status = result;
+    }) }
+{
+    one_first();
+    let Ok(files) = files_of(alloc, request.names.as_slice()) else {
+        tell_memory(err);
+        return Status::Memory;
+    };
+    let decided = decide_audit(alloc, source, request, files.as_slice());
     end(
         decided,
-        Some(request.plan),
+        &[request.certificate, request.plan],
         files.as_slice(),
         out,
         err,
@@ -235,7 +298,7 @@ fn answer_make<
         return Status::Memory;
     };
     let decided = decide_make(alloc, request, find);
-    end(decided, None, files.as_slice(), out, err, report)
+    end(decided, &[], files.as_slice(), out, err, report)
 }
 
 /// Answers a request: the outcome on `out` and in the report, or the line of a refusal on `err`.
@@ -271,13 +334,15 @@ fn answer_request<
         Request::Solve(solve) => answer_solve(alloc, solve, find, source, out, err, report),
         Request::Replay(replay) => answer_replay(alloc, replay, source, out, err, report),
         Request::Check(check) => answer_check(alloc, check, source, out, err, report),
+        Request::Certify(certify) => answer_certify(alloc, certify, source, out, err, report),
+        Request::Audit(audit) => answer_audit(alloc, audit, source, out, err, report),
         Request::Make(make) => answer_make(alloc, *make, find, source, out, err, report),
     }
 }
 
 /// Does all that the program does for the words of a command line, and what is found for a request is found by `find`:
-/// reads the files of a team or makes it, lets its agents search or do the events of a schedule, or checks a plan, keeps
-/// what was found in the report and prints it, or tells `err` in one line why not.
+/// reads the files of a team or makes it, lets its agents search or do the events of a schedule, or checks a plan or a
+/// certificate, keeps what was found in the report and prints it, or tells `err` in one line why not.
 ///
 /// The text is made as a whole before the first write, and the writing takes no memory.
 pub(crate) fn answer<

@@ -1,6 +1,6 @@
 //! What is found of a plan.
 
-ghost use Rattle.std.specs.Prelude.{◌≡◌, ◌≤◌, ◌==◌, true, false, List as ListOf, length, IfOk, IfErr, if◌then◌else◌};
+ghost use Rattle.std.specs.Prelude.{◌≡◌, ◌≤◌, ◌==◌, ◌∷◌, [], true, false, List as ListOf, length, IfOk, IfErr, if◌then◌else◌};
 ghost use Rattle.mp_factor.specs.declared.factor.Factor.{Factor as FactorParts};
 ghost use Rattle.mp_plan_verdict.specs.declared.verdict.CheckVerdict.TheVariants.{Valid};
 ghost use Rattle.mp_plans.specs.Packed.{steps_text as steps_text_of};
@@ -8,7 +8,7 @@ ghost use Rattle.mp_plans.specs.Verdict.{verdict_text as verdict_text_of};
 ghost use Rattle.mp_steps.specs.Packed.{IsRefused};
 ghost use Rattle.mp_top.specs.Asked.Work.{checked as checked_work};
 ghost use Rattle.mp_top.specs.Decided.{ChecksFor, IsRefusedTeam, IsToldByTeam, IsToldOfPlan, IsToldOfSteps};
-ghost use Rattle.mp_top.specs.Outcome.{is_valid as is_valid_of, plan_status};
+ghost use Rattle.mp_top.specs.Outcome.{plan_status};
 
 use crate::decision::Decision;
 use crate::refusal::{FirstRefusal, Refusal};
@@ -16,26 +16,13 @@ use crate::status::Status;
 use mp_checker::{CheckVerdict, check};
 use mp_list::{List, OutOfMemory};
 use mp_messages::Bytes;
+use mp_optimality::is_valid;
 use mp_plans::{PlanText, read_plan, steps_text, verdict_text};
 use mp_steps::{PackRefusal, Packed, pack};
 use mp_text::LineRefusal;
 use mp_typing::CheckedFactor;
 use mp_world::Answer;
 use std::alloc::Global;
-
-/// Whether a plan solves, at the cost that its text states.
-fn is_valid(found: &CheckVerdict, stated: u64) -> bool
-    ensures { result ≡ is_valid_of found.now stated }
-{
-    match found {
-        CheckVerdict::Valid(cost) => *cost == stated,
-        CheckVerdict::NoAction(_) => false,
-        CheckVerdict::Missing(_, _) => false,
-        CheckVerdict::Forbidden(_, _) => false,
-        CheckVerdict::GoalMissing(_) => false,
-        CheckVerdict::GoalForbidden(_) => false,
-    }
-}
 
 /// The status of a call that printed what is found of a plan.
 fn status_of_plan(found: &CheckVerdict, stated: u64) -> Status
@@ -166,11 +153,11 @@ pub(crate) fn check_for(
     requires at_most { length team.now ≤ 16 }
     requires short { length text.now ≤ 4194304 }
     ensures outcome { IfOk result (ChecksFor steps text.now team.now) }
-    ensures refused { IfErr result (IsRefusedTeam checked_work team.now text.now) }
+    ensures refused { IfErr result (IsRefusedTeam checked_work team.now (text.now ∷ [])) }
 {
     match read_plan(alloc, text, team.len() as u16) {
         Ok(plan) => Ok(tell_plan(alloc, team, &plan, steps)?),
-        Err(LineRefusal::Line(number)) => Err(Refusal::First(FirstRefusal::Line(number))),
+        Err(LineRefusal::Line(number)) => Err(Refusal::First(0, FirstRefusal::Line(number))),
         Err(LineRefusal::OutOfMemory) => Err(Refusal::from(OutOfMemory)),
     }
 }

@@ -10,14 +10,15 @@ ghost use Rattle.mp_top.specs.Cause.{Rests};
 ghost use Rattle.mp_top.specs.Decided.{Decides};
 ghost use Rattle.mp_top.specs.Finding.{ComesOfSearch, WhereItMaySearch};
 ghost use Rattle.mp_top.specs.Refusal.{status_of};
-ghost use Rattle.mp_words.specs.Reads.{check_by, make_by, replay_by as replay_asked, solve_by};
-ghost use Rattle.mp_words.specs.Requests.Wanted.{checks, makes, replays, solves};
+ghost use Rattle.mp_words.specs.Reads.{audit_by, certify_by, check_by, make_by, replay_by as replay_asked, solve_by};
+ghost use Rattle.mp_words.specs.Requests.Wanted.{audits, certifies, checks, makes, replays, solves};
 
 use crate::checking::check_for;
 use crate::decision::{Decision, Search};
 use crate::finding::Workers;
-use crate::first_file::{LONGEST_PLAN, LONGEST_SCHEDULE, first_text};
+use crate::first_file::{LONGEST_CERTIFICATE, LONGEST_PLAN, LONGEST_SCHEDULE, first_text};
 use crate::making::{made_team, make_for};
+use crate::optimality::{audit_for, certify_for};
 use crate::refusal::Refusal;
 use crate::searching::{replay_by, solve_for};
 use crate::status::Status;
@@ -28,7 +29,7 @@ use mp_maker::delivery;
 use mp_outside::Source;
 use mp_solve::Solution;
 use mp_typing::CheckedFactor;
-use mp_words::{Check, Make, Replay, Solve};
+use mp_words::{Audit, Certify, Check, Make, Replay, Solve};
 use std::alloc::Global;
 
 /// A cheapest plan for the agents with these files.
@@ -90,7 +91,7 @@ pub(crate) fn decide_replay<S: Source>(
     ensures acts { Does (AreReadInTurn (files_asked (team_request (replays (replay_asked request.now)))))
         (S.acts source.old) (S.acts source.new) }
 {
-    let text = first_text(alloc, source, request.schedule, LONGEST_SCHEDULE)?;
+    let text = first_text(alloc, source, request.schedule, LONGEST_SCHEDULE, 0)?;
     let team = match read_team(alloc, source, files) {
         Ok(team) => team,
         Err(refusal) => return Err(Refusal::Files(refusal)),
@@ -120,13 +121,73 @@ pub(crate) fn decide_check<S: Source>(
     ensures acts { Does (AreReadInTurn (files_asked (team_request (checks (check_by request.now)))))
         (S.acts source.old) (S.acts source.new) }
 {
-    let text = first_text(alloc, source, request.plan, LONGEST_PLAN)?;
+    let text = first_text(alloc, source, request.plan, LONGEST_PLAN, 0)?;
     let team = match read_team(alloc, source, files) {
         Ok(team) => team,
         Err(refusal) => return Err(Refusal::Files(refusal)),
     };
     checked_factors_are_checked(team.as_slice());
     check_for(alloc, team.as_slice(), text.as_slice(), request.steps)
+}
+
+/// What certifies the answer of the agents with these files.
+pub(crate) fn decide_certify<S: Source>(
+    alloc: Global,
+    source: &mut S,
+    request: &Certify<'_>,
+    files: &[AgentFiles<'_>],
+) -> Result<Decision, Refusal>
+    requires keeps { KeepsLimits (certifies (certify_by request.now)) }
+    requires names { map names_of files.now ≡ agents_of (certify_by request.now).names }
+    ensures outcome { IfOk result (Decides (S.held source.old) (certifies (certify_by request.now))) }
+    ensures cause { IfErr result (Rests (seen_source S.held S.faults S.fault_at source.old source.new)
+        (team_request (certifies (certify_by request.now)))) }
+    ensures no_fault { IfOk result (λ _. S.faults source.new ≡ S.faults source.old) }
+    ensures fault { IfErr result (λ r. S.faults source.old < S.faults source.new → status_of r ≡ Status.Read) }
+    ensures acts { Does (AreReadInTurn (files_asked (team_request (certifies (certify_by request.now)))))
+        (S.acts source.old) (S.acts source.new) }
+{
+    let team = match read_team(alloc, source, files) {
+        Ok(team) => team,
+        Err(refusal) => return Err(Refusal::Files(refusal)),
+    };
+    checked_factors_are_checked(team.as_slice());
+    match certify_for(alloc, team.as_slice(), request.limit) {
+        Ok(decision) => Ok(decision),
+        Err(refusal) => Err(Refusal::Sizes(refusal)),
+    }
+}
+
+/// What an audit of a certificate and a plan finds, whose files are fetched first, for the agents with these files.
+pub(crate) fn decide_audit<S: Source>(
+    alloc: Global,
+    source: &mut S,
+    request: &Audit<'_>,
+    files: &[AgentFiles<'_>],
+) -> Result<Decision, Refusal>
+    requires keeps { KeepsLimits (audits (audit_by request.now)) }
+    requires names { map names_of files.now ≡ agents_of (audit_by request.now).names }
+    ensures outcome { IfOk result (Decides (S.held source.old) (audits (audit_by request.now))) }
+    ensures cause { IfErr result (Rests (seen_source S.held S.faults S.fault_at source.old source.new)
+        (team_request (audits (audit_by request.now)))) }
+    ensures no_fault { IfOk result (λ _. S.faults source.new ≡ S.faults source.old) }
+    ensures fault { IfErr result (λ r. S.faults source.old < S.faults source.new → status_of r ≡ Status.Read) }
+    ensures acts { Does (AreReadInTurn (files_asked (team_request (audits (audit_by request.now)))))
+        (S.acts source.old) (S.acts source.new) }
+{
+    let certificate = first_text(alloc, source, request.certificate, LONGEST_CERTIFICATE, 0)?;
+    let plan = first_text(alloc, source, request.plan, LONGEST_PLAN, 1)?;
+    let team = match read_team(alloc, source, files) {
+        Ok(team) => team,
+        Err(refusal) => return Err(Refusal::Files(refusal)),
+    };
+    checked_factors_are_checked(team.as_slice());
+    audit_for(
+        alloc,
+        team.as_slice(),
+        certificate.as_slice(),
+        plan.as_slice(),
+    )
 }
 
 /// The size of a team that is made.

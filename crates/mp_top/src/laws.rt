@@ -90,8 +90,9 @@ pub fn renaming_changes_no_outcome()
 }
 
 /// Where a source tells what it holds, nothing of that is refused for a request, and neither the source nor the output had a
-/// fault, a call answers: `solve` and `make` that a plan was found, that there is none, or that nothing is decided; `replay`
-/// so, or that the schedule ended before; `check` that the plan is valid, or that it is not; or memory ran out.
+/// fault, a call answers: `solve`, `certify` and `make` that a plan was found, that there is none, or that nothing is decided;
+/// `replay` so, or that the schedule ended before; `check` and `steps` that the plan is valid, or that it is not; `audit` that it
+/// is optimal, or that this is not shown; or memory ran out.
 pub fn answers_are_complete()
     ensures { (call : Call) (files : Files) (request : Wanted)
         → Keeps call → call.source.held ≡ Some files → request_of call.words ≡ Some request

@@ -1,4 +1,4 @@
-//! The top call: words in, files read, a team's plan searched or checked, a text printed.
+//! The top call: words in, files read, a team's plan searched, checked, certified or audited, a text printed.
 #![tactic(auto)]
 
 mod answering;
@@ -15,6 +15,7 @@ mod laws;
 mod making;
 mod on_one_thread;
 mod on_threads;
+mod optimality;
 mod refusal;
 mod report;
 mod searching;

@@ -20,7 +20,7 @@ use mp_typing::CheckedFactor;
 use std::alloc::Global;
 
 /// Does all that the program does for words that need no second thread: reads the files of a team or makes it, lets
-/// its agents search or do the events of a schedule, or checks a plan, keeps what was found in the report and prints it, or
+/// its agents search or do the events of a schedule, or checks a plan or a certificate, keeps what was found in the report and prints it, or
 /// tells `err` in one line why not. It always returns.
 ///
 /// The text is made as a whole before the first write, and the writing takes no memory.

@@ -1,6 +1,6 @@
 //! Why a call ends without an outcome, and the line that says so.
 
-ghost use Rattle.std.specs.Prelude.{◌≡◌, ◌++◌, ◌∷◌, [], codes, decimal, map, option_map, unwrap_or};
+ghost use Rattle.std.specs.Prelude.{◌≡◌, ◌++◌, ◌∷◌, [], codes, decimal, map, slice_get, unwrap_or};
 ghost use Rattle.std.specs.List.{flat_map};
 ghost use Rattle.mp_files.specs.Fetched.{names_of};
 ghost use Rattle.mp_top.specs.Call.{seen_sink, Says};
@@ -20,17 +20,18 @@ use mp_sets::Agent;
 use mp_sexp::Place;
 use thiserror::Error;
 
-/// Why the file with a schedule or a plan, which stands before those of the agents, is refused.
+/// Why a file that stands before those of the agents, with a schedule, a plan or a certificate, is refused.
 #[derive(Clone, Copy, Debug, PartialEq, Eq, Error)]
 pub enum FirstRefusal {
     /// The file is not held, or reading it failed.
     #[error("read")]
     Read,
-    /// The file has more bytes than it may have: 67,108,864 for a schedule, 4,194,304 for a plan.
+    /// The file has more bytes than it may have: 67,108,864 for a schedule or a certificate, 4,194,304 for a plan.
     #[error("too large")]
     TooLarge,
     /// The line of this number, from 1: of a schedule, it is neither of an event nor of a message, or its event may not
-    /// happen; of a plan, it is not of its form, or the line after the last one is missing.
+    /// happen; of a plan, it is not of its form, or the line after the last one is missing; of a certificate, it is not of its
+    /// form, or does not fit the team.
     #[error("line {0}")]
     Line(u64),
 }
@@ -44,9 +45,9 @@ pub enum Refusal {
     /// The factor of an agent is not grounded, since it is too large.
     #[error("sizes")]
     Sizes(GroundRefusal),
-    /// The file of the schedule or plan is refused.
+    /// Of the files before those of the agents the one at this place, from 0, is refused.
     #[error("first file")]
-    First(FirstRefusal),
+    First(usize, FirstRefusal),
 }
 
 impl From<OutOfMemory> for Refusal {
@@ -132,7 +133,7 @@ fn status_of_sizes_refused(refusal: &GroundRefusal) -> Status
     }
 }
 
-/// The status of a call whose schedule or plan is refused.
+/// The status of a call whose schedule, plan or certificate is refused.
 fn status_of_first_refused(refusal: FirstRefusal) -> Status
     ensures { result ≡ status_of_first refusal }
 {
@@ -196,7 +197,7 @@ fn tell_sizes<E: Sink>(refusal: &GroundRefusal, err: &mut E)
     }
 }
 
-/// Writes the line for a line of the schedule or plan that is refused.
+/// Writes the line for a line of a schedule, plan or certificate that is refused.
 fn tell_line<E: Sink>(err: &mut E, name: &[u8], number: u64)
     ensures { Says (seen_sink E.written E.faults err.old err.new) (refused_line name.now number) }
 {
@@ -205,7 +206,7 @@ fn tell_line<E: Sink>(err: &mut E, name: &[u8], number: u64)
     say(err, &[b"maplan: ", name, b": line ", digits, b" refused\n"])
 }
 
-/// Writes the line for the schedule or plan of this name that is refused.
+/// Writes the line for the schedule, plan or certificate of this name that is refused.
 fn tell_first<E: Sink>(name: &[u8], refusal: FirstRefusal, err: &mut E)
     ensures { Says (seen_sink E.written E.faults err.old err.new) (line_of_first name.now refusal) }
 {
@@ -216,11 +217,11 @@ fn tell_first<E: Sink>(name: &[u8], refusal: FirstRefusal, err: &mut E)
     }
 }
 
-/// The word of the command line that names the schedule or plan; nothing where there is none.
-fn first_name(first: Option<&str>) -> &[u8]
-    ensures { result.now ≡ unwrap_or (option_map (λ name. name.now) first.entry) [] }
+/// The word of the command line that names the first file at a place; nothing where there is none.
+fn first_name<'a>(first: &[&'a str], place: usize) -> &'a [u8]
+    ensures { result.now ≡ unwrap_or (slice_get (map (λ name. name.now) first.now) place) [] }
 {
-    match first {
+    match first.get(place) {
         Some(name) => name.as_bytes(),
         None => b"",
     }
@@ -234,19 +235,19 @@ impl Refusal {
         match self {
             Refusal::Files(refusal) => status_of_files_refused(refusal),
             Refusal::Sizes(refusal) => status_of_sizes_refused(refusal),
-            Refusal::First(refusal) => status_of_first_refused(*refusal),
+            Refusal::First(_, refusal) => status_of_first_refused(*refusal),
         }
     }
 
     /// Writes the line that says so, without taking memory. A fault of the sink changes nothing else.
-    pub(crate) fn tell<E: Sink>(&self, first: Option<&str>, files: &[AgentFiles<'_>], err: &mut E)
+    pub(crate) fn tell<E: Sink>(&self, first: &[&str], files: &[AgentFiles<'_>], err: &mut E)
         ensures { Says (seen_sink E.written E.faults err.old err.new)
-            (line_of (option_map (λ name. name.now) first.entry) (map names_of files.now) self.now) }
+            (line_of (map (λ name. name.now) first.now) (map names_of files.now) self.now) }
     {
         match self {
             Refusal::Files(refusal) => tell_files(files, refusal, err),
             Refusal::Sizes(refusal) => tell_sizes(refusal, err),
-            Refusal::First(refusal) => tell_first(first_name(first), *refusal, err),
+            Refusal::First(place, refusal) => tell_first(first_name(first, *place), *refusal, err),
         }
     }
 }

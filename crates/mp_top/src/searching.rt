@@ -1,6 +1,6 @@
 //! What a team does that searches, by turns or by the events of a schedule.
 
-ghost use Rattle.std.specs.Prelude.{◌≡◌, ◌≤◌, length, true, IfOk, IfErr, OnOk};
+ghost use Rattle.std.specs.Prelude.{◌≡◌, ◌≤◌, ◌∷◌, [], length, true, IfOk, IfErr, OnOk};
 ghost use Rattle.mp_solutions.specs.Solution.{IsReplayed, IsSolution};
 ghost use Rattle.mp_solve.specs.Refused.{AreWithin, Refuses};
 ghost use Rattle.mp_split.specs.Team.{IsFirstRefusal};
@@ -121,7 +121,7 @@ fn replay_refused(refusal: ReplayRefusal) -> Refusal
 {
     match refusal {
         ReplayRefusal::Sizes(refusal) => Refusal::Sizes(refusal),
-        ReplayRefusal::Line(number) => Refusal::First(FirstRefusal::Line(number)),
+        ReplayRefusal::Line(number) => Refusal::First(0, FirstRefusal::Line(number)),
     }
 }
 
@@ -137,7 +137,7 @@ pub(crate) fn replay_by(
     requires some { 1 ≤ length team.now }
     requires at_most { length team.now ≤ 16 }
     ensures outcome { IfOk result (ReplaysBy (searching_by search) text.now team.now) }
-    ensures refused { IfErr result (IsRefusedTeam (replayed_work (searching_by search)) team.now text.now) }
+    ensures refused { IfErr result (IsRefusedTeam (replayed_work (searching_by search)) team.now (text.now ∷ [])) }
 {
     match replayed(alloc, team, search, text) {
         Ok(solution) => Ok(traced(alloc, solution, true)?),

@@ -7,9 +7,9 @@ ghost use Rattle.mp_top.specs.Status.{code_of};
 /// and the last.
 #[derive(Clone, Copy, Debug, PartialEq, Eq)]
 pub enum Status {
-    /// A plan was found and printed.
+    /// A plan was found, or one is valid or optimal.
     Solved,
-    /// There is no plan.
+    /// There is no plan, or one is not valid or not shown to be optimal.
     No,
     /// The limit of expansions was reached before an answer.
     Undecided,
@@ -25,7 +25,7 @@ pub enum Status {
     Write,
     /// No memory was left.
     Memory,
-    /// A line of a schedule or plan is refused.
+    /// A line of a schedule, plan or certificate is refused.
     Line,
     /// A schedule ended before the run was over.
     Unfinished,

@@ -1,6 +1,6 @@
 //! What accepted words ask for, told.
 
-use mp_words::{Check, Choice, Make, Replay, Request, Solve};
+use mp_words::{Audit, Certify, Check, Choice, Make, Replay, Request, Solve};
 use std::alloc::AllocError;
 
 /// The word of a heuristic, and what it is.
@@ -84,6 +84,27 @@ fn tell_check(out: &mut String, check: &Check<'_>) -> Result<(), AllocError> {
     tell_files(out, check.names.as_slice())
 }
 
+/// Writes what `certify` is asked for.
+fn tell_certify(out: &mut String, certify: &Certify<'_>) -> Result<(), AllocError> {
+    out.push_str(
+        "certify: a certificate that no joint plan of these agents is cheaper than the one that they find\n",
+    )?;
+    tell_search(out, Choice::Blind, certify.limit)?;
+    out.push_str("threads: one\n")?;
+    tell_files(out, certify.names.as_slice())
+}
+
+/// Writes what `audit` is asked for.
+fn tell_audit(out: &mut String, audit: &Audit<'_>) -> Result<(), AllocError> {
+    let certificate = audit.certificate;
+    let plan = audit.plan;
+    write!(
+        out,
+        "audit: whether the certificate {certificate} shows that no joint plan of these agents is cheaper than the plan {plan}\n"
+    )?;
+    tell_files(out, audit.names.as_slice())
+}
+
 /// Writes what `make` is asked for.
 fn tell_make(out: &mut String, make: Make) -> Result<(), AllocError> {
     let size = make.size;
@@ -107,6 +128,8 @@ pub(crate) fn tell_accepted(out: &mut String, request: &Request<'_>) -> Result<(
         Request::Solve(solve) => tell_solve(out, solve),
         Request::Replay(replay) => tell_replay(out, replay),
         Request::Check(check) => tell_check(out, check),
+        Request::Certify(certify) => tell_certify(out, certify),
+        Request::Audit(audit) => tell_audit(out, audit),
         Request::Make(make) => tell_make(out, *make),
     }
 }

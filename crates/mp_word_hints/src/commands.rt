@@ -7,11 +7,15 @@ pub enum Command {
     Replay,
     Check,
     Steps,
+    Certify,
+    Audit,
     Make,
 }
 
 /// The names of all commands.
-pub(crate) const NAMES: [&str; 5] = ["solve", "replay", "check", "steps", "make"];
+pub(crate) const NAMES: [&str; 7] = [
+    "solve", "replay", "check", "steps", "certify", "audit", "make",
+];
 
 /// The command of this name.
 pub fn command_of(name: &str) -> Option<Command> {
@@ -20,12 +24,23 @@ pub fn command_of(name: &str) -> Option<Command> {
         "replay" => Some(Command::Replay),
         "check" => Some(Command::Check),
         "steps" => Some(Command::Steps),
+        "certify" => Some(Command::Certify),
+        "audit" => Some(Command::Audit),
         "make" => Some(Command::Make),
         _ => None,
     }
 }
 
 impl Command {
+    /// How many names of files stand before those of the agents.
+    pub(crate) fn files_before(self) -> usize {
+        match self {
+            Command::Solve | Command::Certify | Command::Make => 0,
+            Command::Replay | Command::Check | Command::Steps => 1,
+            Command::Audit => 2,
+        }
+    }
+
     /// Its name.
     pub(crate) fn name(self) -> &'static str {
         match self {
@@ -33,6 +48,8 @@ impl Command {
             Command::Replay => "replay",
             Command::Check => "check",
             Command::Steps => "steps",
+            Command::Certify => "certify",
+            Command::Audit => "audit",
             Command::Make => "make",
         }
     }
@@ -47,6 +64,8 @@ pub fn usage_of(command: Command) -> &'static str {
         Command::Replay => "replay [--limit N] [--h blind|max|cut|pdb] SCHEDULE D1 P1 ..",
         Command::Check => "check PLAN D1 P1 ..",
         Command::Steps => "steps PLAN D1 P1 ..",
+        Command::Certify => "certify [--limit N] D1 P1 ..",
+        Command::Audit => "audit CERTIFICATE PLAN D1 P1 ..",
         Command::Make => {
             "make [--limit N] [--h blind|max|cut|pdb] [--one] [--workers N] [--show] delivery SIZE NUMBER"
         }

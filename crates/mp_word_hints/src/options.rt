@@ -82,7 +82,8 @@ impl Setting {
             Command::Solve => self != Setting::Show,
             Command::Make => self != Setting::Trace,
             Command::Replay => self == Setting::Limit || self == Setting::Heuristic,
-            Command::Check | Command::Steps => false,
+            Command::Certify => self == Setting::Limit,
+            Command::Check | Command::Steps | Command::Audit => false,
         }
     }
 

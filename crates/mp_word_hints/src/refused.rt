@@ -52,6 +52,14 @@ fn tell_count(out: &mut String, command: Option<Command>, count: usize) -> Resul
             out,
             "`solve` wants a domain file and a problem file of each of 1 to 16 agents, so 2 to 32 names, an even number; here are {count}\n"
         ),
+        Some(Command::Certify) => write!(
+            out,
+            "`certify` wants a domain file and a problem file of each of 1 to 16 agents, so 2 to 32 names, an even number; here are {count}\n"
+        ),
+        Some(Command::Audit) => write!(
+            out,
+            "the files of a certificate and of a plan come first, and then a domain file and a problem file of each of 1 to 16 agents, so 4 to 34 names, an even number; here are {count}\n"
+        ),
         Some(Command::Make) => write!(
             out,
             "`make` wants three words, `delivery`, a size and a number; here are {count}\n"

@@ -115,8 +115,7 @@ impl<'a> Seen<'a> {
     /// What is wrong with the number of plain words.
     fn fault_of_files(&self) -> Option<WordFault<'a>> {
         let count = self.plain.len();
-        let before = if self.command == Command::Solve { 0 } else { 1 };
-        let files = count.saturating_sub(before);
+        let files = count.saturating_sub(self.command.files_before());
         if files < 2 || files > 32 || files % 2 != 0 {
             return Some(WordFault::Count(count));
         }

@@ -40,6 +40,19 @@ pub record ToCheck : Type 0 where
   pub plan : List ℕ
   pub names : List (List ℕ)
 
+-- a certificate that no plan for the agents of these files is cheaper than the one that they find
+pub record ToCertify : Type 0 where
+  -- how many entries an agent may expand
+  pub limit : ℕ
+  pub names : List (List ℕ)
+
+-- whether the certificate in a file shows that no plan is cheaper than the one in another file, which solves the united
+-- problem of these files at the cost that it states
+pub record ToAudit : Type 0 where
+  pub certificate : List ℕ
+  pub plan : List ℕ
+  pub names : List (List ℕ)
+
 -- a summary of a cheapest plan for the team of this size and number of the delivery family
 pub record ToMake : Type 0 where
   pub search : Searching
@@ -54,6 +67,8 @@ pub data Wanted : Type 0 where
   solves : ToSolve → Wanted
   replays : ToReplay → Wanted
   checks : ToCheck → Wanted
+  certifies : ToCertify → Wanted
+  audits : ToAudit → Wanted
   makes : ToMake → Wanted
 
 abbrev pub is_even : ℕ → Bool
@@ -116,6 +131,26 @@ check_of steps a =
     if is_none a.awaited && (has_no_search a && (has_no_work a && not (a.trace || a.show))) then check_with steps a.plain
     else None
 
+-- `certify [--limit N] D1 P1 D2 P2 ..`
+abbrev pub certify_of : Asked → Option Wanted
+certify_of a =
+    if is_none a.awaited && (is_none a.heuristic && (has_no_work a && (not (a.trace || a.show) && is_team a.plain))) then
+    Some (certifies (record { limit = unwrap_or a.limit 200000; names = a.plain }))
+    else None
+
+-- the names of the agents' files behind those of the certificate and the plan
+abbrev pub audit_with : List (List ℕ) → Option Wanted
+audit_with [] = None
+audit_with (certificate ∷ []) = None
+audit_with (certificate ∷ plan ∷ names) =
+    if is_team names then Some (audits (record { certificate = certificate; plan = plan; names = names })) else None
+
+-- `audit CERTIFICATE PLAN D1 P1 D2 P2 ..`
+abbrev pub audit_of : Asked → Option Wanted
+audit_of a =
+    if is_none a.awaited && (has_no_search a && (has_no_work a && not (a.trace || a.show))) then audit_with a.plain
+    else None
+
 -- a size is 1 to 8, and a number up to 999,999
 abbrev pub make_with : Asked → List ℕ → List ℕ → Option Wanted
 make_with a size number =
@@ -142,6 +177,8 @@ command_of command a =
     else if bytes_eq command (codes "replay") then replay_of a
     else if bytes_eq command (codes "check") then check_of false a
     else if bytes_eq command (codes "steps") then check_of true a
+    else if bytes_eq command (codes "certify") then certify_of a
+    else if bytes_eq command (codes "audit") then audit_of a
     else if bytes_eq command (codes "make") then make_of a else None
 
 -- A command, and behind it its options, anywhere, and its plain words.

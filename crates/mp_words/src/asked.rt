@@ -59,6 +59,24 @@ pub struct Check<'a> {
     pub names: Vec<&'a str>,
 }
 
+/// A certificate that no plan for the agents of these files is cheaper than the one that they find.
+pub struct Certify<'a> {
+    /// How many entries an agent may expand: 1 to 10,000,000.
+    pub limit: u64,
+    /// The names of the agents' files, an agent's domain and then its problem.
+    pub names: Vec<&'a str>,
+}
+
+/// Whether a certificate shows that no plan for the agents of these files is cheaper than this one.
+pub struct Audit<'a> {
+    /// The name of the file with the certificate.
+    pub certificate: &'a str,
+    /// The name of the file with the plan.
+    pub plan: &'a str,
+    /// The names of the agents' files, an agent's domain and then its problem.
+    pub names: Vec<&'a str>,
+}
+
 /// A summary of a cheapest plan for a team of the delivery family.
 #[derive(Clone, Copy, Debug)]
 pub struct Make {
@@ -84,6 +102,8 @@ pub enum Request<'a> {
     Solve(Solve<'a>),
     Replay(Replay<'a>),
     Check(Check<'a>),
+    Certify(Certify<'a>),
+    Audit(Audit<'a>),
     Make(Make),
 }
 
@@ -115,6 +135,22 @@ impl<'a> Drop for Check<'a> {
     fn drop(self) {
         let Check {
             steps: _,
+            plan: _,
+            names: _,
+        } = self;
+    }
+}
+
+impl<'a> Drop for Certify<'a> {
+    fn drop(self) {
+        let Certify { limit: _, names: _ } = self;
+    }
+}
+
+impl<'a> Drop for Audit<'a> {
+    fn drop(self) {
+        let Audit {
+            certificate: _,
             plan: _,
             names: _,
         } = self;

@@ -7,6 +7,6 @@ mod read;
 mod request;
 mod threads;
 
-pub use asked::{Check, Choice, Make, Replay, Request, Solve};
+pub use asked::{Audit, Certify, Check, Choice, Make, Replay, Request, Solve};
 pub use request::read_request;
 pub use threads::alone;

@@ -2,11 +2,11 @@
 
 ghost use Rattle.std.specs.Prelude.{◌≡◌, IfOk, MatchOption, map, string_bytes, Some, None};
 ghost use Rattle.mp_words.specs.Asked.{nothing};
-ghost use Rattle.mp_words.specs.Reads.{asked_by, check_by, make_by, replay_by, solve_by, wanted_by};
-ghost use Rattle.mp_words.specs.Requests.{check_of, command_of, has_no_search, has_no_work, is_team_size, make_of, replay_of, request_of, searching, solve_of, working};
+ghost use Rattle.mp_words.specs.Reads.{asked_by, audit_by, certify_by, check_by, make_by, replay_by, solve_by, wanted_by};
+ghost use Rattle.mp_words.specs.Requests.{audit_of, certify_of, check_of, command_of, has_no_search, has_no_work, is_team_size, make_of, replay_of, request_of, searching, solve_of, working};
 ghost use Rattle.mp_words.specs.Words.{after_words};
 
-use crate::asked::{Check, Choice, Make, Replay, Request, Solve};
+use crate::asked::{Audit, Certify, Check, Choice, Make, Replay, Request, Solve};
 use crate::numbers::number_between;
 use crate::read::Read;
 use std::alloc::{AllocError, Global};
@@ -92,6 +92,43 @@ fn check_in(steps: bool, mut read: Read<'_>) -> Option<Request<'_>>
     }))
 }
 
+/// What `certify` asks for with this.
+fn certify_in(read: Read<'_>) -> Option<Request<'_>>
+    ensures { MatchOption result (certify_of (asked_by read.entry) ≡ None)
+        (λ r. certify_of (asked_by read.entry) ≡ Some (wanted_by r)) }
+{
+    if read.awaited.is_some() || read.heuristic.is_some() || !has_no_workers(&read) {
+        return None;
+    }
+    if read.trace || read.show || !is_team(read.plain.len()) {
+        return None;
+    }
+    Some(Request::Certify(Certify {
+        limit: read.limit.unwrap_or(LIMIT),
+        names: read.plain,
+    }))
+}
+
+/// What `audit` asks for with this.
+fn audit_in(mut read: Read<'_>) -> Option<Request<'_>>
+    ensures { MatchOption result (audit_of (asked_by read.entry) ≡ None)
+        (λ r. audit_of (asked_by read.entry) ≡ Some (wanted_by r)) }
+{
+    if read.awaited.is_some() || !has_no_options(&read) || !has_no_workers(&read) {
+        return None;
+    }
+    if read.trace || read.show || read.plain.len() < 2 || !is_team(read.plain.len() - 2) {
+        return None;
+    }
+    let certificate = read.plain.remove(0);
+    let plan = read.plain.remove(0);
+    Some(Request::Audit(Audit {
+        certificate,
+        plan,
+        names: read.plain,
+    }))
+}
+
 /// What `make` asks for with this.
 fn make_in(read: Read<'_>) -> Option<Request<'_>>
     ensures { MatchOption result (make_of (asked_by read.entry) ≡ None)
@@ -135,6 +172,12 @@ fn command_in<'a>(command: &str, read: Read<'a>) -> Option<Request<'a>>
     }
     if command == "steps" {
         return check_in(true, read);
+    }
+    if command == "certify" {
+        return certify_in(read);
+    }
+    if command == "audit" {
+        return audit_in(read);
     }
     if command == "make" {
         return make_in(read);

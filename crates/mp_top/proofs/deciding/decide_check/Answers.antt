@@ -1,4 +1,4 @@
-use Rattle.std.proofs.Common.{All, IfSome, Some, length, map, refl, subst}
+use Rattle.std.proofs.Common.{[], ◌∷◌, All, IfSome, length, map, refl, subst}
 use Rattle.mp_files.specs.Cause.{Rests as FilesRest, seen_source}
 use Rattle.mp_files.specs.Fetched.{names_of}
 use Rattle.mp_files.specs.Team.{HoldsTeam}
@@ -7,9 +7,9 @@ use Rattle.mp_grounder.specs.Checked.{IsChecked}
 use Rattle.mp_top.specs.Asked.{longest_plan, agents_of, team_request}
 use Rattle.mp_top.specs.Asked.Work.{checked}
 use Rattle.mp_top.specs.Cause.{Rests}
-use Rattle.mp_top.specs.Decided.{ChecksFor, Decides}
+use Rattle.mp_top.specs.Decided.{ChecksFor, Decides, IsRefusedTeam}
 use Rattle.mp_top.proofs.Acts.{first_alone, first_and_agents}
-use Rattle.mp_top.proofs.Decided.{as_many, decided_check, files_rest, seen_later, weaker}
+use Rattle.mp_top.proofs.Decided.{as_many, decided_check, files_rest, seen_later, team_rests, weaker, weaker_err}
 use Rattle.mp_words.specs.Reads.{check_by}
 use Rattle.mp_words.specs.Requests.Wanted.{checks}
 use Rattle.mp_top.proofs.deciding.decide_check.Goals as goal
@@ -19,7 +19,7 @@ returns-in_err-text-clause-cause g c =
     let source = seen_source g.S.Source.held g.S.Source.faults g.S.Source.fault_at c.args.source.now c.first_text.new.source in
     let request = team_request (checks (check_by c.args.request.now)) in
     handed_on c.from_residual.result c.in_err-text.field-0.0 (Rests source request) c.from_residual.ensures.1
-    (c.in_err-text.ensures.cause request refl)
+    (c.in_err-text.ensures.cause request refl ([], tt))
 
 pub returns-in-Err-clause-cause : goal.returns-in-Err-clause-cause
 returns-in-Err-clause-cause g c =
@@ -27,11 +27,26 @@ returns-in-Err-clause-cause g c =
     let seen = seen_later g.S.Source.held g.S.Source.faults g.S.Source.fault_at c.args.source.now c.first_text.new.source c.read_team.new.source
     c.in_ok-text.ensures.held c.in_ok-text.ensures.no_fault in
     let source = seen_source g.S.Source.held g.S.Source.faults g.S.Source.fault_at c.args.source.now c.read_team.new.source in
-    files_rest source (Some (record { name = w.plan; longest = longest_plan })) (agents_of w.names) checked
-    (Some c.in_ok-text.text.items) c.in-Err.refusal c.in_ok-text.ensures.text
+    files_rest source (record { name = w.plan; longest = longest_plan } ∷ []) (agents_of w.names) checked
+    (c.in_ok-text.text.items ∷ []) c.in-Err.refusal (c.in_ok-text.ensures.text, tt)
     (subst (λ s. FilesRest s (agents_of w.names) c.in-Err.refusal) seen
     (subst (λ ns. FilesRest (seen_source g.S.Source.held g.S.Source.faults g.S.Source.fault_at c.first_text.new.source c.read_team.new.source) ns c.in-Err.refusal)
     c.requires.names c.in-Err.ensures.cause))
+
+pub returns-clause-cause : goal.returns-clause-cause
+returns-clause-cause g c =
+    let w = check_by c.args.request.now in
+    let request = team_request (checks w) in
+    let source = seen_source g.S.Source.held g.S.Source.faults g.S.Source.fault_at c.args.source.now c.read_team.new.source in
+    let held = g.S.Source.held c.args.source.now in
+    let holds : IfSome held (λ files. HoldsTeam files (map names_of c.args.files.now) c.in-Ok.team) =
+    subst (λ o. IfSome o (λ files. HoldsTeam files (map names_of c.args.files.now) c.in-Ok.team)) c.in_ok-text.ensures.held c.in-Ok.ensures.team in
+    weaker_err c.check_for.result (IsRefusedTeam checked c.as_slice-2.result.now (c.as_slice-3.result.now ∷ [])) (Rests source request)
+    (λ r h. team_rests source request (c.in_ok-text.text.items ∷ []) c.in-Ok.team r (c.in_ok-text.ensures.text, tt)
+    (subst (λ ns. IfSome held (λ files. HoldsTeam files ns c.in-Ok.team)) c.requires.names holds)
+    (subst (λ t. IsRefusedTeam checked c.in-Ok.team (t ∷ []) r) c.as_slice-3.ensures.value
+    (subst (λ t. IsRefusedTeam checked t (c.as_slice-3.result.now ∷ []) r) c.as_slice-2.ensures h)))
+    c.check_for.ensures.refused
 
 pub returns-clause-outcome : goal.returns-clause-outcome
 returns-clause-outcome g c =

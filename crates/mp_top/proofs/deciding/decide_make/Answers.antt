@@ -1,12 +1,14 @@
-use Rattle.std.proofs.Common.{◌≡◌, ◌≤◌, All, Ok, length, subst, sym}
+use Rattle.std.proofs.Common.{◌≡◌, ◌≤◌, [], All, Ok, length, subst, sym}
 use Rattle.mp_files.specs.Team.{ReadsMade}
 use Rattle.mp_grounder.specs.Checked.{IsChecked}
 use Rattle.mp_maker.specs.Delivery.{delivery}
-use Rattle.mp_top.specs.Asked.{agents_of, made_texts, names_of_texts}
+use Rattle.mp_split.specs.Team.{IsFirstRefusal}
+use Rattle.mp_top.specs.Asked.{agents_of, made_texts, names_of_texts, team_request}
 use Rattle.mp_top.specs.Decided.{MakesFor}
-use Rattle.mp_top.proofs.Decided.{decided_make}
+use Rattle.mp_top.proofs.Decided.{decided_make, sizes_rest}
 use Rattle.mp_top.proofs.Made.{made_for_each, made_of}
 use Rattle.mp_words.specs.Reads.{make_by}
+use Rattle.mp_words.specs.Requests.Wanted.{makes}
 use Rattle.mp_top.proofs.deciding.decide_make.Goals as goal
 
 pub make_for-requires-clause-some : goal.make_for-requires-clause-some
@@ -38,3 +40,12 @@ returns-in-Ok-make_for-clause-outcome g c held =
     (subst (λ t. MakesFor w.search c.workers_of_make.result.one w.show t c.size_of-size.result c.in-Ok.team d) c.as_slice-4.ensures
     (subst (λ t. MakesFor w.search c.workers_of_make.result.one w.show c.as_slice-4.result.now c.size_of-size.result t d) c.as_slice-3.ensures
     c.in-Ok-make_for.ensures.outcome)))
+
+pub returns-clause-cause : goal.returns-clause-cause
+returns-clause-cause g c source =
+    let w = make_by c.args.request in
+    let texts : c.in_ok-texts.texts ≡ delivery w.size w.number = made_of c.in_ok-texts.texts c.size_of-size.result w.size c.number_of.result w.number c.size_of-size.ensures c.number_of.ensures c.in_ok-texts.ensures in
+    let reads : ReadsMade (agents_of c.in_ok-texts.texts) (Ok c.in-Ok.team) = subst (λ t. ReadsMade (agents_of t) (Ok c.in-Ok.team)) c.as_slice.ensures c.in-Ok.ensures.team in
+    sizes_rest source (team_request (makes w)) [] c.in-Ok.team c.in-Err-make_for.refusal tt
+    (subst (λ t. ReadsMade (agents_of t) (Ok c.in-Ok.team)) texts reads)
+    (subst (λ t. IsFirstRefusal t c.in-Err-make_for.refusal) c.as_slice-3.ensures c.in-Err-make_for.ensures.refused)

@@ -1,4 +1,4 @@
-use Rattle.std.proofs.Common.{IfSome, Some, map, refl, subst}
+use Rattle.std.proofs.Common.{[], ◌∷◌, IfSome, map, refl, subst}
 use Rattle.mp_files.specs.Cause.{Rests as FilesRest, seen_source}
 use Rattle.mp_files.specs.Fetched.{names_of}
 use Rattle.mp_files.specs.Team.{HoldsTeam}
@@ -18,7 +18,7 @@ returns-in_err-text-clause-cause g c =
     let source = seen_source g.S.Source.held g.S.Source.faults g.S.Source.fault_at c.args.source.now c.first_text.new.source in
     let request = team_request (replays (replay_by c.args.request.now)) in
     handed_on c.from_residual.result c.in_err-text.field-0.0 (Rests source request) c.from_residual.ensures.1
-    (c.in_err-text.ensures.cause request refl)
+    (c.in_err-text.ensures.cause request refl ([], tt))
 
 pub returns-in-Err-clause-cause : goal.returns-in-Err-clause-cause
 returns-in-Err-clause-cause g c =
@@ -26,8 +26,8 @@ returns-in-Err-clause-cause g c =
     let seen = seen_later g.S.Source.held g.S.Source.faults g.S.Source.fault_at c.args.source.now c.first_text.new.source c.read_team.new.source
     c.in_ok-text.ensures.held c.in_ok-text.ensures.no_fault in
     let source = seen_source g.S.Source.held g.S.Source.faults g.S.Source.fault_at c.args.source.now c.read_team.new.source in
-    files_rest source (Some (record { name = w.schedule; longest = longest_schedule })) (agents_of w.names) (replayed w.search)
-    (Some c.in_ok-text.text.items) c.in-Err.refusal c.in_ok-text.ensures.text
+    files_rest source (record { name = w.schedule; longest = longest_schedule } ∷ []) (agents_of w.names) (replayed w.search)
+    (c.in_ok-text.text.items ∷ []) c.in-Err.refusal (c.in_ok-text.ensures.text, tt)
     (subst (λ s. FilesRest s (agents_of w.names) c.in-Err.refusal) seen
     (subst (λ ns. FilesRest (seen_source g.S.Source.held g.S.Source.faults g.S.Source.fault_at c.first_text.new.source c.read_team.new.source) ns c.in-Err.refusal)
     c.requires.names c.in-Err.ensures.cause))
@@ -40,11 +40,11 @@ returns-clause-cause g c =
     let held = g.S.Source.held c.args.source.now in
     let holds : IfSome held (λ files. HoldsTeam files (map names_of c.args.files.now) c.in-Ok.team) =
     subst (λ o. IfSome o (λ files. HoldsTeam files (map names_of c.args.files.now) c.in-Ok.team)) c.in_ok-text.ensures.held c.in-Ok.ensures.team in
-    weaker_err c.replay_by.result (IsRefusedTeam (replayed w.search) c.as_slice-2.result.now c.as_slice-3.result.now) (Rests source request)
-    (λ r h. team_rests source request c.in_ok-text.text.items c.in-Ok.team r c.in_ok-text.ensures.text
+    weaker_err c.replay_by.result (IsRefusedTeam (replayed w.search) c.as_slice-2.result.now (c.as_slice-3.result.now ∷ [])) (Rests source request)
+    (λ r h. team_rests source request (c.in_ok-text.text.items ∷ []) c.in-Ok.team r (c.in_ok-text.ensures.text, tt)
     (subst (λ ns. IfSome held (λ files. HoldsTeam files ns c.in-Ok.team)) c.requires.names holds)
-    (subst (λ t. IsRefusedTeam (replayed w.search) c.in-Ok.team t r) c.as_slice-3.ensures.value
-    (subst (λ t. IsRefusedTeam (replayed w.search) t c.as_slice-3.result.now r) c.as_slice-2.ensures h)))
+    (subst (λ t. IsRefusedTeam (replayed w.search) c.in-Ok.team (t ∷ []) r) c.as_slice-3.ensures.value
+    (subst (λ t. IsRefusedTeam (replayed w.search) t (c.as_slice-3.result.now ∷ []) r) c.as_slice-2.ensures h)))
     c.replay_by.ensures.refused
 
 pub returns-in_err-text-clause-acts : goal.returns-in_err-text-clause-acts

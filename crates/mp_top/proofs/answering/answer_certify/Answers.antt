@@ -1,0 +1,24 @@
+use Rattle.std.proofs.Common.{◌≡◌, ◌∙◌, [], ap, map, refl}
+use Rattle.mp_files.specs.Fetched.{names_of}
+use Rattle.mp_top.specs.Asked.{agents_of}
+use Rattle.mp_top.specs.Refusal.{line_of}
+use Rattle.mp_top.proofs.Kept.{kept, kept_memory}
+use Rattle.mp_words.specs.Reads.{certify_by}
+use Rattle.mp_words.specs.Requests.Wanted.{certifies}
+use Rattle.mp_top.proofs.answering.answer_certify.Goals as goal
+
+pub returns-in_default : goal.returns-in_default
+returns-in_default g c ws asks = kept_memory _ refl refl refl (record { out = refl; no_fault = refl; report = refl }) c.tell_memory.ensures
+
+pub returns : goal.returns
+returns g c ws asks =
+    let w = certify_by c.args.request.now in
+    let named : map names_of c.as_slice-3.result.now ≡ agents_of w.names =
+    ap (map names_of) c.as_slice-3.ensures.value ∙ c.in-Ok.ensures
+    ∙ ap (λ ns. agents_of (map (λ name. name.now) ns)) c.as_slice.ensures.value in
+    kept c.one_first.ensures.one c.one_first.ensures.none _ (certifies w) c.decide_certify-decided.result [] (map names_of c.as_slice-3.result.now)
+    asks (λ r. ap (λ agents. line_of [] agents r) named)
+    c.decide_certify-decided.ensures.outcome c.decide_certify-decided.ensures.cause c.decide_certify-decided.ensures.no_fault c.decide_certify-decided.ensures.fault
+    c.decide_certify-decided.ensures.acts
+    (λ report text s is outcome. c.undecided_is_spent.ensures _ (certifies w) report text s c.requires is outcome)
+    c.end.ensures.outcome c.end.ensures.refusal
