@@ -31,10 +31,3 @@ pub use on_threads::run;
 pub use refusal::{FirstRefusal, Refusal};
 pub use report::Report;
 pub use status::Status;
-
-#[cfg(test)]
-mod gates;
-#[cfg(test)]
-mod tests;
-#[cfg(test)]
-mod texts;
