@@ -48,7 +48,7 @@ fn line_of<'a>(out: &'a [u8], err: &'a [u8]) -> &'a [u8] {
 }
 
 /// Calls the program with the words of a line, while agents that workers serve pass a gate.
-pub(crate) fn answer<R: Files + Threads + Wait + Sync, G: Gate + Sync>(
+pub(crate) fn call_with<R: Files + Threads + Wait + Sync, G: Gate + Sync>(
     rt: &R,
     alloc: Global,
     line: &str,

@@ -1,6 +1,6 @@
 //! Words, and the gates that their agents pass.
 
-use crate::calls::{Answer, PIECE, answer, first_line};
+use crate::calls::{Answer, PIECE, call_with, first_line};
 use crate::meeting::Meeting;
 use crate::overtaking::Overtaking;
 use mp_outside::{MemSink, NoGate};
@@ -95,15 +95,19 @@ pub(crate) const TRIALS: [Trial; 10] = [
 
 /// What a call left behind, and whether its agents got past the gate that held them up, where there is one.
 #[derive(Drop)]
-struct Found {
+struct Outcome {
     answer: Answer,
     passed: Option<bool>,
 }
 
 /// A call whose agents all pass.
-fn free<R: Files + Threads + Wait + Sync>(rt: &R, alloc: Global, words: &str) -> io::Result<Found> {
-    let answer = answer(rt, alloc, words, &NoGate)?;
-    Ok(Found {
+fn free<R: Files + Threads + Wait + Sync>(
+    rt: &R,
+    alloc: Global,
+    words: &str,
+) -> io::Result<Outcome> {
+    let answer = call_with(rt, alloc, words, &NoGate)?;
+    Ok(Outcome {
         answer,
         passed: None,
     })
@@ -115,10 +119,10 @@ fn overtaken<R: Files + Threads + Wait + Sync>(
     alloc: Global,
     words: &str,
     gate: Overtaking,
-) -> io::Result<Found> {
-    let answer = answer(rt, alloc, words, &gate)?;
+) -> io::Result<Outcome> {
+    let answer = call_with(rt, alloc, words, &gate)?;
     let passed = Some(gate.was_passed());
-    Ok(Found { answer, passed })
+    Ok(Outcome { answer, passed })
 }
 
 /// A call in which agents wait for each other.
@@ -127,18 +131,18 @@ fn met<R: Files + Threads + Wait + Sync>(
     alloc: Global,
     words: &str,
     gate: Meeting,
-) -> io::Result<Found> {
-    let answer = answer(rt, alloc, words, &gate)?;
+) -> io::Result<Outcome> {
+    let answer = call_with(rt, alloc, words, &gate)?;
     let passed = Some(gate.was_passed());
-    Ok(Found { answer, passed })
+    Ok(Outcome { answer, passed })
 }
 
 /// What comes of a trial.
-fn found<R: Files + Threads + Wait + Sync>(
+fn outcome_of<R: Files + Threads + Wait + Sync>(
     rt: &R,
     alloc: Global,
     trial: &Trial,
-) -> io::Result<Found> {
+) -> io::Result<Outcome> {
     match trial.held {
         Held::Free => free(rt, alloc, trial.words),
         Held::UntilOvertaken(turns) => overtaken(rt, alloc, trial.words, Overtaking::new(turns)),
@@ -176,9 +180,14 @@ pub(crate) fn show_trial<R: Files + Threads + Wait + Sync + Print>(
     let Trial { name, words, .. } = *trial;
     println!(rt; "{name}")?;
     println!(rt; "  {words}")?;
-    let found = found(rt, alloc, trial)?;
-    let gate = told_of_gate(found.passed);
-    print_answer(rt, found.answer.code, found.answer.line.as_slice(), gate)
+    let outcome = outcome_of(rt, alloc, trial)?;
+    let gate = told_of_gate(outcome.passed);
+    print_answer(
+        rt,
+        outcome.answer.code,
+        outcome.answer.line.as_slice(),
+        gate,
+    )
 }
 
 /// Prints what is answered where no memory was left for the words.
