@@ -16,13 +16,13 @@ use Rattle.mp_reach.specs.Ways.Way.{arrived}
 use Rattle.mp_reach.proofs.NothingLeftOut.{nothing_left_out}
 use Rattle.mp_world.specs.Events.{run}
 use Rattle.mp_world.specs.World.{World}
-use Rattle.mp_team_explored.specs.Estimates.{AreGoalsFlagged}
-use Rattle.mp_team_explored.specs.Expansions.{nothing_known}
-use Rattle.mp_team_explored.specs.TeamFound.{found_of}
-use Rattle.mp_team_explored.proofs.Flags.{flags_of_joint}
-use Rattle.mp_team_explored.proofs.Heuristics.{knows_nothing}
-use Rattle.mp_team_explored.proofs.Runs.{IsInvariantFor, run_invariant}
-use Rattle.mp_team_cuts.specs.Found.{findings_in}
+use Rattle.mp_team_states.specs.Estimates.{AreGoalsFlagged}
+use Rattle.mp_team_states.specs.Expansions.{nothing_known}
+use Rattle.mp_team_states.specs.TeamFound.{found_of}
+use Rattle.mp_team_states.proofs.Flags.{flags_of_joint}
+use Rattle.mp_team_states.proofs.Heuristics.{knows_nothing}
+use Rattle.mp_team_states.proofs.Runs.{IsInvariantFor, run_invariant}
+use Rattle.mp_team_snapshots.specs.Found.{findings_in}
 use Rattle.mp_team_verdicts.proofs.Cases.{IsNoneBelow}
 use Rattle.mp_team_verdicts.proofs.Counted.{witness_counted}
 use Rattle.mp_team_verdicts.proofs.Least.{IsAtMost, at_most_is}

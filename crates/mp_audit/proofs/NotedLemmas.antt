@@ -17,13 +17,13 @@ use Rattle.mp_world.specs.World.{World, agent_at}
 use Rattle.mp_team_states.proofs.StartSound.{some_item}
 use Rattle.mp_team_states.proofs.StepsSound.{records_sound}
 use Rattle.mp_team_states.proofs.WorldsGrow.{joint_same}
-use Rattle.mp_team_explored.specs.Expansions.{nothing_known}
-use Rattle.mp_team_explored.proofs.Heuristics.{knows_nothing}
-use Rattle.mp_team_explored.proofs.Runs.{IsInvariantFor, run_invariant}
-use Rattle.mp_team_explored.proofs.SoundWorlds.{me_is, states_known}
-use Rattle.mp_team_cuts.specs.Cut.{cut_schedule}
-use Rattle.mp_team_cuts.specs.Verdicts.{HasFoundThere, HasVerdictWorld}
-use Rattle.mp_team_cuts.proofs.Teams.{has_verdict_world}
+use Rattle.mp_team_states.specs.Expansions.{nothing_known}
+use Rattle.mp_team_states.proofs.Heuristics.{knows_nothing}
+use Rattle.mp_team_states.proofs.Runs.{IsInvariantFor, run_invariant}
+use Rattle.mp_team_states.proofs.SoundWorlds.{me_is, states_known}
+use Rattle.mp_team_snapshots.specs.Cut.{cut_schedule}
+use Rattle.mp_team_snapshots.specs.Verdicts.{HasFoundThere, HasVerdictWorld}
+use Rattle.mp_team_snapshots.proofs.Teams.{has_verdict_world}
 
 module _ (limit : ℕ) (tasks : List AgentTask) (agree : Agree tasks) (limits : All IsWithinLimits tasks) (most : limit ≤ 10000000)
     (schedule : List Event) (w : World) (ran : run nothing_known limit tasks schedule ≡ Some w)

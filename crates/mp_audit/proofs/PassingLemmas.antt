@@ -32,14 +32,14 @@ use Rattle.mp_world.specs.RoundRobin.{is_over}
 use Rattle.mp_world.specs.World.{World, agent_at}
 use Rattle.mp_team_states.proofs.GoodStates.{equal_if_joint}
 use Rattle.mp_team_states.proofs.StepsSound.{agent_sound}
-use Rattle.mp_team_explored.specs.Expansions.{nothing_known}
-use Rattle.mp_team_explored.specs.TeamFound.{found_of, seen_entry}
-use Rattle.mp_team_explored.proofs.Found.{entry_found, found_entry}
-use Rattle.mp_team_explored.proofs.Heuristics.{knows_nothing}
-use Rattle.mp_team_explored.proofs.Members.{at_place, from_flat_map, from_map, to_flat_map, to_map}
-use Rattle.mp_team_explored.proofs.Runs.{IsInvariantFor, run_invariant}
-use Rattle.mp_team_explored.proofs.SoundWorlds.{me_is, states_known}
-use Rattle.mp_team_cuts.specs.Found.{findings_in}
+use Rattle.mp_team_states.specs.Expansions.{nothing_known}
+use Rattle.mp_team_states.specs.TeamFound.{found_of, seen_entry}
+use Rattle.mp_team_states.proofs.Found.{entry_found, found_entry}
+use Rattle.mp_team_states.proofs.Heuristics.{knows_nothing}
+use Rattle.mp_team_states.proofs.Members.{at_place, from_flat_map, from_map, to_flat_map, to_map}
+use Rattle.mp_team_states.proofs.Runs.{IsInvariantFor, run_invariant}
+use Rattle.mp_team_states.proofs.SoundWorlds.{me_is, states_known}
+use Rattle.mp_team_snapshots.specs.Found.{findings_in}
 use Rattle.mp_team_verdicts.proofs.Cases.{IsNoneBelow, says_proved_cost}
 use Rattle.mp_snapshot.specs.VerdictRule.{least_f, least_goal}
 use Rattle.mp_snapshot.specs.declared.verdict.Verdict.{Verdict}

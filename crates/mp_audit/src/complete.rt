@@ -9,7 +9,7 @@ ghost use Rattle.mp_world.specs.declared.answer.Answer.TheVariants.{Solved};
 ghost use Rattle.mp_world.specs.Answers.{answer_of};
 ghost use Rattle.mp_world.specs.Events.{run};
 ghost use Rattle.mp_world.specs.World.{World};
-ghost use Rattle.mp_team_explored.specs.Expansions.{nothing_known};
+ghost use Rattle.mp_team_states.specs.Expansions.{nothing_known};
 ghost use Rattle.mp_audit.specs.declared.certificate.Certificate.{Certificate};
 ghost use Rattle.mp_audit.specs.Audited.{Audited};
 ghost use Rattle.mp_audit.specs.LastCut.{last_bounds, said_by};

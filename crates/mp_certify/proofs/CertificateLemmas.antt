@@ -27,10 +27,10 @@ use Rattle.mp_world.specs.Answers.{answer_by, answer_of}
 use Rattle.mp_world.specs.Joint.{private_facts}
 use Rattle.mp_world.specs.RoundRobin.{is_over}
 use Rattle.mp_world.specs.World.{World, agent_at}
-use Rattle.mp_team_explored.specs.Expansions.{nothing_known}
-use Rattle.mp_team_explored.proofs.Heuristics.{knows_nothing}
-use Rattle.mp_team_explored.proofs.Runs.{IsInvariantFor, run_invariant}
-use Rattle.mp_team_explored.proofs.SoundWorlds.{agents_are, me_is, states_known, task_in}
+use Rattle.mp_team_states.specs.Expansions.{nothing_known}
+use Rattle.mp_team_states.proofs.Heuristics.{knows_nothing}
+use Rattle.mp_team_states.proofs.Runs.{IsInvariantFor, run_invariant}
+use Rattle.mp_team_states.proofs.SoundWorlds.{agents_are, me_is, states_known, task_in}
 use Rattle.mp_schedule.specs.Machines.{IsFree, tasks_of, world_of}
 use Rattle.mp_schedule.specs.TeamRun.{IsRun, IsTeam, TeamRun}
 use Rattle.mp_schedule.specs.UnderWay.{Mail, world_with}

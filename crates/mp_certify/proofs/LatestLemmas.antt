@@ -19,9 +19,9 @@ use Rattle.mp_reach.specs.LeadsOn.{IsAny}
 use Rattle.mp_world.specs.Events.{run}
 use Rattle.mp_world.specs.World.{World}
 use Rattle.mp_team_states.proofs.StepsSound.{records_sound}
-use Rattle.mp_team_explored.specs.Expansions.{nothing_known}
-use Rattle.mp_team_explored.proofs.Heuristics.{knows_nothing}
-use Rattle.mp_team_explored.proofs.Runs.{IsInvariantFor, run_invariant}
+use Rattle.mp_team_states.specs.Expansions.{nothing_known}
+use Rattle.mp_team_states.proofs.Heuristics.{knows_nothing}
+use Rattle.mp_team_states.proofs.Runs.{IsInvariantFor, run_invariant}
 use Rattle.mp_audit.specs.LastCut.{is_cheapest, last_bounds, noted_bounds, worth}
 use Rattle.mp_audit.proofs.FirstLemmas.{item_at}
 use Rattle.mp_certify.specs.Latest.{has_state, latest, latest_bounds, latest_bounds_of}

@@ -7,7 +7,7 @@ ghost use Rattle.mp_task.specs.Limits.{IsWithinLimits};
 ghost use Rattle.mp_messages.specs.declared.history.Event.{Event};
 ghost use Rattle.mp_world.specs.Events.{run};
 ghost use Rattle.mp_world.specs.World.{World};
-ghost use Rattle.mp_team_explored.specs.Expansions.{nothing_known};
+ghost use Rattle.mp_team_states.specs.Expansions.{nothing_known};
 ghost use Rattle.mp_audit.specs.LastCut.{last_bounds};
 ghost use Rattle.mp_certify.specs.Latest.{latest_bounds};
 

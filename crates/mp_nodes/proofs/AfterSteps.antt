@@ -25,7 +25,7 @@ use Rattle.mp_machine.specs.declared.refusal.StepRefusal.TheVariants.{NotNow, Ba
 use Rattle.mp_world.specs.Events.{agent_of, local_of as local_of_event, sent_in}
 use Rattle.mp_world.specs.Logs.{HasDone, entries_of, put_by}
 use Rattle.mp_logs.proofs.Onward.{done_next}
-use Rattle.mp_team_messages.specs.Others.{IsAnother}
+use Rattle.mp_team_verdicts.specs.Others.{IsAnother}
 use Rattle.mp_stamps.specs.Lists.{IsAgentOf, entries}
 use Rattle.mp_post_rule.specs.Queues.{IsSignable}
 use Rattle.mp_post_rule.specs.declared.view.Party.{Party}

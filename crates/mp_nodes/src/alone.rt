@@ -12,7 +12,7 @@ use mp_messages::Kind;
 use mp_outside::{Gate, Kind3};
 use mp_sets::Agent;
 use mp_task::Heuristic;
-use mp_team_messages::messages_go_to_others;
+use mp_team_verdicts::messages_go_to_others;
 
 /// What a gate is told of what an agent does by itself.
 fn told_of(kind: Kind) -> Kind3 {

@@ -16,7 +16,7 @@ use mp_outside::{Gate, Kind3};
 use mp_post::{Desk, Posts};
 use mp_sets::Agent;
 use mp_task::Heuristic;
-use mp_team_messages::messages_go_to_others;
+use mp_team_verdicts::messages_go_to_others;
 use std::sync::Wait;
 
 /// How many messages an agent's post has counted by now: those that it put, and those of them that were taken.

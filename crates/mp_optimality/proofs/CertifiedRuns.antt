@@ -22,7 +22,7 @@ use Rattle.mp_split.specs.Team.{AreTasksOf}
 use Rattle.mp_split.specs.declared.team.Tasks.{Tasks}
 use Rattle.mp_task.specs.Agree.{Agree}
 use Rattle.mp_task.specs.AgentTask.{AgentTask}
-use Rattle.mp_team_explored.specs.Expansions.{nothing_known}
+use Rattle.mp_team_states.specs.Expansions.{nothing_known}
 use Rattle.mp_text.specs.Lines.{Text}
 use Rattle.mp_text.specs.Outcome.{outcome_text}
 use Rattle.mp_world.proofs.Agents.{agree_numbered}

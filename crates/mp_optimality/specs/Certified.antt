@@ -13,7 +13,7 @@ use Rattle.mp_solutions.specs.declared.solution.Solution.{Solution}
 use Rattle.mp_split.specs.Team.{AreTasksOf}
 use Rattle.mp_split.specs.declared.team.Tasks.{Tasks}
 use Rattle.mp_task.specs.AgentTask.{AgentTask}
-use Rattle.mp_team_explored.specs.Expansions.{nothing_known}
+use Rattle.mp_team_states.specs.Expansions.{nothing_known}
 use Rattle.mp_text.specs.Lines.{Text}
 use Rattle.mp_world.specs.Answers.{answer_of}
 use Rattle.mp_world.specs.Events.{run}

@@ -22,7 +22,7 @@ use mp_messages::Bytes;
 use mp_plan_verdict::verdicts_are_right;
 use mp_plans::{PlanText, verdict_text};
 use mp_split::tasks;
-use mp_stands::laws::tasks_stand_for_files;
+use mp_stands::tasks::tasks_stand_for_files;
 use mp_task::Task;
 use mp_typing::CheckedFactor;
 use std::alloc::Global;

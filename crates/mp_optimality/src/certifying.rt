@@ -18,7 +18,7 @@ use mp_schedule::World;
 use mp_solutions::{Solution, answers_are_right_for_files};
 use mp_solve::{ended, told};
 use mp_split::{Tasks, tasks};
-use mp_stands::laws::tasks_stand_for_files;
+use mp_stands::tasks::tasks_stand_for_files;
 use mp_task::Blind;
 use mp_typing::CheckedFactor;
 use mp_world::Answer;

@@ -19,8 +19,8 @@ use Rattle.mp_text.specs.Outcome.{outcome_text}
 use Rattle.mp_text.proofs.SameLemmas.{tell_the_same}
 use Rattle.mp_solutions.specs.Solution.{IsFound, IsFoundInTurn}
 use Rattle.mp_solutions.specs.declared.solution.Solution.{Solution}
-use Rattle.mp_renaming.specs.Renaming.{Renaming}
-use Rattle.mp_renaming.specs.Team.{IsRenamedTeam}
+use Rattle.mp_stands.specs.Renaming.{Renaming}
+use Rattle.mp_stands.specs.Team.{IsRenamedTeam}
 use Rattle.mp_replays.specs.Renamed.{KeepsTasks}
 use Rattle.mp_replays.specs.Same.{AreSameSearches, IsFoundAgain}
 use Rattle.mp_replays.proofs.OneTeam.{one_names, one_tasks, one_views}

@@ -12,8 +12,8 @@ use Rattle.mp_messages.specs.History.{agent_of, part}
 use Rattle.mp_world.specs.Logs.{IsLog}
 use Rattle.mp_world.specs.World.{AreNumbered}
 use Rattle.mp_logs.proofs.Made.{number_of}
-use Rattle.mp_team_messages.specs.Others.{IsAnother, IsOfAgent}
-use Rattle.mp_team_messages.proofs.Entries.{parts_of_agents}
+use Rattle.mp_team_verdicts.specs.Others.{IsAnother, IsOfAgent}
+use Rattle.mp_team_verdicts.proofs.AgentEntries.{parts_of_agents}
 use Rattle.mp_text.specs.Again.{IsAgent as IsOneOf, IsOfTeam}
 
 module _ (agents : ℕ) (t : AgentTask) (number : IsOneOf agents t.me) (many : t.agents ≡ agents) where

@@ -5,7 +5,7 @@ use Rattle.mp_grounder.specs.Checked.{IsChecked}
 use Rattle.mp_outcome.specs.Names.{names_of}
 use Rattle.mp_split.specs.Team.{AreTasksOf}
 use Rattle.mp_split.specs.declared.team.Tasks.{Tasks}
-use Rattle.mp_renaming.specs.Renaming.{same_names}
+use Rattle.mp_stands.specs.Renaming.{same_names}
 use Rattle.mp_replays.specs.Renamed.{KeepsTasks}
 use Rattle.mp_replays.proofs.Same.{same_names_of, same_team, steps_each}
 

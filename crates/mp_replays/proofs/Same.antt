@@ -11,8 +11,8 @@ use Rattle.mp_grounder.specs.Named.{step_of}
 use Rattle.mp_outcome.specs.Names.{names_from, names_of}
 use Rattle.mp_split.specs.Team.{AreTasksOf}
 use Rattle.mp_split.specs.declared.team.Tasks.{Tasks}
-use Rattle.mp_renaming.specs.Renaming.{IsRenaming, IsRenamingOf, renamed, same_names}
-use Rattle.mp_renaming.specs.Team.{AreRenamedSteps, IsRenamedTeam, renamed_step, step_for}
+use Rattle.mp_stands.specs.Renaming.{IsRenaming, IsRenamingOf, renamed, same_names}
+use Rattle.mp_stands.specs.Team.{AreRenamedSteps, IsRenamedTeam, renamed_step, step_for}
 
 -- each name stays
 stay : (publics : List Text) → IsRenamingOf publics (λ name. name)

@@ -4,8 +4,8 @@ use Rattle.mp_factor.specs.declared.factor.Factor.{Factor}
 use Rattle.mp_grounder.specs.Checked.{IsChecked}
 use Rattle.mp_split.specs.Team.{AreTasksOf}
 use Rattle.mp_split.specs.declared.team.Tasks.{Tasks}
-use Rattle.mp_renaming.specs.Renaming.{Renaming}
-use Rattle.mp_renaming.specs.Team.{AreRenamedSteps, IsRenamedTeam}
+use Rattle.mp_stands.specs.Renaming.{Renaming}
+use Rattle.mp_stands.specs.Team.{AreRenamedSteps, IsRenamedTeam}
 
 -- Where one agent renames its private names, all agents have the same tasks and show the same bytes, and the actions
 -- stand for the same steps by the other names.

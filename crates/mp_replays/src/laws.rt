@@ -12,13 +12,13 @@ ghost use Rattle.mp_split.specs.Team.{AreTasksOf};
 ghost use Rattle.mp_split.specs.declared.team.Tasks.{Tasks};
 ghost use Rattle.mp_task.specs.AgentTask.{AgentTask};
 ghost use Rattle.mp_world.specs.Logs.{IsLog};
-ghost use Rattle.mp_renaming.specs.Renaming.{Renaming};
-ghost use Rattle.mp_renaming.specs.Team.{IsRenamedTeam};
+ghost use Rattle.mp_stands.specs.Renaming.{Renaming};
+ghost use Rattle.mp_stands.specs.Team.{IsRenamedTeam};
 ghost use Rattle.mp_replays.specs.Renamed.{KeepsTasks};
 ghost use Rattle.mp_replays.specs.Same.{AreSameSearches, IsFoundAgain};
 ghost use Rattle.mp_replays.specs.Traces.{IsTraceOf};
 
-use mp_renaming::laws::renaming_changes_no_task;
+use mp_stands::renaming::renaming_changes_no_task;
 
 /// What renaming leaves as it is, in one record.
 fn renaming_keeps_tasks()

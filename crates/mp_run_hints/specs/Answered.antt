@@ -3,7 +3,7 @@ use Rattle.std.specs.Prelude.{◌≡◌, ℕ, true, List, Option, Some}
 use Rattle.mp_hmax.specs.Hmax.{hmax}
 use Rattle.mp_lmcut.specs.Cut.{lmcut}
 use Rattle.mp_pdb.specs.Pattern.{pattern_value}
-use Rattle.mp_team_explored.specs.Expansions.{nothing_known}
+use Rattle.mp_team_states.specs.Expansions.{nothing_known}
 use Rattle.mp_words.specs.declared.asked.Choice.{Choice}
 use Rattle.mp_words.specs.declared.asked.Choice.TheVariants.{Blind, Max, Cut, Pdb}
 use Rattle.mp_factor.specs.declared.factor.Factor.{Factor}

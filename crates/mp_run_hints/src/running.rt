@@ -24,7 +24,7 @@ use mp_schedule::World;
 use mp_solutions::answers_are_right_for_files;
 use mp_solve::{ToldAnswer, are_within_limits, told};
 use mp_split::{Tasks, tasks};
-use mp_stands::laws::tasks_stand_for_files;
+use mp_stands::tasks::tasks_stand_for_files;
 use mp_task::{Blind, Heuristic, Task, TaskList};
 use mp_typing::CheckedFactor;
 use mp_words::Choice;

@@ -24,9 +24,9 @@ use Rattle.mp_world.specs.World.{World, agent_at}
 use Rattle.mp_world.proofs.Agents.{agree_numbered, member_of}
 use Rattle.mp_world.proofs.Runs.{run_of_team}
 use Rattle.mp_team_snapshots.proofs.Agreeing.{agreeing_team}
-use Rattle.mp_team_walks.specs.Ending.{EndsWith, EndsWithout, HasShare, IsAt, Stage, end_by}
-use Rattle.mp_team_walks.specs.Ending.Stage.{over, picking, searching, walking, without_plan}
-use Rattle.mp_team_walks.proofs.InRuns.{ends_so_far}
+use Rattle.mp_team_verdicts.specs.Ending.{EndsWith, EndsWithout, HasShare, IsAt, Stage, end_by}
+use Rattle.mp_team_verdicts.specs.Ending.Stage.{over, picking, searching, walking, without_plan}
+use Rattle.mp_team_verdicts.proofs.InRuns.{ends_so_far}
 use Rattle.mp_schedule.specs.Finished.{AreOfRun, EndsBy}
 
 -- an agent does not both go on and not

@@ -7,7 +7,7 @@ use Rattle.mp_machine.specs.AgentRecord.{AgentRecord}
 use Rattle.mp_world.specs.RoundRobin.{Rounds}
 use Rattle.mp_world.specs.RoundRobin.Rounds.{over, round}
 use Rattle.mp_world.specs.World.{World, agent_at}
-use Rattle.mp_team_rounds.specs.Going.{AreGoingRounds, TakesFewRounds}
+use Rattle.mp_team_verdicts.specs.Going.{AreGoingRounds, TakesFewRounds}
 use Rattle.mp_schedule.specs.TeamRun.{HasDone, IsRun, IsSameTeam, IsTeam, TeamRun}
 use Rattle.mp_schedule.proofs.MoreEvents.{first_there}
 

@@ -10,7 +10,7 @@ use Rattle.mp_messages.specs.declared.history.Event.TheVariants.{Expand}
 use Rattle.mp_machine.specs.Machine.{AgentMachine}
 use Rattle.mp_world.specs.Events.{after_event}
 use Rattle.mp_world.specs.World.{World}
-use Rattle.mp_team_explored.specs.Expansions.{ExpandsOne}
+use Rattle.mp_team_states.specs.Expansions.{ExpandsOne}
 use Rattle.mp_schedule.specs.Laws.{KeepsLaws}
 use Rattle.mp_schedule.specs.Machines.{AreOneRun, team_run, world_of}
 use Rattle.mp_schedule.specs.Steps.{AreAfter}

@@ -12,10 +12,10 @@ use Rattle.mp_world.specs.RoundRobin.{is_over}
 use Rattle.mp_world.specs.World.{agent_at}
 use Rattle.mp_team_states.specs.Paths.{AreReached}
 use Rattle.mp_team_states.specs.Sound.{AreStatesSound}
-use Rattle.mp_team_explored.specs.Estimates.{AreEstimatesBounds}
-use Rattle.mp_team_explored.specs.TeamFound.{found_of}
-use Rattle.mp_team_explored.specs.Witness.{HasWitnessIn}
-use Rattle.mp_team_cuts.specs.CutWorlds.{HasCut}
+use Rattle.mp_team_states.specs.Estimates.{AreEstimatesBounds}
+use Rattle.mp_team_states.specs.TeamFound.{found_of}
+use Rattle.mp_team_states.specs.Witness.{HasWitnessIn}
+use Rattle.mp_team_snapshots.specs.CutWorlds.{HasCut}
 use Rattle.mp_team_verdicts.specs.Right.{IsRightAnswer, IsRightVerdict}
 use Rattle.mp_schedule.specs.TeamRun.{TeamRun}
 

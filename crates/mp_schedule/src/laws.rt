@@ -4,17 +4,16 @@ ghost use Rattle.std.specs.Prelude.{◌≡◌, ℕ, Some};
 ghost use Rattle.mp_messages.specs.declared.history.Event.TheVariants.{Expand};
 ghost use Rattle.mp_schedule.specs.Laws.{KeepsLaws};
 ghost use Rattle.mp_schedule.specs.TeamRun.{IsRun, IsTeam, TeamRun};
-ghost use Rattle.mp_team_explored.specs.Expansions.{ExpandsOne};
+ghost use Rattle.mp_team_states.specs.Expansions.{ExpandsOne};
 ghost use Rattle.mp_world.specs.Events.{after_event};
 ghost use Rattle.mp_world.specs.World.{World};
 
 use mp_task::Heuristic;
-use mp_team_cuts::cuts_are_worlds;
-use mp_team_explored::{
-    estimates_and_flags_are_right, expansions_are_not_wasted, plans_leave_a_witness_in_runs,
-    teams_stay_explored,
+use mp_team_snapshots::cuts_are_worlds;
+use mp_team_states::{
+    entries_are_reached, estimates_and_flags_are_right, expansions_are_not_wasted,
+    plans_leave_a_witness_in_runs, states_stay_sound, teams_stay_explored,
 };
-use mp_team_states::{entries_are_reached, states_stay_sound};
 use mp_team_verdicts::{answers_are_right, verdicts_are_right};
 use mp_world::runs_have_logs;
 

@@ -8,7 +8,7 @@ ghost use Rattle.mp_schedule.specs.Happening.{IsOfTeam};
 ghost use Rattle.mp_schedule.specs.Laws.{KeepsLaws};
 ghost use Rattle.mp_schedule.specs.TeamRun.{HasDone, IsRun};
 ghost use Rattle.mp_search.specs.Concern.{one_if};
-ghost use Rattle.mp_team_rounds.specs.Going.{TakesFewRounds};
+ghost use Rattle.mp_team_verdicts.specs.Going.{TakesFewRounds};
 ghost use Rattle.mp_world.specs.RoundRobin.{ForEach, IfItMay, IsRoundRobin, Round, Rounds, StartsIfFirst, Then, Turn};
 
 use crate::laws::runs_keep_laws;
@@ -18,7 +18,7 @@ use mp_list::OutOfMemory;
 use mp_messages::Event;
 use mp_sets::Agent;
 use mp_task::Heuristic;
-use mp_team_rounds::{round_robin_takes_few_rounds, rounds_do_something, snapshots_are_events};
+use mp_team_verdicts::{round_robin_takes_few_rounds, rounds_do_something, snapshots_are_events};
 
 /// Whether it is agent 1.
 fn is_first(agent: Agent) -> bool

@@ -8,7 +8,7 @@ ghost use Rattle.mp_schedule.specs.Happening.{IsAnswer, IsOfTeam};
 ghost use Rattle.mp_schedule.specs.Laws.{KeepsLaws};
 ghost use Rattle.mp_schedule.specs.Machines.{AreNew, IsFree, limit_of, tasks_of};
 ghost use Rattle.mp_schedule.specs.TeamRun.{IsRun, IsTeam, start_run};
-ghost use Rattle.mp_team_explored.specs.Expansions.{ExpandsOne};
+ghost use Rattle.mp_team_states.specs.Expansions.{ExpandsOne};
 ghost use Rattle.mp_world.specs.RoundRobin.{is_over};
 
 use crate::laws::runs_keep_laws;
@@ -20,7 +20,7 @@ use mp_list::OutOfMemory;
 use mp_machine::{Ending, Machine, StepRefusal};
 use mp_messages::{Event, Log};
 use mp_task::Heuristic;
-use mp_team_walks::no_message_is_bad;
+use mp_team_verdicts::no_message_is_bad;
 use std::alloc::Global;
 use std::marker::Model;
 

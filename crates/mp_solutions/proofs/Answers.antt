@@ -11,11 +11,11 @@ use Rattle.mp_messages.specs.declared.history.Event.{Event}
 use Rattle.mp_world.specs.declared.answer.Answer.{Answer}
 use Rattle.mp_world.specs.declared.answer.Answer.TheVariants.{Nothing, Solved, Unsolvable, Undecided}
 use Rattle.mp_world.specs.World.{World}
-use Rattle.mp_team_walks.specs.Shares.{AreShares}
+use Rattle.mp_team_verdicts.specs.Shares.{AreShares}
 use Rattle.mp_team_verdicts.specs.Right.{IsRightAnswer}
-use Rattle.mp_levels.specs.Numbering.{Numbering}
-use Rattle.mp_levels.specs.Plans.{AreNamed}
-use Rattle.mp_levels.specs.Stands.{Stands}
+use Rattle.mp_stands.specs.Numbering.{Numbering}
+use Rattle.mp_stands.specs.Plans.{AreNamed}
+use Rattle.mp_stands.specs.Stands.{Stands}
 use Rattle.mp_text.specs.Lines.{Text, text_of_lines}
 use Rattle.mp_text.specs.Outcome.{agent_lines, count_line, found_lines, labelled}
 use Rattle.mp_solutions.specs.PlanText.{answer_text, plan_lines}

@@ -20,7 +20,7 @@ use Rattle.mp_grounder.specs.Checked.{IsChecked}
 use Rattle.mp_split.specs.Team.{AreTasksOf}
 use Rattle.mp_split.specs.declared.team.Tasks.{Tasks}
 use Rattle.mp_stands.proofs.Files.{files_stand}
-use Rattle.mp_team_explored.proofs.SoundWorlds.{IsHeuristic}
+use Rattle.mp_team_states.proofs.SoundWorlds.{IsHeuristic}
 use Rattle.mp_team_verdicts.proofs.Answers.{answer_right}
 use Rattle.mp_text.specs.Outcome.{outcome_text}
 use Rattle.mp_outcome.specs.Names.{names_of}

@@ -13,9 +13,9 @@ use Rattle.mp_task.specs.Plan.{TaskStep}
 use Rattle.mp_trail.specs.declared.steps.Timed.{Timed}
 use Rattle.mp_machine.specs.AgentRecord.{AgentRecord}
 use Rattle.mp_world.specs.World.{World}
-use Rattle.mp_team_walks.specs.Shares.{AreShares, as_timed, is_own, own_steps}
-use Rattle.mp_levels.specs.Numbering.{Numbering, steps_of}
-use Rattle.mp_levels.specs.Plans.{AreNamed, IsNamed}
+use Rattle.mp_team_verdicts.specs.Shares.{AreShares, as_timed, is_own, own_steps}
+use Rattle.mp_stands.specs.Numbering.{Numbering, steps_of}
+use Rattle.mp_stands.specs.Plans.{AreNamed, IsNamed}
 use Rattle.mp_text.specs.Lines.{Text}
 use Rattle.mp_text.specs.Outcome.{agent_lines, names_at, share_lines, step_line}
 use Rattle.mp_solutions.specs.PlanText.{own_lines, plan_lines}

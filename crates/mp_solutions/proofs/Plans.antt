@@ -6,11 +6,11 @@ use Rattle.mp_joint.specs.FactorContribution.{team_of}
 use Rattle.mp_joint.specs.Plan.{Solves, cost as cost_of}
 use Rattle.mp_task.specs.AgentTask.{AgentTask}
 use Rattle.mp_task.specs.Plan.{TaskSolves, TaskStep, task_cost}
-use Rattle.mp_levels.specs.Numbering.{Numbering}
-use Rattle.mp_levels.specs.Plans.{AreNamed}
-use Rattle.mp_levels.specs.Stands.{Stands}
-use Rattle.mp_levels.proofs.NamedPlans.{are_named}
-use Rattle.mp_levels.proofs.Simulations.{named_plan, numbered_plan}
+use Rattle.mp_stands.specs.Numbering.{Numbering}
+use Rattle.mp_stands.specs.Plans.{AreNamed}
+use Rattle.mp_stands.specs.Stands.{Stands}
+use Rattle.mp_stands.proofs.NamedPlans.{are_named}
+use Rattle.mp_stands.proofs.Simulations.{named_plan, numbered_plan}
 use Rattle.mp_team_verdicts.specs.Right.{CostsAtLeast as TasksCostAtLeast, IsUnsolvable as AreTasksUnsolvable}
 use Rattle.mp_solutions.specs.Right.{CostsAtLeast, IsUnsolvable}
 

@@ -13,7 +13,7 @@ use mp_grounder::laws::checked_factors_are_checked;
 use mp_list::OutOfMemory;
 use mp_solutions::{Solution, answers_are_right_for_files};
 use mp_split::{Tasks, tasks};
-use mp_stands::laws::tasks_stand_for_files;
+use mp_stands::tasks::tasks_stand_for_files;
 use mp_task::Heuristic;
 use mp_typing::CheckedFactor;
 use std::alloc::Global;

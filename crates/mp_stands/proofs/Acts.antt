@@ -13,11 +13,11 @@ use Rattle.mp_joint.specs.declared.fact.SignedFact.{SignedFact}
 use Rattle.mp_joint.specs.declared.plan.PlanStep.{PlanStep}
 use Rattle.mp_joint.specs.Grounded.{Setting}
 use Rattle.mp_joint.specs.Instance.{Instance}
-use Rattle.mp_levels.specs.Numbering.{Numbering, AreNumbersOf, privates_of, steps_of}
-use Rattle.mp_levels.specs.Stands.{AreActionsOf, IsActionOf}
-use Rattle.mp_levels.specs.Touched as levels
-use Rattle.mp_levels.specs.Touched.{factor_of, IsGrounded as IsGroundedStep}
-use Rattle.mp_levels.proofs.Lists.{contains_map, from_map, mapped}
+use Rattle.mp_stands.specs.Numbering.{Numbering, AreNumbersOf, privates_of, steps_of}
+use Rattle.mp_stands.specs.Stands.{AreActionsOf, IsActionOf}
+use Rattle.mp_stands.specs.Touched as levels
+use Rattle.mp_stands.specs.Touched.{factor_of, IsGrounded as IsGroundedStep}
+use Rattle.mp_stands.proofs.MemberLists.{contains_map, from_map, mapped}
 use Rattle.mp_grounder.specs.Checked.{IsChecked}
 use Rattle.mp_grounder.specs.Counted.{named_goals, touched_by}
 use Rattle.mp_grounder.specs.Grounding.{GroundedStep, GroundedInstance, grounded, grounded_instance}
@@ -29,13 +29,13 @@ use Rattle.mp_split.specs.TaskOf.{numbered_act, numbers}
 use Rattle.mp_split.specs.Team.{AreGrounded, known_at, shown_by}
 use Rattle.mp_stands.specs.Knowing.{known_setting}
 use Rattle.mp_stands.specs.Numbered.{AreOwnNumbers, IsNumberingOf}
-use Rattle.mp_stands.proofs.Grounds.{IsAgent, to_team, from_team, same_needed, same_added, same_deleted}
-use Rattle.mp_stands.proofs.Lists.{in_parts}
+use Rattle.mp_stands.proofs.GroundedSteps.{IsAgent, to_team, from_team, same_needed, same_added, same_deleted}
+use Rattle.mp_stands.proofs.JoinedLists.{in_parts}
 use Rattle.mp_stands.proofs.Made.{itself}
-use Rattle.mp_stands.proofs.Numbers.{are_numbers}
+use Rattle.mp_stands.proofs.TaskNumbers.{are_numbers}
 use Rattle.mp_stands.proofs.Once.{AreOnce, once_pairs, once_map}
 use Rattle.mp_stands.proofs.Own.{agent, checked}
-use Rattle.mp_stands.proofs.Steps.{steps_once}
+use Rattle.mp_stands.proofs.DistinctSteps.{steps_once}
 use Rattle.mp_stands.proofs.Tables.{IsPublicOfOne}
 
 pub map_twice : {X Y Z : Type 0} (f : Y → Z) (g : X → Y) (xs : List X) → map f (map g xs) ≡ map (λ x. f (g x)) xs

@@ -18,14 +18,14 @@ use Rattle.mp_task.specs.Met.{is_met, met_at_start}
 use Rattle.mp_task.specs.Public as task
 use Rattle.mp_task.proofs.Agreeing.{Contains-slice_get}
 use Rattle.mp_views.specs.declared.view.View.{View}
-use Rattle.mp_levels.proofs.Lists.{contains_map, from_map, from_flat_map, has_place, mapped}
+use Rattle.mp_stands.proofs.MemberLists.{contains_map, from_map, from_flat_map, has_place, mapped}
 use Rattle.mp_grounder.specs.Checked.{IsChecked}
 use Rattle.mp_ground.specs.declared.grounded.Ground.{Ground}
 use Rattle.mp_split.specs.Closed.{closed_view, part_of}
 use Rattle.mp_split.specs.TaskOf.{Shown, numbered_act, far_part, parts_for, task_of}
 use Rattle.mp_split.specs.Team.{AreGrounded, shown_by}
 use Rattle.mp_stands.proofs.Acts.{map_twice}
-use Rattle.mp_stands.proofs.Lists.{in_parts}
+use Rattle.mp_stands.proofs.JoinedLists.{in_parts}
 use Rattle.mp_stands.proofs.Made.{itself}
 use Rattle.mp_stands.proofs.Once.{AreOnce, once_pairs, once_parts}
 use Rattle.mp_stands.proofs.Ordered.{AllLater, later_append, later_pairs}

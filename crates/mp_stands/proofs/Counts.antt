@@ -7,16 +7,16 @@ use Rattle.mp_factor.specs.declared.factor.Factor.{Factor}
 use Rattle.mp_joint.specs.declared.fact.SignedFact.{SignedFact}
 use Rattle.mp_joint.specs.FactorContribution.{factor_contribution, team_of}
 use Rattle.mp_joint.specs.Plan.{Contribution, joint_goal, joint_never}
-use Rattle.mp_levels.specs.Touched.{needed, added, deleted, goals, IsCounted}
-use Rattle.mp_levels.proofs.Contributed.{contributed}
-use Rattle.mp_levels.proofs.Lists.{contains_map, from_map, from_flat_map}
-use Rattle.mp_levels.proofs.Signed.{signed_cases, among_plain, among_complement}
+use Rattle.mp_stands.specs.Touched.{needed, added, deleted, goals, IsCounted}
+use Rattle.mp_stands.proofs.Contributed.{contributed}
+use Rattle.mp_stands.proofs.MemberLists.{contains_map, from_map, from_flat_map}
+use Rattle.mp_stands.proofs.Signed.{signed_cases, among_plain, among_complement}
 use Rattle.mp_grounder.specs.Checked.{IsChecked}
 use Rattle.mp_grounder.specs.Counted.{touched_by, named_goals}
 use Rattle.mp_grounder.specs.Grounding.{GroundedStep, GroundedInstance, grounded, grounded_instance}
 use Rattle.mp_stands.specs.Knowing.{known_setting, IsCountedByOne, IsGoalOfOne}
-use Rattle.mp_stands.proofs.Grounds.{IsAgent, to_team, from_team, same_needed, same_added, same_deleted}
-use Rattle.mp_stands.proofs.Lists.{in_parts}
+use Rattle.mp_stands.proofs.GroundedSteps.{IsAgent, to_team, from_team, same_needed, same_added, same_deleted}
+use Rattle.mp_stands.proofs.JoinedLists.{in_parts}
 use Rattle.mp_stands.proofs.Starting.{contributes}
 
 -- ---- goals

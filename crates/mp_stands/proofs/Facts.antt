@@ -16,8 +16,8 @@ use Rattle.mp_lifted.specs.Views.{setting_of}
 use Rattle.mp_lifted.specs.Vocabulary.{vocabulary_of}
 use Rattle.mp_instances.specs.Instances.{instances}
 use Rattle.mp_ground_facts.specs.Touched.{counted}
-use Rattle.mp_levels.proofs.Lists.{from_map}
-use Rattle.mp_levels.proofs.Owners.{IsFactOf}
+use Rattle.mp_stands.proofs.MemberLists.{from_map}
+use Rattle.mp_stands.proofs.Owners.{IsFactOf}
 use Rattle.mp_grounder.specs.Checked.{IsChecked}
 use Rattle.mp_grounder.specs.Counted.{counted_facts}
 use Rattle.mp_grounder.specs.Named.{signed_fact, IsObject, IsOfFactor}

@@ -19,11 +19,11 @@ use Rattle.mp_joint.specs.Plan.{joint_start}
 use Rattle.mp_lifted.specs.Texts.{signed_text}
 use Rattle.mp_views.specs.Public.{is_public}
 use Rattle.mp_views.specs.declared.view.View.{View}
-use Rattle.mp_levels.specs.Numbering.{AreNumbersOf, HasNumberAmong, StandsForOneOf}
-use Rattle.mp_levels.specs.Stands.{AreTrueAtStart, is_known_to}
-use Rattle.mp_levels.specs.Touched.{factor_of, goals}
-use Rattle.mp_levels.proofs.Lists.{contains_map, from_map, has_place}
-use Rattle.mp_levels.proofs.Owners.{same_agent}
+use Rattle.mp_stands.specs.Numbering.{AreNumbersOf, HasNumberAmong, StandsForOneOf}
+use Rattle.mp_stands.specs.Stands.{AreTrueAtStart, is_known_to}
+use Rattle.mp_stands.specs.Touched.{factor_of, goals}
+use Rattle.mp_stands.proofs.MemberLists.{contains_map, from_map, has_place}
+use Rattle.mp_stands.proofs.Owners.{same_agent}
 use Rattle.mp_grounder.specs.Checked.{IsChecked}
 use Rattle.mp_grounder.specs.Counted.{counted_facts, named_goals}
 use Rattle.mp_ground.specs.declared.grounded.Ground.{Ground}
@@ -35,9 +35,9 @@ use Rattle.mp_split.specs.Team.{AreGrounded, known_at, open_views}
 use Rattle.mp_stands.specs.Knowing.{known_setting, IsCountedByOne, IsGoalOfOne}
 use Rattle.mp_stands.proofs.Counts.{same_goals}
 use Rattle.mp_stands.proofs.Facts.{counted_own, nobody}
-use Rattle.mp_stands.proofs.Grounds.{is_checked}
-use Rattle.mp_stands.proofs.Lists.{any_of_map, listed_some, member_listed, listed_member}
-use Rattle.mp_stands.proofs.Numbers.{private_number, private_stands, public_number, public_stands}
+use Rattle.mp_stands.proofs.GroundedSteps.{is_checked}
+use Rattle.mp_stands.proofs.JoinedLists.{any_of_map, listed_some, member_listed, listed_member}
+use Rattle.mp_stands.proofs.TaskNumbers.{private_number, private_stands, public_number, public_stands}
 use Rattle.mp_stands.proofs.Own.{agent, checked, own_fact, private_is, private_owner_is, counts_own}
 use Rattle.mp_stands.proofs.Places.{from_places, to_places, items_at_places, from_start}
 use Rattle.mp_stands.proofs.Starting.{start_of}

@@ -6,7 +6,7 @@ use Rattle.std.specs.Ordering.{is_lt}
 use Rattle.std.specs.Prelude.{Contains}
 use Rattle.std.proofs.lemmas.Bool.{false≢true}
 use Rattle.mp_list.proofs.Members.{contains_head, contains_tail, contains_cases, no_member}
-use Rattle.mp_levels.proofs.Lists.{contains_map}
+use Rattle.mp_stands.proofs.MemberLists.{contains_map}
 use Rattle.mp_stands.proofs.Once.{AreOnce}
 
 pub record HasList {X : Type 0} (n : ℕ) (P : ℕ → X → Type 0) : Type 0 where

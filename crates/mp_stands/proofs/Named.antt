@@ -22,12 +22,12 @@ use Rattle.mp_joint.specs.Fact.{Text, is_listed}
 use Rattle.mp_joint.specs.FactorContribution.{may_stand, may_stand_for}
 use Rattle.mp_joint.specs.Grounding.{standing_for, object_of, objects_of}
 use Rattle.mp_lifted.specs.Vocabulary.{vocabulary_of}
-use Rattle.mp_levels.proofs.Lists.{contains_map, found_in}
+use Rattle.mp_stands.proofs.MemberLists.{contains_map, found_in}
 use Rattle.mp_grounder.specs.Grounding.{choices, members_by_name}
 use Rattle.mp_grounder.proofs.Atoms.{object_stands}
 use Rattle.mp_grounder.proofs.Parts.{IsDeclared, IsAtom}
 use Rattle.mp_stands.specs.Declared.{AreDeclared}
-use Rattle.mp_stands.proofs.Lists.{in_parts, found_passes}
+use Rattle.mp_stands.proofs.JoinedLists.{in_parts, found_passes}
 
 abbrev is_object_name : Factor → Text → Bool
 is_object_name factor name = is_listed name (vocabulary_of factor).objects

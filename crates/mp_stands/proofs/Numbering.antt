@@ -5,7 +5,7 @@ use Rattle.mp_factor.specs.declared.factor.Factor.{Factor}
 use Rattle.mp_joint.specs.declared.fact.SignedFact.{SignedFact}
 use Rattle.mp_joint.specs.declared.plan.PlanStep.{PlanStep}
 use Rattle.mp_lifted.specs.Texts.{signed_text}
-use Rattle.mp_levels.specs.Numbering.{Numbering}
+use Rattle.mp_stands.specs.Numbering.{Numbering}
 use Rattle.mp_grounder.specs.Checked.{IsChecked}
 use Rattle.mp_grounder.specs.Named.{step_of}
 use Rattle.mp_ground.specs.declared.grounded.Ground.{Ground}

@@ -9,10 +9,10 @@ use Rattle.std.specs.Prelude.{◌≢◌, Contains}
 use Rattle.std.specs.Str.{bytes_eq}
 use Rattle.mp_list.proofs.Members.{contains_head, contains_tail, contains_cases, no_member, any_from}
 use Rattle.mp_joint.specs.Fact.{Text}
-use Rattle.mp_levels.proofs.Lists.{contains_map, from_map}
+use Rattle.mp_stands.proofs.MemberLists.{contains_map, from_map}
 use Rattle.mp_typing.proofs.Passing.{taken_passes}
 use Rattle.mp_grounder.proofs.Distinct.{AreDistinct}
-use Rattle.mp_stands.proofs.Lists.{from_given}
+use Rattle.mp_stands.proofs.JoinedLists.{from_given}
 
 -- no later item has the key of an earlier one
 abbrev pub AreOnce : {X K : Type 0} → (X → K) → List X → Type 0

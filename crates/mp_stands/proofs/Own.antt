@@ -11,9 +11,9 @@ use Rattle.mp_factor.specs.declared.factor.Factor.{Factor}
 use Rattle.mp_names.specs.Numbers.{number_in}
 use Rattle.mp_joint.specs.declared.fact.SignedFact.{SignedFact}
 use Rattle.mp_lifted.specs.Vocabulary.{vocabulary_of}
-use Rattle.mp_levels.specs.Stands.{AreCounted}
-use Rattle.mp_levels.specs.Touched.{factor_of}
-use Rattle.mp_levels.proofs.Owners.{owner_is, same_agent}
+use Rattle.mp_stands.specs.Stands.{AreCounted}
+use Rattle.mp_stands.specs.Touched.{factor_of}
+use Rattle.mp_stands.proofs.Owners.{owner_is, same_agent}
 use Rattle.mp_grounder.specs.Checked.{IsChecked}
 use Rattle.mp_grounder.specs.Counted.{counted_facts, signed_cmp}
 use Rattle.mp_ground.specs.declared.grounded.Ground.{Ground}
@@ -23,7 +23,7 @@ use Rattle.mp_split.specs.Team.{known_at, open_views}
 use Rattle.mp_stands.specs.Knowing.{known_setting, IsCountedByOne}
 use Rattle.mp_stands.proofs.Counts.{same_counted}
 use Rattle.mp_stands.proofs.Facts.{IsOwn, counted_own}
-use Rattle.mp_stands.proofs.Grounds.{is_checked}
+use Rattle.mp_stands.proofs.GroundedSteps.{is_checked}
 use Rattle.mp_stands.proofs.Made.{itself, rising_once}
 use Rattle.mp_stands.proofs.Once.{AreOnce, once_pairs}
 use Rattle.mp_stands.proofs.Tables.{agent_at}

@@ -19,12 +19,12 @@ use Rattle.mp_task.specs.Public as task
 use Rattle.mp_joint.specs.Fact.{Text, is_listed}
 use Rattle.mp_views.specs.declared.view.Part.{Part}
 use Rattle.mp_views.specs.Lines.{part_line}
-use Rattle.mp_levels.proofs.Lists.{has_place}
+use Rattle.mp_stands.proofs.MemberLists.{has_place}
 use Rattle.mp_ground.specs.Places.{text_places_in}
 use Rattle.mp_split.specs.Closed.{texts_at, is_number_in, part_of}
 use Rattle.mp_split.specs.TaskOf.{Shown, table, numbers, numbered_act, far_part}
 use Rattle.mp_stands.proofs.Lines.{IsWhole, line_tells}
-use Rattle.mp_stands.proofs.Lists.{listed_some, member_listed, listed_member}
+use Rattle.mp_stands.proofs.JoinedLists.{listed_some, member_listed, listed_member}
 use Rattle.mp_stands.proofs.Ordered.{same_rising}
 use Rattle.mp_stands.proofs.Places.{from_places, to_places, items_at_places, place_listed, kept_places}
 

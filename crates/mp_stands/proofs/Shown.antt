@@ -15,7 +15,7 @@ use Rattle.mp_views.specs.Opened.{is_public_predicate, public_predicates, open_v
 use Rattle.mp_views.specs.Sorted.{sorted_once}
 use Rattle.mp_views.proofs.SortedLaws.{same_texts}
 use Rattle.mp_split.specs.Team.{open_views}
-use Rattle.mp_stands.proofs.Lists.{any_of_map, any_of_parts, listed_some}
+use Rattle.mp_stands.proofs.JoinedLists.{any_of_map, any_of_parts, listed_some}
 
 module _ (p : Text) where
   abbrev predicate_of : Atom → Text

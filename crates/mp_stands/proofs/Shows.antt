@@ -22,7 +22,7 @@ use Rattle.mp_views.specs.Lines.{part_line}
 use Rattle.mp_views.specs.Parts.{part_cmp, sorted_parts}
 use Rattle.mp_views.specs.Public.{is_public}
 use Rattle.mp_views.proofs.SortedLaws.{rises, same_members, texts_rise}
-use Rattle.mp_levels.proofs.Lists.{contains_map, from_map}
+use Rattle.mp_stands.proofs.MemberLists.{contains_map, from_map}
 use Rattle.mp_grounder.specs.Checked.{IsChecked}
 use Rattle.mp_ground.specs.declared.grounded.Ground.{Ground}
 use Rattle.mp_ground.specs.Grounded.{IsGrounded, act_of, counted, instances_by_name}
@@ -33,7 +33,7 @@ use Rattle.mp_split.specs.Team.{AreGrounded, known_at, shown_by}
 use Rattle.mp_stands.specs.Knowing.{known_setting}
 use Rattle.mp_stands.proofs.Facts.{IsTold}
 use Rattle.mp_stands.proofs.Lines.{IsWhole, plain_whole, complement_whole}
-use Rattle.mp_stands.proofs.Lists.{member_listed, listed_member}
+use Rattle.mp_stands.proofs.JoinedLists.{member_listed, listed_member}
 use Rattle.mp_stands.proofs.Made.{itself, rising_once}
 use Rattle.mp_stands.proofs.Once.{AreOnce, once_map}
 use Rattle.mp_stands.proofs.Ordered.{from_sorted}

@@ -21,16 +21,16 @@ use Rattle.mp_lifted.specs.Texts.{bracketed, fact_text}
 use Rattle.mp_lifted.specs.Views.{is_initial}
 use Rattle.mp_views.specs.Opened.{open_view, public_init}
 use Rattle.mp_views.proofs.SortedLaws.{same_texts}
-use Rattle.mp_levels.specs.Touched.{factor_of}
-use Rattle.mp_levels.proofs.Contributed.{contribution_is, contributed}
-use Rattle.mp_levels.proofs.Lists.{from_map}
-use Rattle.mp_levels.proofs.Owners.{IsFactOf, owner_is, same_agent}
-use Rattle.mp_levels.proofs.SameFacts.{Decides-among}
+use Rattle.mp_stands.specs.Touched.{factor_of}
+use Rattle.mp_stands.proofs.Contributed.{contribution_is, contributed}
+use Rattle.mp_stands.proofs.MemberLists.{from_map}
+use Rattle.mp_stands.proofs.Owners.{IsFactOf, owner_is, same_agent}
+use Rattle.mp_stands.proofs.SameFacts.{Decides-among}
 use Rattle.mp_grounder.specs.Checked.{IsChecked}
 use Rattle.mp_grounder.proofs.Parts.{IsAtom, parts_of}
 use Rattle.mp_split.specs.Team.{open_views}
 use Rattle.mp_stands.specs.Declared.{AreDeclared}
-use Rattle.mp_stands.proofs.Lists.{any_of_map, any_of_parts}
+use Rattle.mp_stands.proofs.JoinedLists.{any_of_map, any_of_parts}
 use Rattle.mp_stands.proofs.Named.{atom_declared, none_stand}
 use Rattle.mp_stands.proofs.Spelled.{declared_spelled}
 use Rattle.mp_stands.proofs.Words.{AreSpelled, same_text}

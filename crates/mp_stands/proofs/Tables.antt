@@ -17,9 +17,9 @@ use Rattle.mp_joint.specs.Fact.{Text, is_listed}
 use Rattle.mp_lifted.specs.Texts.{signed_text}
 use Rattle.mp_views.specs.Public.{is_public}
 use Rattle.mp_views.proofs.SortedLaws.{same_texts, texts_rise}
-use Rattle.mp_levels.specs.Stands.{AreCounted}
-use Rattle.mp_levels.specs.Touched.{factor_of}
-use Rattle.mp_levels.proofs.Lists.{contains_map, from_map, has_place}
+use Rattle.mp_stands.specs.Stands.{AreCounted}
+use Rattle.mp_stands.specs.Touched.{factor_of}
+use Rattle.mp_stands.proofs.MemberLists.{contains_map, from_map, has_place}
 use Rattle.mp_grounder.specs.Checked.{IsChecked}
 use Rattle.mp_grounder.specs.Counted.{counted_facts}
 use Rattle.mp_ground.specs.declared.grounded.Ground.{Ground}
@@ -30,8 +30,8 @@ use Rattle.mp_split.specs.Team.{AreGrounded, known_at, open_views, shown_by}
 use Rattle.mp_stands.specs.Knowing.{known_setting, IsCountedByOne}
 use Rattle.mp_stands.proofs.Counts.{same_counted}
 use Rattle.mp_stands.proofs.Facts.{IsOwn, IsTold, counted_own, signed_tells, nobody}
-use Rattle.mp_stands.proofs.Grounds.{is_checked}
-use Rattle.mp_stands.proofs.Lists.{any_of_map, any_of_parts, member_listed, listed_member}
+use Rattle.mp_stands.proofs.GroundedSteps.{is_checked}
+use Rattle.mp_stands.proofs.JoinedLists.{any_of_map, any_of_parts, member_listed, listed_member}
 use Rattle.mp_stands.proofs.Made.{itself, rising_once, once_from_map}
 use Rattle.mp_stands.proofs.Once.{AreOnce, once_pairs}
 use Rattle.mp_stands.proofs.Spelled.{declared_spelled}

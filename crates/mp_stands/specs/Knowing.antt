@@ -4,7 +4,7 @@ use Rattle.mp_factor.specs.declared.factor.Factor.{Factor}
 use Rattle.mp_joint.specs.declared.fact.SignedFact.{SignedFact}
 use Rattle.mp_joint.specs.Grounded.{Setting}
 use Rattle.mp_lifted.specs.Views.{setting_of}
-use Rattle.mp_levels.specs.Touched.{factor_of}
+use Rattle.mp_stands.specs.Touched.{factor_of}
 use Rattle.mp_grounder.specs.Counted.{counted_facts, named_goals}
 use Rattle.mp_split.specs.Team.{open_views}
 

@@ -4,7 +4,7 @@ use Rattle.mp_factor.specs.declared.factor.Factor.{Factor}
 use Rattle.mp_joint.specs.declared.fact.SignedFact.{SignedFact}
 use Rattle.mp_joint.specs.declared.plan.PlanStep.{PlanStep}
 use Rattle.mp_lifted.specs.Texts.{signed_text}
-use Rattle.mp_levels.specs.Numbering.{Numbering, privates_of, steps_of}
+use Rattle.mp_stands.specs.Numbering.{Numbering, privates_of, steps_of}
 use Rattle.mp_views.specs.Public.{is_public}
 use Rattle.mp_grounder.specs.Named.{step_of}
 use Rattle.mp_ground.specs.declared.grounded.Ground.{Ground}

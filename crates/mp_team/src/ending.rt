@@ -16,7 +16,7 @@ use mp_messages::Log;
 use mp_nodes::{Node, Nodes};
 use mp_post::Posts;
 use mp_task::Heuristic;
-use mp_team_messages::no_receipt_is_bad;
+use mp_team_verdicts::no_receipt_is_bad;
 use std::alloc::Global;
 
 /// The machines of a team whose agents have all ended, that of agent 1 first, and the log of what they did.

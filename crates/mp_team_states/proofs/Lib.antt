@@ -19,3 +19,28 @@ pub mod RoomLemmas
 pub mod RoomCounts
 pub mod Messages
 pub mod WalkingPaths
+-- members of lists; what is kept and sent of a state; own actions one after another; expansions and
+-- receipts; what a state says of the joint state that it is; what agents have found; worlds whose states are sound; the
+-- promises of a heuristic; the step of an event; what stays reached; what an expanded entry leads to; estimates; worlds
+-- that are explored; goal flags; runs; witnesses; what an expansion is worth; what stays expanded; the entries that own
+-- actions add; one agent that expands no state twice
+pub mod Members
+pub mod Kept
+pub mod Continuing
+pub mod Expanded
+pub mod Joint
+pub mod Found
+pub mod SoundWorlds
+pub mod Heuristics
+pub mod Stepping
+pub mod Staying
+pub mod Leading
+pub mod Bounds
+pub mod Explored
+pub mod Flags
+pub mod Runs
+pub mod Shown
+pub mod Worth
+pub mod StillExpanded
+pub mod Adding
+pub mod Once

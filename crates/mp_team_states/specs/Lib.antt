@@ -12,3 +12,11 @@ pub mod Paths
 pub mod Room
 -- walks back and paths
 pub mod Walks
+-- what agents have found
+pub mod TeamFound
+-- estimates and goals of entries
+pub mod Estimates
+-- what shows that a cost may be
+pub mod Witness
+-- what an expansion is worth
+pub mod Expansions

@@ -39,14 +39,14 @@ use Rattle.mp_team_states.proofs.Reached.{has_it}
 use Rattle.mp_team_states.proofs.StartReached.{task_is}
 use Rattle.mp_team_states.proofs.StartSound.{start_states_sound}
 use Rattle.mp_team_states.proofs.StepsSound.{agent_sound, states_stay_sound}
-use Rattle.mp_team_explored.specs.Expansions.{IsExpandedAt, nothing_known}
-use Rattle.mp_team_explored.proofs.Continuing.{WasExpanded}
-use Rattle.mp_team_explored.proofs.Heuristics.{heuristic_of}
-use Rattle.mp_team_explored.proofs.Members.{from_map}
-use Rattle.mp_team_explored.proofs.Once.{HasRisingCosts, rising_first, rising_later}
-use Rattle.mp_team_explored.proofs.SoundWorlds.{IsHeuristic, later_cheaper, states_known}
-use Rattle.mp_team_explored.proofs.StillExpanded.{stays_expanded}
-use Rattle.mp_team_explored.proofs.Worth.{expands_one, worth}
+use Rattle.mp_team_states.specs.Expansions.{IsExpandedAt, nothing_known}
+use Rattle.mp_team_states.proofs.Continuing.{WasExpanded}
+use Rattle.mp_team_states.proofs.Heuristics.{heuristic_of}
+use Rattle.mp_team_states.proofs.Members.{from_map}
+use Rattle.mp_team_states.proofs.Once.{HasRisingCosts, rising_first, rising_later}
+use Rattle.mp_team_states.proofs.SoundWorlds.{IsHeuristic, later_cheaper, states_known}
+use Rattle.mp_team_states.proofs.StillExpanded.{stays_expanded}
+use Rattle.mp_team_states.proofs.Worth.{expands_one, worth}
 use Rattle.mp_team_verdicts.specs.Right.{IsUndecided}
 use Rattle.mp_team_verdicts.proofs.Counts.{count_by, count_more, counted_in_runs, is_by}
 use Rattle.mp_team_verdicts.proofs.FewStates.{AreApart, IsAloneState, few_apart, map_apart, same_states, state_number, state_number_below}

@@ -24,13 +24,13 @@ use Rattle.mp_world.proofs.Agents.{agent_there}
 use Rattle.mp_world.proofs.Runs.{run_of_team}
 use Rattle.mp_world.proofs.Stepping.{team_size}
 use Rattle.mp_team_snapshots.proofs.Agreeing.{agreeing_team}
-use Rattle.mp_team_explored.proofs.SoundWorlds.{IsHeuristic}
-use Rattle.mp_team_walks.specs.Ending.{IsAt, Stage}
-use Rattle.mp_team_walks.specs.Ending.Stage.{over, picking, searching, walking, without_plan}
-use Rattle.mp_team_walks.specs.Shares.{IsOutcome}
-use Rattle.mp_team_walks.proofs.InRuns.{ends_so_far}
-use Rattle.mp_team_walks.proofs.Proving.{end_decides}
-use Rattle.mp_team_walks.proofs.Sharing.{shares_in_runs}
+use Rattle.mp_team_states.proofs.SoundWorlds.{IsHeuristic}
+use Rattle.mp_team_verdicts.specs.Ending.{IsAt, Stage}
+use Rattle.mp_team_verdicts.specs.Ending.Stage.{over, picking, searching, walking, without_plan}
+use Rattle.mp_team_verdicts.specs.Shares.{IsOutcome}
+use Rattle.mp_team_verdicts.proofs.InRuns.{ends_so_far}
+use Rattle.mp_team_verdicts.proofs.Proving.{end_decides}
+use Rattle.mp_team_verdicts.proofs.Sharing.{shares_in_runs}
 use Rattle.mp_team_verdicts.specs.Right.{IsOptimal, IsRightAnswer, IsUndecided, IsUnsolvable}
 use Rattle.mp_team_verdicts.proofs.Verdicts.{verdict_right}
 

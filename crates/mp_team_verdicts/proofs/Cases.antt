@@ -7,7 +7,7 @@ use Rattle.mp_messages.specs.declared.message.Findings.{Findings}
 use Rattle.mp_snapshot.specs.declared.verdict.Verdict.{Verdict}
 use Rattle.mp_snapshot.specs.declared.verdict.Verdict.TheVariants.{Proved, NoPlan, Spent, Continue}
 use Rattle.mp_snapshot.specs.VerdictRule.{by_costs, first_from, is_cost, least_f, least_goal, lowest_agent, proved, spent_or_on, unproved, verdict_of}
-use Rattle.mp_team_cuts.proofs.Unnumbered.{IsNamed}
+use Rattle.mp_team_snapshots.proofs.Unnumbered.{IsNamed}
 
 -- a cost is at most that of what is left to do, if something is
 abbrev pub IsNoneBelow : ℕ → Option ℕ → Type 0

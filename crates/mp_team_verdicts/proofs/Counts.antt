@@ -27,8 +27,8 @@ use Rattle.mp_world.specs.Events.{after_event, agent_of, run, taken}
 use Rattle.mp_world.specs.Steps.{IsStepOf}
 use Rattle.mp_world.specs.World.{World, agent_at}
 use Rattle.mp_world.proofs.Runs.{run_has_history}
-use Rattle.mp_team_cuts.specs.Cut.{cut_from, is_before_cut, kept_event}
-use Rattle.mp_team_explored.proofs.Worth.{IsWorth, worth}
+use Rattle.mp_team_snapshots.specs.Cut.{cut_from, is_before_cut, kept_event}
+use Rattle.mp_team_states.proofs.Worth.{IsWorth, worth}
 use Rattle.mp_team_states.proofs.Quiet.{IsOther, IsQuiet, quiet_message, quiet_started}
 use Rattle.mp_team_states.proofs.StartReached.{task_is}
 use Rattle.mp_team_states.proofs.WorldsGrow.{state_or_other, state_taken, taking}

@@ -15,7 +15,7 @@ use Rattle.mp_sets.specs.Numbers.{AllBelow, Numbers}
 use Rattle.mp_sets.proofs.ComparedLemmas.{bit_at-binary_below, one_if}
 use Rattle.mp_sets.proofs.SetLemmas.{same_numbers}
 use Rattle.mp_search.specs.AgentState.{AgentState, no_tag}
-use Rattle.mp_team_explored.proofs.Members.{from_map}
+use Rattle.mp_team_states.proofs.Members.{from_map}
 
 -- ---- numbers of which no two are equal
 

@@ -41,8 +41,8 @@ use Rattle.mp_world.proofs.Agents.{agree_numbered, member_of, sender_of}
 use Rattle.mp_world.proofs.Mail.{agent_of_team, under_way-other}
 use Rattle.mp_world.proofs.Runs.{run_has}
 use Rattle.mp_world.proofs.Stepping.{team_lists, team_size}
-use Rattle.mp_team_explored.proofs.Joint.{receiver_is}
-use Rattle.mp_team_explored.proofs.Members.{from_flat_map, from_map}
+use Rattle.mp_team_states.proofs.Joint.{receiver_is}
+use Rattle.mp_team_states.proofs.Members.{from_flat_map, from_map}
 use Rattle.mp_team_states.proofs.Quiet.{IsOther, IsQuiet, quiet_message, quiet_started}
 use Rattle.mp_team_states.proofs.WorldsGrow.{state_or_other, state_taken, taking}
 

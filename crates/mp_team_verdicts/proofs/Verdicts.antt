@@ -28,21 +28,21 @@ use Rattle.mp_world.proofs.Stepping.{team_size}
 use Rattle.mp_team_states.specs.Paths.{AreReached}
 use Rattle.mp_team_states.proofs.Reached.{entry_in}
 use Rattle.mp_team_states.proofs.StepsSound.{agent_sound}
-use Rattle.mp_team_explored.specs.Estimates.{AreGoalsFlagged}
-use Rattle.mp_team_explored.specs.TeamFound.{found_of}
-use Rattle.mp_team_explored.proofs.Flags.{flags_of_joint}
-use Rattle.mp_team_explored.proofs.Runs.{IsInvariant, run_invariant}
-use Rattle.mp_team_explored.proofs.SoundWorlds.{IsHeuristic}
-use Rattle.mp_team_walks.proofs.Few.{holds_so_far}
-use Rattle.mp_team_cuts.specs.Cut.{cut_schedule}
-use Rattle.mp_team_cuts.specs.Found.{findings_in}
-use Rattle.mp_team_cuts.specs.Verdicts.{HasVerdictWorld}
-use Rattle.mp_team_cuts.proofs.Teams.{has_verdict_world}
+use Rattle.mp_team_states.specs.Estimates.{AreGoalsFlagged}
+use Rattle.mp_team_states.specs.TeamFound.{found_of}
+use Rattle.mp_team_states.proofs.Flags.{flags_of_joint}
+use Rattle.mp_team_states.proofs.Runs.{IsInvariant, run_invariant}
+use Rattle.mp_team_states.proofs.SoundWorlds.{IsHeuristic}
+use Rattle.mp_team_verdicts.proofs.Few.{holds_so_far}
+use Rattle.mp_team_snapshots.specs.Cut.{cut_schedule}
+use Rattle.mp_team_snapshots.specs.Found.{findings_in}
+use Rattle.mp_team_snapshots.specs.Verdicts.{HasVerdictWorld}
+use Rattle.mp_team_snapshots.proofs.Teams.{has_verdict_world}
 use Rattle.mp_team_verdicts.specs.Right.{CostsAtLeast, HasExpanded, IsLeast, IsOptimal, IsReachedAt, IsRightVerdict, IsAtLimit, IsUndecided, IsUnsolvable}
 use Rattle.mp_team_verdicts.proofs.Cases.{IsAbove, IsNoneBelow, SaysSpent, says_no_plan, says_proved_cost, says_spent}
 use Rattle.mp_team_verdicts.proofs.Counted.{goal_counted, open_counted, state_counted, witness_counted}
 use Rattle.mp_team_verdicts.proofs.Counts.{AreCounted, count_cut, counted_in_runs}
-use Rattle.mp_team_verdicts.proofs.Entries.{HasOpenAt, least_f_there}
+use Rattle.mp_team_verdicts.proofs.LeastEntries.{HasOpenAt, least_f_there}
 use Rattle.mp_team_verdicts.proofs.Least.{IsAtMost, at_most_is, none_at_most}
 use Rattle.mp_team_verdicts.proofs.ToOthers.{HaveNoneToThemselves, none_to_themselves}
 

@@ -17,10 +17,10 @@ use Rattle.mp_machine.specs.AgentRecord.{AgentRecord}
 use Rattle.mp_world.specs.declared.answer.Answer.{Answer}
 use Rattle.mp_world.specs.declared.answer.Answer.TheVariants as answers
 use Rattle.mp_world.specs.World.{IsAgent, World, agent_at}
-use Rattle.mp_team_cuts.specs.CutWorlds.{HasCut}
+use Rattle.mp_team_snapshots.specs.CutWorlds.{HasCut}
 use Rattle.mp_team_snapshots.specs.Messages.{messages}
 use Rattle.mp_team_states.specs.Paths.{IsEntryAt}
-use Rattle.mp_team_walks.specs.Shares.{IsOutcome}
+use Rattle.mp_team_verdicts.specs.Shares.{IsOutcome}
 
 -- ---- plans
 

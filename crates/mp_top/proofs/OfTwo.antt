@@ -10,8 +10,8 @@ use Rattle.mp_messages.specs.declared.history.Event.{Event}
 use Rattle.mp_optimality.specs.Certified.{IsCertified}
 use Rattle.mp_outside.specs.Acts.{FileAsked}
 use Rattle.mp_outside.specs.Source.{Files}
-use Rattle.mp_renaming.specs.Renaming.{Renaming}
-use Rattle.mp_renaming.specs.Team.{IsRenamedTeam}
+use Rattle.mp_stands.specs.Renaming.{Renaming}
+use Rattle.mp_stands.specs.Team.{IsRenamedTeam}
 use Rattle.mp_replays.specs.Same.{AreSameSearches, IsFoundAgain}
 use Rattle.mp_replays.specs.Traces.{IsTraceOf}
 use Rattle.mp_sets.specs.Numbers.{Numbers}

@@ -27,7 +27,7 @@ use Rattle.mp_split.specs.declared.team.Tasks.{Tasks}
 use Rattle.mp_task.specs.Agree.{Agree}
 use Rattle.mp_task.specs.AgentTask.{AgentTask}
 use Rattle.mp_task.specs.Limits.{IsWithinLimits}
-use Rattle.mp_team_explored.specs.Expansions.{nothing_known}
+use Rattle.mp_team_states.specs.Expansions.{nothing_known}
 use Rattle.mp_team_verdicts.proofs.Alone.{few_if_spent}
 use Rattle.mp_team_verdicts.proofs.Counts.{count_by, counted_in_runs}
 use Rattle.mp_words.specs.Requests.{Searching, Wanted}

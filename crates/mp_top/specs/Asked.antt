@@ -8,7 +8,7 @@ use Rattle.mp_lmcut.specs.Cut.{lmcut}
 use Rattle.mp_pdb.specs.Pattern.{pattern_value}
 use Rattle.mp_joint.specs.Fact.{Text}
 use Rattle.mp_maker.specs.Delivery.{delivery}
-use Rattle.mp_team_explored.specs.Expansions.{nothing_known}
+use Rattle.mp_team_states.specs.Expansions.{nothing_known}
 use Rattle.mp_files.specs.Asked.{team_asked}
 use Rattle.mp_files.specs.Team.{Two}
 use Rattle.mp_outside.specs.Acts.{FileAsked}

@@ -30,7 +30,7 @@ use mp_pdb::Pdb;
 use mp_solutions::answers_are_right_for_files;
 use mp_solve::{Solution, are_within_limits, machines_of, told};
 use mp_split::{Tasks, tasks};
-use mp_stands::laws::tasks_stand_for_files;
+use mp_stands::tasks::tasks_stand_for_files;
 use mp_task::{Blind, Heuristic, TaskList};
 use mp_team::{Finished, solve};
 use mp_typing::CheckedFactor;

@@ -5,8 +5,8 @@ ghost use Rattle.std.specs.Prelude.{◌≡◌, ◌≤◌, ℕ, List, Option, Som
 ghost use Rattle.mp_factor.specs.declared.factor.Factor.{Factor};
 ghost use Rattle.mp_messages.specs.History.{schedule};
 ghost use Rattle.mp_outside.specs.Source.{Files};
-ghost use Rattle.mp_renaming.specs.Renaming.{Renaming};
-ghost use Rattle.mp_renaming.specs.Team.{IsRenamedTeam};
+ghost use Rattle.mp_stands.specs.Renaming.{Renaming};
+ghost use Rattle.mp_stands.specs.Team.{IsRenamedTeam};
 ghost use Rattle.mp_split.specs.Team.{AreTasksOf};
 ghost use Rattle.mp_split.specs.declared.team.Tasks.{Tasks};
 ghost use Rattle.mp_top.specs.Asked.{KeepsLimits, Texts, longest_schedule, team_request, texts_of, values_of};

@@ -4,7 +4,7 @@ use Rattle.mp_solve.proofs.Ends.{of_itself}
 use Rattle.mp_solve.proofs.Finds.{are_of_run}
 use Rattle.mp_text.specs.Outcome.{outcome_text}
 use Rattle.mp_world.specs.Answers.{outcome_of}
-use Rattle.mp_team_explored.specs.Expansions.{nothing_known}
+use Rattle.mp_team_states.specs.Expansions.{nothing_known}
 use Rattle.mp_optimality.proofs.CertifiedRuns.{certified_by}
 use Rattle.mp_optimality.proofs.certifying.certify_tasks.Goals as goal
 

@@ -1,4 +1,4 @@
-use Rattle.mp_team_explored.proofs.Heuristics.{heuristic_of}
+use Rattle.mp_team_states.proofs.Heuristics.{heuristic_of}
 use Rattle.mp_solutions.proofs.Files.{answer_for_files}
 use Rattle.mp_solutions.proofs.laws.answers_are_right_for_files.Goals as goal
 

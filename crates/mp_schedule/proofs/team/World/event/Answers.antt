@@ -6,7 +6,7 @@ use Rattle.mp_schedule.specs.Happening.{IsAnswer, refusal_of}
 use Rattle.mp_schedule.specs.Laws.{KeepsLaws}
 use Rattle.mp_schedule.specs.Machines.{limit_of, tasks_of, team_run, world_of}
 use Rattle.mp_schedule.specs.TeamRun.{TeamRun}
-use Rattle.mp_team_explored.specs.Expansions.{ExpandsOne}
+use Rattle.mp_team_states.specs.Expansions.{ExpandsOne}
 use Rattle.mp_schedule.proofs.Answering.{answer_ok, fails, goes_on, nothing_against}
 use Rattle.mp_schedule.proofs.Keeping.{expanded, kept}
 use Rattle.mp_schedule.proofs.team.World.event.Goals as goal

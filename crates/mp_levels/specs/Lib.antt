@@ -1,4 +1,0 @@
-pub mod Numbering
-pub mod Touched
-pub mod Stands
-pub mod Plans

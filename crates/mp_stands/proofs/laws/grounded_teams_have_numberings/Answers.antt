@@ -1,5 +1,0 @@
-use Rattle.mp_stands.proofs.Numbering.{has_numbering}
-use Rattle.mp_stands.proofs.laws.grounded_teams_have_numberings.Goals as goal
-
-pub returns : goal.returns
-returns c = has_numbering

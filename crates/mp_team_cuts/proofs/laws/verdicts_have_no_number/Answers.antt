@@ -1,5 +1,0 @@
-use Rattle.mp_team_cuts.proofs.Unnumbered.{verdict_same}
-use Rattle.mp_team_cuts.proofs.laws.verdicts_have_no_number.Goals as goal
-
-pub returns : goal.returns
-returns c = λ number found. verdict_same number found

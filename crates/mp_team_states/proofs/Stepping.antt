@@ -1,0 +1,199 @@
+-- What an event does to what its agent keeps and sent, and to the messages under way.
+use Rattle.std.proofs.Common.{◌≡◌, ◌≢◌, ℕ, ◌+◌, ◌<◌, ◌^◌, ◌⊎◌, Bool, true, List, [], ◌∷◌, map, Option, Some, All, refl, sym, subst, ◌∙◌, inl, inr}
+use Rattle.std.specs.Prelude.{Contains, Ok, drop, slice_get, slice_index_or, ◌==◌, if◌then◌else◌}
+use Rattle.std.specs.List.{filter, flat_map}
+use Rattle.std.proofs.lemmas.Bool.{and_parts, cases_eq, eq-eqb}
+use Rattle.std.proofs.lemmas.List.Elements.{All-contains, Contains-append_left, Contains-append_right}
+use Rattle.mp_list.proofs.Members.{contains_cases, no_member}
+use Rattle.mp_sets.specs.Numbers.{Numbers}
+use Rattle.mp_task.specs.declared.act.Act.{Act}
+use Rattle.mp_task.specs.Agree.{Agree}
+use Rattle.mp_task.specs.AgentTask.{AgentTask}
+use Rattle.mp_task.specs.Limits.{ActFits, IsWithinLimits}
+use Rattle.mp_messages.specs.declared.history.Event.{Event}
+use Rattle.mp_messages.specs.declared.history.Event.TheVariants.{Expand, Take, Start}
+use Rattle.mp_messages.specs.declared.message.Message.{Message}
+use Rattle.mp_messages.specs.declared.message.Message.TheVariants as kinds
+use Rattle.mp_messages.specs.declared.message.State.{State}
+use Rattle.mp_messages.specs.Spelling.{spelling}
+use Rattle.mp_store.specs.declared.entry.Entry.{Entry}
+use Rattle.mp_store.proofs.RankLemmas.{member_kept}
+use Rattle.mp_search.specs.declared.answer.Sending.{Sending}
+use Rattle.mp_search.specs.AgentState.{AgentState, successor}
+use Rattle.mp_search.specs.Expansion.{expanded}
+use Rattle.mp_search.specs.Offering.{own_value}
+use Rattle.mp_search.specs.Receipt.{IsStateFor, received}
+use Rattle.mp_search.specs.Search.{SearchRecord, may_expand}
+use Rattle.mp_machine.specs.declared.outgoing.Out.{Out}
+use Rattle.mp_machine.specs.AgentRecord.{AgentRecord, is_going}
+use Rattle.mp_machine.specs.LocalStep.{outgoing_of, with_search}
+use Rattle.mp_machine.specs.Outgoing.{Step, in_bytes, without_messages}
+use Rattle.mp_machine.specs.Snapshots.{started}
+use Rattle.mp_machine.specs.Taking.{took_message, took_state, with_state}
+use Rattle.mp_world.specs.Events.{agent_of, taken, without_taken}
+use Rattle.mp_world.specs.Steps.{IsStepOf, sent_between, sent_to}
+use Rattle.mp_world.specs.World.{IsAgent, IsTeamWorld, World, agent_at, under_way}
+use Rattle.mp_world.proofs.Agents.{agree_numbered, sender_of}
+use Rattle.mp_world.proofs.Mail.{agent_of_team, under_way-other, under_way-same}
+use Rattle.mp_world.proofs.Stepping.{team_lists}
+use Rattle.mp_team_states.specs.Room.{AreSmall, HasSmallValues}
+use Rattle.mp_team_states.specs.Sent.{IsSentIn}
+use Rattle.mp_team_states.specs.Sound.{AreStatesSound}
+use Rattle.mp_team_states.proofs.LocalStates.{GoesOut as GoesOutSound, IsSoundStep, expansion_sound}
+use Rattle.mp_team_states.proofs.Quiet.{IsOther, IsQuiet, quiet_message, quiet_started}
+use Rattle.mp_team_states.proofs.RoomLemmas.{small_value}
+use Rattle.mp_team_states.proofs.StepsSound.{agent_sound, limits_of}
+use Rattle.mp_team_states.proofs.WorldsGrow.{IsTaking, state_or_other, state_taken, taking}
+use Rattle.mp_team_states.proofs.Expanded.{HasExpanded, gone_on, has_expanded, received_continues}
+use Rattle.mp_team_states.proofs.Continuing.{continues_same}
+use Rattle.mp_team_states.proofs.SoundWorlds.{entry_room, task_in}
+use Rattle.mp_team_states.proofs.Members.{to_flat_map, to_map}
+
+-- What a step does: what its agent keeps and sent, and that each sending goes out to each agent that it is for.
+pub record HasStepped (value : Numbers → Numbers → Option ℕ) (r : AgentRecord) (s : Step) : Type 0 where
+  pub task : s.after.task ≡ r.task
+  pub out : List Sending
+  pub done : HasExpanded r.task value r.search.kept out s.after.search.kept
+  pub goes : (x : Sending) → Contains out x → (to : ℕ) → Contains x.to to
+      → Contains s.out (record { to = to; message = kinds.State x.state }) × IsStateFor r.task x.state × IsSentIn r.task s.after.search.kept x.state
+
+-- a step that leaves the search as it is
+quiet_stepped : (value : Numbers → Numbers → Option ℕ) (r : AgentRecord) (s : Step) → IsQuiet r.task r.limit r.search s → HasStepped value r s
+quiet_stepped value r s quiet = record {
+  task = quiet.task;
+  out = [];
+  done = subst (λ (x : SearchRecord). HasExpanded r.task value r.search.kept [] x.kept) (sym quiet.search_is) (gone_on r.task value r.search.kept r.search.kept [] (continues_same r.task r.search.kept));
+  goes = λ x here. absurd (no_member x here);
+}
+
+module _ (tasks : List AgentTask) (agree : Agree tasks) (limits : All IsWithinLimits tasks) (w : World) (team : IsTeamWorld tasks w) (sound : AreStatesSound tasks w) where
+  module _ (small : AreSmall w) (value : AgentTask → Numbers → Numbers → Option ℕ) (values : HasSmallValues value tasks) (agent : ℕ) (r : AgentRecord) (there : agent_at w agent ≡ Some r) where
+    -- an expansion
+    expand_stepped : may_expand r.limit r.search ≡ true → HasStepped (value r.task) r (with_search r (expanded r.task (value r.task) r.search))
+    expand_stepped may = record {
+      task = refl;
+      out = d.0;
+      done = has_expanded r.task (value r.task) r.search (λ n e act h at here is. room n e act h at here is);
+      goes = λ x here to for.
+          let goes : Contains (flat_map outgoing_of d.0) (record { to = to; message = kinds.State x.state }) =
+          to_flat_map outgoing_of d.0 x (record { to = to; message = kinds.State x.state }) here
+          (to_map (λ (agent : ℕ). record { to = agent; message = kinds.State x.state }) x.to to for)
+          in
+          let fits = All-contains (GoesOutSound r.task d.1.kept) (flat_map outgoing_of d.0) (record { to = to; message = kinds.State x.state }) whole.out goes in
+          (goes, fits.0, fits.1);
+    }
+      where
+        d : List Sending × SearchRecord
+        d = expanded r.task (value r.task) r.search
+
+        fit : IsWithinLimits r.task
+        fit = limits_of tasks agree limits w team agent r there
+
+        whole : IsSoundStep w r.task (with_search r d)
+        whole = expansion_sound w r fit (agent_sound tasks agree limits w team sound agent r there) (value r.task) may
+
+        room : (n : ℕ) (e : Entry AgentState) (act : Act) (h : ℕ) → slice_get r.search.kept.entries n ≡ Some e → Contains r.task.acts act
+            → own_value r.task (value r.task) (successor act e.key) ≡ Some h → e.g + act.cost + h < 2 ^ 60
+        room n e act h at here is =
+            let s = successor act e.key in
+            let price = (All-contains (ActFits r.task.publics r.task.privates) r.task.acts act fit.acts here).cost in
+            entry_room tasks agree limits w team sound small agent n r e there at act.cost h price
+            (small_value (value r.task s.publics s.mine) h (values r.task s.publics s.mine (task_in tasks agree limits w team agent r there)) is)
+
+    -- a message
+    take_stepped : (from : ℕ) (m : Message) (s : Step) → took_message (value r.task) r from m ≡ Ok s → HasStepped (value r.task) r s
+    unfolding with_state
+    take_stepped from m s took = by (state_or_other m)
+      where
+        state_stepped : (x : State) → HasStepped (value r.task) r (without_messages (with_state (value r.task) r from x))
+        state_stepped x = record {
+          task = refl;
+          out = [];
+          done = gone_on r.task (value r.task) r.search.kept (received r.task (value r.task) from x r.search.kept).1 [] (received_continues r.task (value r.task) from x r.search.kept);
+          goes = λ y here. absurd (no_member y here);
+        }
+
+        by : ((x : State) × (m ≡ kinds.State x)) ⊎ IsOther m → HasStepped (value r.task) r s
+        by (inl found) =
+            let took_x : took_state (value r.task) r from found.0 ≡ Ok s = subst (λ (m : Message). took_message (value r.task) r from m ≡ Ok s) found.1 took in
+            subst (HasStepped (value r.task) r) (state_taken (value r.task) r from found.0 s took_x) (state_stepped found.0)
+        by (inr other) = quiet_stepped (value r.task) r s (quiet_message r s (value r.task) from m other took)
+
+  module _ (value : AgentTask → Numbers → Numbers → Option ℕ) (next : World) where
+    pub event_stepped : AreSmall w → HasSmallValues value tasks → (event : Event) (is : IsStepOf value w event next) → HasStepped (value is.agent.task) is.agent is.step
+    event_stepped small values (Expand agent) is =
+        let r = is.agent in
+        let d = expanded r.task (value r.task) r.search in
+        let same : with_search r d ≡ is.step = let done : Ok (with_search r d) ≡ Ok is.step = is.local in cc in
+        let may = and_parts (is_going r.ending) (may_expand r.limit r.search) is.may in
+        subst (HasStepped (value r.task) r) same (expand_stepped small value values agent r is.there may.1)
+    event_stepped small values (Take by from) is =
+        let r = is.agent in
+        let t : IsTaking (value r.task) r from (taken w (Take by from)) is.step = taking (value r.task) r from (taken w (Take by from)) is.step is.local in
+        take_stepped small value values by r is.there from t.message is.step t.took
+    event_stepped small values Start is =
+        let r = is.agent in
+        let same : started r ≡ is.step = let done : Ok (started r) ≡ Ok is.step = is.local in cc in
+        subst (HasStepped (value r.task) r) same (quiet_stepped (value r.task) r (started r) (quiet_started r))
+
+    -- ---- messages under way
+
+    first_or_later : (xs : List (List ℕ)) (x : List ℕ) → Contains xs x → (slice_index_or xs 0 [] ≡ x) ⊎ Contains (drop 1 xs) x
+    first_or_later [] x here = absurd (no_member x here)
+    first_or_later (y ∷ ys) x here = contains_cases y ys x here
+
+    -- a message is still under way, or it is the one that is taken
+    pub still_there : (event : Event) → IsStepOf value w event next → (from to : ℕ) → IsAgent w from → IsAgent w to → (bytes : List ℕ) → Contains (under_way w from to) bytes
+        → Contains (under_way (without_taken w event) from to) bytes ⊎ ((event ≡ Take to from) × (taken w event ≡ bytes))
+    still_there (Expand agent) is from to sender receiver bytes here = inl here
+    still_there Start is from to sender receiver bytes here = inl here
+    still_there (Take by of) is from to sender receiver bytes here = both (cases_eq from of) (cases_eq to by)
+      where
+        left : List (List ℕ)
+        left = drop 1 (under_way w of by)
+
+        from_there : IsAgent w of
+        from_there = (sender_of tasks (agree_numbered tasks agree) w team by of is.agent is.there is.may).0
+
+        Still : Type 0
+        Still = Contains (under_way (without_taken w (Take by of)) from to) bytes
+
+        other : (from ≢ of) ⊎ (to ≢ by) → Still
+        other apart =
+            subst (λ (ms : List (List ℕ)). Contains ms bytes)
+            (sym (under_way-other w (team_lists tasks w team) of by from to left from_there (agent_of_team w by is.agent is.there) sender receiver apart)) here
+
+        both : (from ≡ of) ⊎ (from ≡ of → ⊥) → (to ≡ by) ⊎ (to ≡ by → ⊥) → Still ⊎ ((Take by of ≡ Take to from) × (taken w (Take by of) ≡ bytes))
+        both (inr apart) any = inl (other (inl apart))
+        both (inl same) (inr apart) = inl (other (inr apart))
+        both (inl same) (inl same_to) =
+            which (first_or_later (under_way w of by) bytes (subst (λ (ms : List (List ℕ)). Contains ms bytes) (λ j. under_way w (same j) (same_to j)) here))
+          where
+            which : (slice_index_or (under_way w of by) 0 [] ≡ bytes) ⊎ Contains left bytes → Still ⊎ ((Take by of ≡ Take to from) × (taken w (Take by of) ≡ bytes))
+            which (inl first) = inr (λ j. Take (sym same_to j) (sym same j), first)
+            which (inr later) =
+                let now : under_way (without_taken w (Take by of)) from to ≡ left =
+                (λ j. under_way (without_taken w (Take by of)) (same j) (same_to j))
+                ∙ under_way-same w (team_lists tasks w team) of by left from_there (agent_of_team w by is.agent is.there)
+                in
+                inl (subst (λ (ms : List (List ℕ)). Contains ms bytes) (sym now) later)
+
+    module _ (event : Event) (is : IsStepOf value w event next) where
+      pub stays_under_way : (from to : ℕ) → IsAgent w from → IsAgent w to → (bytes : List ℕ) → Contains (under_way (without_taken w event) from to) bytes → Contains (under_way next from to) bytes
+      stays_under_way from to sender receiver bytes here =
+          subst (λ (ms : List (List ℕ)). Contains ms bytes) (sym (is.mail from to sender receiver))
+          (Contains-append_left (under_way (without_taken w event) from to) (sent_between event is.step from to) bytes here)
+
+      -- what goes out is under way
+      pub out_is_under_way : (to : ℕ) (m : Message) → IsAgent w (agent_of event) → IsAgent w to → Contains is.step.out (record { to = to; message = m }) → Contains (under_way next (agent_of event) to) (spelling m)
+      out_is_under_way to m sender receiver here =
+          let out : Out = record { to = to; bytes = spelling m } in
+          let all = map in_bytes is.step.out in
+          let one : Contains all out = to_map in_bytes is.step.out (record { to = to; message = m }) here in
+          let for : Contains (filter (λ (x : Out). x.to == to) all) out = member_kept (λ (x : Out). x.to == to) all out one (eq-eqb to to refl) in
+          let goes : Contains (sent_to to all) (spelling m) = to_map (λ (x : Out). x.bytes) (filter (λ (x : Out). x.to == to) all) out for in
+          let between : Contains (sent_between event is.step (agent_of event) to) (spelling m) =
+          subst (λ (b : Bool). Contains (if b then sent_to to all else []) (spelling m)) (sym (eq-eqb (agent_of event) (agent_of event) refl)) goes
+          in
+          subst (λ (ms : List (List ℕ)). Contains ms (spelling m)) (sym (is.mail (agent_of event) to sender receiver))
+          (Contains-append_right (under_way (without_taken w event) (agent_of event) to) (sent_between event is.step (agent_of event) to) (spelling m) between)

@@ -1,0 +1,121 @@
+-- The entries of an agent: its messages go to other agents of its team.
+use Rattle.std.proofs.Common.{◌≡◌, ◌≤◌, ℕ, Bool, true, false, ◌&&◌, List, [], ◌∷◌, map, length, Option, refl, sym, subst, arith}
+use Rattle.std.specs.Prelude.{◌==◌, All, Contains, Ok, nat_le, not}
+use Rattle.std.proofs.lemmas.Bool.{and_parts, eqb-false, leb-true}
+use Rattle.std.proofs.lemmas.List.Elements.{All-append, All-cons, All-contains, All-head, All-nil, All-tail, All-weaker}
+use Rattle.mp_sets.specs.Numbers.{Numbers}
+use Rattle.mp_task.specs.AgentTask.{AgentTask}
+use Rattle.mp_messages.specs.declared.history.Entry.{Entry}
+use Rattle.mp_messages.specs.declared.history.Event.{Event}
+use Rattle.mp_messages.specs.declared.history.Event.TheVariants.{Expand, Take, Start}
+use Rattle.mp_messages.specs.History.{part}
+use Rattle.mp_machine.specs.declared.event.Local.TheVariants as locals
+use Rattle.mp_machine.specs.AgentRecord.{AgentRecord, is_going, new_record}
+use Rattle.mp_machine.specs.LocalStep.{is_another, local, may}
+use Rattle.mp_machine.specs.Outgoing.{Outgoing, Step, in_bytes}
+use Rattle.mp_world.specs.Events.{agent_of, local_of, sent_in}
+use Rattle.mp_world.specs.Logs.{HasDone, IsLog, entries_of, entry_of, put_by}
+use Rattle.mp_world.specs.Logs.HasDone.{nothing, onward}
+use Rattle.mp_world.specs.World.{AreNumbered}
+use Rattle.mp_logs.proofs.Made.{number_of}
+use Rattle.mp_logs.proofs.Onward.{done_task}
+use Rattle.mp_team_states.proofs.Joint.{IsReceiver}
+use Rattle.mp_team_verdicts.specs.Others.{IsAnother, IsOfAgent}
+use Rattle.mp_team_verdicts.proofs.Bytes.{spelled_bytes, spelled_some}
+use Rattle.mp_team_verdicts.proofs.Expansions.{GoOut, GoesOut}
+use Rattle.mp_team_verdicts.proofs.Others.{start_of_others}
+use Rattle.mp_team_verdicts.proofs.StepMessages.{IsFromOther, IsSound, IsSoundStep, local_goes}
+
+another_is : (t : AgentTask) (agent : ℕ) → IsReceiver t agent → IsAnother t agent
+another_is t agent is = record { from_1 = is.from_1; in_team = is.in_team; another = is.another }
+
+-- an agent takes messages of other agents of its team
+taken_from_other : (r : AgentRecord) (from : ℕ) → may r (locals.Take from) ≡ true → IsReceiver r.task from
+taken_from_other r from allowed =
+    let now = and_parts (is_going r.ending) (is_another r.task from) allowed in
+    let other = and_parts (nat_le 1 from && nat_le from r.task.agents) (not (from == r.task.me)) now.1 in
+    let range = and_parts (nat_le 1 from) (nat_le from r.task.agents) other.0 in
+    record {
+      from_1 = leb-true 1 from range.0;
+      in_team = leb-true from r.task.agents range.1;
+      another = eqb-false from r.task.me (flipped (from == r.task.me) other.1);
+    }
+  where
+    flipped : (b : Bool) → not b ≡ true → b ≡ false
+    flipped true h = sym h
+    flipped false h = refl
+
+from_other : (r : AgentRecord) (event : Event) → may r (local_of event) ≡ true → IsFromOther r.task (local_of event)
+from_other r (Expand agent) allowed = tt
+from_other r (Take by from) allowed = taken_from_other r from allowed
+from_other r Start allowed = tt
+
+module _ (value : Numbers → Numbers → Option ℕ) where
+  step_sound : (r : AgentRecord) (event : Event) (bytes : List ℕ) (s : Step) → IsSound r
+      → may r (local_of event) ≡ true → local value r (local_of event) bytes ≡ Ok s → IsSoundStep r.task s
+  step_sound r event bytes s sound allowed did =
+      local_goes value r s (local_of event) bytes sound (from_other r event allowed) did
+
+  -- ---- the entries of one step
+
+  own_of_agent : (r : AgentRecord) (event : Event) (bytes : List ℕ) → agent_of event ≡ r.task.me
+      → may r (local_of event) ≡ true → IsOfAgent r.task (entry_of event bytes)
+  own_of_agent r (Expand agent) bytes mine allowed = mine
+  own_of_agent r (Take by from) bytes mine allowed = (mine, another_is r.task from (taken_from_other r from allowed))
+  own_of_agent r Start bytes mine allowed = mine
+
+  puts_of_agent : (t : AgentTask) (agent : ℕ) (out : List Outgoing) → agent ≡ t.me → GoOut t out
+      → All (IsOfAgent t) (map (put_by agent) (map in_bytes out))
+  puts_of_agent t agent [] mine go = All-nil (IsOfAgent t)
+  puts_of_agent t agent (x ∷ xs) mine go =
+      All-cons (IsOfAgent t) (put_by agent (in_bytes x)) (map (put_by agent) (map in_bytes xs))
+      (mine, another_is t x.to (All-head (GoesOut t) x xs go), spelled_some x.message, spelled_bytes x.message)
+      (puts_of_agent t agent xs mine (All-tail (GoesOut t) x xs go))
+
+  -- ---- one step after another
+
+  done_sound : (r last : AgentRecord) (log : List Entry) → HasDone value r log last → IsSound r → IsSound last
+  done_sound _ _ _ (nothing r) sound = sound
+  done_sound _ last _ (onward r _ event bytes s later mine allowed did rest) sound =
+      done_sound s.after last later rest (step_sound r event bytes s sound allowed did).after
+
+  done_of_agent : (r last : AgentRecord) (log : List Entry) → HasDone value r log last → IsSound r
+      → All (IsOfAgent r.task) log
+  done_of_agent _ _ _ (nothing r) sound = All-nil (IsOfAgent r.task)
+  done_of_agent _ last _ (onward r _ event bytes s later mine allowed did rest) sound =
+      let stepped = step_sound r event bytes s sound allowed did in
+      All-append (IsOfAgent r.task) (entries_of event bytes (sent_in s)) later
+      (All-cons (IsOfAgent r.task) (entry_of event bytes) (map (put_by (agent_of event)) (sent_in s))
+      (own_of_agent r event bytes mine allowed)
+      (puts_of_agent r.task (agent_of event) s.out mine stepped.out))
+      (subst (λ t. All (IsOfAgent t) later) stepped.task
+      (done_of_agent s.after last later rest stepped.after))
+
+  module _ (limit : ℕ) (t : AgentTask) (some : 1 ≤ t.agents) where
+    start_sound : IsSound (new_record t value limit)
+    start_sound = record { some = some; notes = refl; heard = start_of_others t value }
+
+    pub entries_of_agent : (log : List Entry) (last : AgentRecord) → HasDone value (new_record t value limit) log last
+        → All (IsOfAgent t) log
+    entries_of_agent log last done = done_of_agent (new_record t value limit) last log done start_sound
+
+    pub step_goes : (log : List Entry) (r : AgentRecord) (event : Event) (bytes : List ℕ) (s : Step)
+        → HasDone value (new_record t value limit) log r → may r (local_of event) ≡ true
+        → local value r (local_of event) bytes ≡ Ok s → All (λ x. IsAnother t x.to) s.out
+    step_goes log r event bytes s done allowed did =
+        let same : r.task ≡ t = done_task value (new_record t value limit) r log done in
+        let stepped = step_sound r event bytes s (done_sound (new_record t value limit) r log done start_sound) allowed did in
+        subst (λ (u : AgentTask). All (λ (x : Outgoing). IsAnother u x.to) s.out) same
+        (All-weaker (GoesOut r.task) (λ (x : Outgoing). IsAnother r.task x.to) (λ x is. another_is r.task x.to is)
+        s.out stepped.out)
+
+pub parts_of_agents : (value : AgentTask → Numbers → Numbers → Option ℕ) (limit : ℕ) (tasks : List AgentTask)
+    (log : List Entry) (t : AgentTask) → AreNumbered tasks → IsLog value limit tasks log → Contains tasks t
+    → All (IsOfAgent t) (part log t.me)
+parts_of_agents value limit tasks log t numbered is here =
+    let number = number_of value limit tasks numbered t here in
+    let low = number.0 in
+    let high = number.1 in
+    let many : t.agents ≡ length tasks = All-contains (λ u. u.agents ≡ length tasks) tasks t numbered.team here in
+    let p = is.parts t here in
+    entries_of_agent (value t) limit t (omega arith) (part log t.me) p.last p.done

@@ -1,0 +1,165 @@
+-- Each expansion counts as one, so that all but few rounds are without one.
+use Rattle.std.proofs.Common.{◌≡◌, ℕ, zero, suc, ◌+◌, ◌-◌, ◌≤◌, true, false, ◌&&◌, List, [], ◌∷◌, get_or, Option, Some, All, refl, sym, ap, ◌∙◌, arith, ◌⊎◌, inl, inr}
+use Rattle.std.specs.Prelude.{slice_get, slice_set}
+use Rattle.std.specs.List.{sum_by}
+use Rattle.std.proofs.lemmas.Bool.{cases_eq, false≢true}
+use Rattle.std.proofs.lemmas.List.Sums.{sum_by-set}
+use Rattle.std.proofs.lemmas.Option.{get_or_from_slice_get, none-some, same_Some, slice_get_within}
+use Rattle.mp_runs.proofs.Runs.{run_parts}
+use Rattle.mp_sets.specs.Numbers.{Numbers}
+use Rattle.mp_task.specs.Agree.{Agree}
+use Rattle.mp_task.specs.AgentTask.{AgentTask}
+use Rattle.mp_task.specs.Limits.{IsWithinLimits}
+use Rattle.mp_messages.specs.declared.history.Event.{Event}
+use Rattle.mp_messages.specs.declared.history.Event.TheVariants.{Expand, Take, Start}
+use Rattle.mp_store.specs.declared.entry.Entry.{Entry}
+use Rattle.mp_store.specs.declared.entry.Mark.TheVariants.{Open, Expanded}
+use Rattle.mp_search.specs.AgentState.{AgentState}
+use Rattle.mp_search.specs.Expansion.{expanded}
+use Rattle.mp_search.specs.Search.{SearchRecord}
+use Rattle.mp_machine.specs.AgentRecord.{AgentRecord}
+use Rattle.mp_machine.specs.LocalStep.{with_search}
+use Rattle.mp_machine.specs.Outgoing.{Step}
+use Rattle.mp_world.specs.Events.{after_event, agent_of}
+use Rattle.mp_world.specs.Steps.{IsStepOf}
+use Rattle.mp_world.specs.World.{World, agent_at, with_agent}
+use Rattle.mp_world.proofs.Mail.{agent_at-other, agent_at-same}
+use Rattle.mp_team_snapshots.specs.Team.{IsTeamOf}
+use Rattle.mp_team_snapshots.proofs.Effects.{same_step}
+use Rattle.mp_team_states.specs.Room.{expanded_by_all}
+use Rattle.mp_team_states.proofs.Expanding.{expanded_counts}
+use Rattle.mp_team_states.proofs.Reached.{has_it}
+use Rattle.mp_team_states.proofs.RoomCounts.{few_expansions}
+use Rattle.mp_team_states.proofs.RoomLemmas.{counts_grow}
+use Rattle.mp_team_states.specs.Expansions.{ExpandsOne}
+use Rattle.mp_team_states.proofs.Worth.{expands_one}
+use Rattle.mp_team_verdicts.proofs.Frames.{IsKnownWorld}
+use Rattle.mp_team_verdicts.specs.Quiet.{are_quiet, is_quiet}
+use Rattle.mp_team_verdicts.proofs.Calm.{Goes, Reached}
+use Rattle.mp_team_verdicts.proofs.Reached.{all_pass, known, onward, reached_next, step_of}
+
+count : AgentRecord → ℕ
+count r = r.search.expansions
+
+same_by_get : {X : Type 0} (xs ys : List X) → ((k : ℕ) → slice_get xs k ≡ slice_get ys k) → xs ≡ ys
+same_by_get [] [] same = refl
+same_by_get [] (y ∷ ys) same = absurd (none-some y (same 0))
+same_by_get (x ∷ xs) [] same = absurd (none-some x (sym (same 0)))
+same_by_get (x ∷ xs) (y ∷ ys) same =
+    let first = same_Some x y (same 0) in
+    let rest = same_by_get xs ys (λ k. same (suc k)) in
+    λ j. first j ∷ rest j
+
+module _ (value : AgentTask → Numbers → Numbers → Option ℕ) (w next : World) (event : Event) (is : IsStepOf value w event next) where
+  agents_are : next.agents ≡ (with_agent w (agent_of event) is.step.after).agents
+  agents_are = same_by_get next.agents (with_agent w (agent_of event) is.step.after).agents (λ k. by k (cases_eq (suc k) (agent_of event)))
+    where
+      by : (k : ℕ) → (suc k ≡ agent_of event) ⊎ (suc k ≡ agent_of event → ⊥)
+          → agent_at next (suc k) ≡ agent_at (with_agent w (agent_of event) is.step.after) (suc k)
+      by k (inl same) =
+          ap (agent_at next) same ∙ is.after
+          ∙ sym (ap (agent_at (with_agent w (agent_of event) is.step.after)) same ∙ agent_at-same w (agent_of event) is.agent is.step.after is.there)
+      by k (inr other) = is.others (suc k) other ∙ sym (agent_at-other w (agent_of event) (suc k) is.agent is.step.after is.there other)
+
+  -- all agents together: what the event's agent expanded more
+  counts_more : expanded_by_all next + is.agent.search.expansions ≡ expanded_by_all w + is.step.after.search.expansions
+  counts_more =
+      ap (λ (rs : List AgentRecord). sum_by (λ r. r.search.expansions) rs + is.agent.search.expansions) agents_are ∙ by (agent_of event) is.there
+    where
+      by : (a : ℕ) → agent_at w a ≡ Some is.agent
+          → sum_by (λ r. r.search.expansions) (slice_set w.agents (a - 1) is.step.after) + is.agent.search.expansions
+          ≡ sum_by (λ r. r.search.expansions) w.agents + is.step.after.search.expansions
+      by zero there = absurd (none-some is.agent there)
+      by (suc k) there =
+          let place : suc k - 1 ≡ k = omega arith in
+          let inside = slice_get_within w.agents k is.agent there in
+          let at : get_or w.agents (suc k - 1) is.agent ≡ is.agent =
+          ap (λ (i : ℕ). get_or w.agents i is.agent) place ∙ get_or_from_slice_get w.agents k is.agent is.agent there in
+          ap (λ (r : AgentRecord). sum_by (λ (x : AgentRecord). x.search.expansions) (slice_set w.agents (suc k - 1) is.step.after) + r.search.expansions) (sym at)
+          ∙ sum_by-set (λ (x : AgentRecord). x.search.expansions) w.agents (suc k - 1) is.step.after is.agent (omega arith)
+
+module _ (value : AgentTask → Numbers → Numbers → Option ℕ) (limit publics : ℕ) (tasks : List AgentTask)
+    (agree : Agree tasks) (limits : All IsWithinLimits tasks) (most : limit ≤ 10000000)
+    (team : IsTeamOf publics tasks) where
+  abbrev At : World → Type 0
+  At = Reached value limit publics tasks agree limits most team
+
+  abbrev Leads : World → List Event → World → Type 0
+  Leads = Goes value limit publics tasks agree limits most team
+
+  is_known : (w : World) → At w → IsKnownWorld publics tasks w
+  is_known = known value limit publics tasks agree limits most team
+
+  -- an agent that expands has expanded one entry more
+  one_more : (w next : World) (agent : ℕ) → At w → (step : IsStepOf value w (Expand agent) next)
+      → step.step.after.search.expansions ≡ step.agent.search.expansions + 1
+  one_more w next agent at step = by (expanded_counts step.agent.task (value step.agent.task) step.agent.search)
+    where
+      made : step.step.after.search ≡ (expanded step.agent.task (value step.agent.task) step.agent.search).1
+      made =
+          ap (λ (s : Step). s.after.search)
+          (sym (same_step (with_search step.agent (expanded step.agent.task (value step.agent.task) step.agent.search)) step.step step.local))
+
+      one : ExpandsOne w agent next
+      one =
+          let is = is_known w at in
+          expands_one tasks agree limits w is.team is.so_far.sound value next agent step
+
+      by : ((expanded step.agent.task (value step.agent.task) step.agent.search).1 ≡ step.agent.search)
+          ⊎ ((expanded step.agent.task (value step.agent.task) step.agent.search).1.expansions ≡ step.agent.search.expansions + 1)
+          → step.step.after.search.expansions ≡ step.agent.search.expansions + 1
+      by (inr more) = ap (λ (x : SearchRecord). x.expansions) made ∙ more
+      by (inl same) =
+          let e = one in
+          let h = has_it w agent e.number e.entry e.there in
+          let after = has_it next agent e.number e.is.entry e.is.there in
+          let who : h.agent_is ≡ step.agent = same_Some h.agent_is step.agent (sym h.there ∙ step.there) in
+          let who_after : after.agent_is ≡ step.step.after = same_Some after.agent_is step.step.after (sym after.there ∙ step.after) in
+          let search : after.agent_is.search ≡ h.agent_is.search =
+          ap (λ (r : AgentRecord). r.search) who_after ∙ made ∙ same ∙ sym (ap (λ (r : AgentRecord). r.search) who) in
+          let entries : e.entry ≡ e.is.entry =
+          same_Some e.entry e.is.entry
+          (sym h.at ∙ sym (ap (λ (x : SearchRecord). slice_get x.kept.entries e.number) search) ∙ after.at) in
+          let marks : Open ≡ Expanded = sym e.is_open ∙ ap (λ (x : Entry AgentState). x.mark) entries ∙ e.is.is in
+          absurd (let impossible : ⊥ = cc in impossible)
+
+  pub expansion_counts : (w next : World) (agent : ℕ) → At w → IsStepOf value w (Expand agent) next
+      → expanded_by_all next ≡ expanded_by_all w + 1
+  expansion_counts w next agent at step =
+      let more = counts_more value w next (Expand agent) step in
+      let one = one_more w next agent at step in
+      omega arith
+
+  -- the expansions do not get fewer
+  pub counts_rise : (events : List Event) (u w : World) → At u → Leads u events w → expanded_by_all u ≤ expanded_by_all w
+  counts_rise events u w at goes =
+      (onward value limit publics tasks agree limits most team (λ event. true) (λ v. expanded_by_all u ≤ expanded_by_all v)
+      (λ v event next at_v at_next step pass old.
+      let more = counts_grow value v next event step in omega arith)
+      events u w at (omega arith) (all_pass events) goes).1
+
+  -- where an agent expands there is one more
+  pub one_counts : (events : List Event) (u w : World) → At u → Leads u events w → are_quiet events ≡ false
+      → expanded_by_all u + 1 ≤ expanded_by_all w
+  one_counts [] u w at goes loud = absurd (false≢true (sym loud))
+  one_counts (e ∷ es) u w at goes loud =
+      let parts = run_parts (after_event value) u w e es goes in
+      let v = parts.0 in
+      let at_v = reached_next value limit publics tasks agree limits most team u v e at parts.1 in
+      let step = step_of value limit publics tasks agree limits most team u v e at parts.1 in
+      by e step loud (counts_rise es v w at_v parts.2) (one_counts es v w at_v parts.2)
+    where
+      by : {v : World} (e : Event) → IsStepOf value u e v → (is_quiet e && are_quiet es) ≡ false → expanded_by_all v ≤ expanded_by_all w
+          → (are_quiet es ≡ false → expanded_by_all v + 1 ≤ expanded_by_all w) → expanded_by_all u + 1 ≤ expanded_by_all w
+      by {v} (Expand agent) step loud rest more = let one = expansion_counts u v agent at step in omega arith
+      by {v} (Take b a) step loud rest more =
+          let before = counts_grow value u v (Take b a) step in
+          let later = more loud in
+          omega arith
+      by {v} Start step loud rest more =
+          let before = counts_grow value u v Start step in
+          let later = more loud in
+          omega arith
+
+  pub few_counts : (w : World) → At w → expanded_by_all w ≤ 160000000
+  few_counts w at = let is = is_known w at in few_expansions tasks agree limits w is.team is.so_far.sound

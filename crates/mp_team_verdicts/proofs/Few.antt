@@ -1,0 +1,101 @@
+-- In every world that a legal schedule leads to, agents keep few entries, and paths are short.
+use Rattle.std.proofs.Common.{◌≡◌, ℕ, ◌≤◌, ◌<◌, ◌^◌, ◌-◌, ◌⊎◌, List, [], ◌∷◌, get_or, suc, Option, Some, All, refl, sym, ap, subst, ◌∙◌, arith, inl, inr}
+use Rattle.std.specs.Prelude.{slice_get}
+use Rattle.std.specs.List.{sum_by}
+use Rattle.std.proofs.lemmas.Bool.{cases_eq}
+use Rattle.std.proofs.lemmas.List.Sums.{sum_by-le}
+use Rattle.std.proofs.lemmas.Option.{same_Some, slice_get-get_or}
+use Rattle.mp_sets.specs.Numbers.{Numbers}
+use Rattle.mp_task.specs.Agree.{Agree}
+use Rattle.mp_task.specs.AgentTask.{AgentTask}
+use Rattle.mp_task.specs.Limits.{IsWithinLimits}
+use Rattle.mp_messages.specs.declared.history.Event.{Event}
+use Rattle.mp_store.specs.Record.{empty}
+use Rattle.mp_store.specs.declared.entry.Origin.TheVariants.{Root}
+use Rattle.mp_search.specs.AgentState.{start_state}
+use Rattle.mp_search.specs.Offering.{own_value}
+use Rattle.mp_machine.specs.AgentRecord.{AgentRecord, new_record}
+use Rattle.mp_world.specs.Events.{agent_of, local_of, run, taken}
+use Rattle.mp_world.specs.Steps.{IsStepOf}
+use Rattle.mp_world.specs.World.{IsTeamWorld, World, agent_at, start_world}
+use Rattle.mp_world.proofs.Runs.{run_has}
+use Rattle.mp_team_states.specs.Paths.{AreReached}
+use Rattle.mp_team_states.specs.Sound.{AreStatesSound}
+use Rattle.mp_team_states.proofs.Reached.{event_reaches}
+use Rattle.mp_team_states.proofs.StartReached.{start_reaches, task_is}
+use Rattle.mp_team_states.proofs.StartSound.{start_states_sound}
+use Rattle.mp_team_states.proofs.StepsSound.{limits_of, states_stay_sound}
+use Rattle.mp_team_verdicts.specs.Few.{ArePathsShort, KeepFew, entries_of, kept_by_all}
+use Rattle.mp_team_verdicts.proofs.OneEntry.{few_agents, few_entries}
+use Rattle.mp_team_verdicts.proofs.OwnEntries.{HasFewOwn, local_own, offered_count}
+use Rattle.mp_team_verdicts.proofs.Short.{event_short, start_short}
+
+-- so it is with all agents
+abbrev pub HaveFewOwn : World → Type 0
+HaveFewOwn w = (agent : ℕ) (r : AgentRecord) → agent_at w agent ≡ Some r → HasFewOwn r
+
+-- what holds in every such world
+pub record HoldsSoFar (tasks : List AgentTask) (w : World) : Type 0 where
+  pub sound : AreStatesSound tasks w
+  pub reached : AreReached tasks w
+  pub short : ArePathsShort w
+  pub own : HaveFewOwn w
+
+module _ (tasks : List AgentTask) (agree : Agree tasks) (limits : All IsWithinLimits tasks) where
+  own_next : (value : AgentTask → Numbers → Numbers → Option ℕ) (w : World) (event : Event) (next : World) → IsTeamWorld tasks w → IsStepOf value w event next → HaveFewOwn w → HaveFewOwn next
+  own_next value w event next team is old agent r there = by (cases_eq agent (agent_of event))
+    where
+      by : (agent ≡ agent_of event) ⊎ (agent ≡ agent_of event → ⊥) → HasFewOwn r
+      by (inl same) =
+          let one : is.step.after ≡ r = same_Some is.step.after r (sym is.after ∙ sym (ap (agent_at next) same) ∙ there) in
+          let fit = limits_of tasks agree limits w team (agent_of event) is.agent is.there in
+          subst HasFewOwn one
+          (local_own (value is.agent.task) is.agent is.step (old (agent_of event) is.agent is.there) (local_of event) (taken w event) fit.number_of_acts is.local)
+      by (inr other) = old agent r (sym (is.others agent other) ∙ there)
+
+  module _ (w : World) (team : IsTeamWorld tasks w) (holds : HoldsSoFar tasks w) where
+    pub keeps_few : KeepFew w
+    keeps_few agent r there = few_entries tasks agree limits w team holds.sound holds.reached agent r there (holds.own agent r there)
+
+    -- all together
+    pub few_kept : kept_by_all w < 2 ^ 50
+    few_kept = by w.agents refl
+      where
+        each : All (λ r. entries_of r ≤ 2 ^ 46 - 1) w.agents
+        each k d inside =
+            let there : agent_at w (suc k) ≡ Some (get_or w.agents k d) = slice_get-get_or w.agents k d inside in
+            let few = keeps_few (suc k) (get_or w.agents k d) there in
+            omega arith
+
+        by : (rs : List AgentRecord) → w.agents ≡ rs → kept_by_all w < 2 ^ 50
+        by [] is = let none : kept_by_all w ≡ 0 = ap (λ (rs : List AgentRecord). sum_by entries_of rs) is in omega arith
+        by (r ∷ rs) is =
+            let there : agent_at w 1 ≡ Some r = ap (λ (xs : List AgentRecord). slice_get xs 0) is in
+            let many = few_agents tasks agree limits w team holds.sound holds.reached 1 r there in
+            let all = sum_by-le entries_of (2 ^ 46 - 1) w.agents each in
+            omega arith
+
+  module _ (value : AgentTask → Numbers → Numbers → Option ℕ) (limit : ℕ) (most : limit ≤ 10000000) where
+    start_own : HaveFewOwn (start_world value limit tasks)
+    start_own agent r there =
+        let of = task_is value limit tasks agree limits most agent r there in
+        subst HasFewOwn (sym of.2) (first of.0)
+      where
+        first : (t : AgentTask) → HasFewOwn (new_record t (value t) limit)
+        first t = offered_count t (start_state t) 0 Root empty (own_value t (value t) (start_state t))
+
+    pub holds_so_far : (schedule : List Event) (w : World) → run value limit tasks schedule ≡ Some w → HoldsSoFar tasks w
+    holds_so_far =
+        run_has value limit tasks (HoldsSoFar tasks)
+        (record {
+          sound = start_states_sound value limit tasks agree limits most;
+          reached = start_reaches value limit tasks agree limits most;
+          short = start_short value limit tasks agree limits most;
+          own = start_own;
+        })
+        (λ w event next team old is. record {
+          sound = states_stay_sound tasks agree limits w team old.sound value next event is;
+          reached = event_reaches tasks agree limits w team old.sound old.reached value next event is;
+          short = event_short tasks agree limits w team old.sound old.reached old.short value next event is;
+          own = own_next value w event next team is old.own;
+        })

@@ -1,0 +1,129 @@
+-- Each agent keeps the goal entry whose cost it found in its last snapshot.
+use Rattle.std.proofs.Common.{◌≡◌, ◌≢◌, ℕ, ◌≤◌, ◌<◌, ◌^◌, true, List, length, Option, Some, None, All, refl, sym, ap, subst, ◌∙◌, arith}
+use Rattle.std.specs.Prelude.{IfSome, Ok, Err, ◌==◌, not}
+use Rattle.std.specs.Option.{option_map_or}
+use Rattle.mp_sets.specs.Numbers.{Numbers}
+use Rattle.mp_task.specs.Agree.{Agree}
+use Rattle.mp_task.specs.AgentTask.{AgentTask}
+use Rattle.mp_task.specs.Limits.{IsWithinLimits}
+use Rattle.mp_messages.specs.declared.history.Event.{Event}
+use Rattle.mp_messages.specs.declared.history.Event.TheVariants.{Expand, Take, Start}
+use Rattle.mp_messages.specs.declared.message.Message.{Message}
+use Rattle.mp_messages.specs.declared.message.Message.TheVariants.{State as AState, Marker, Report, Pick, Trace, Length, Done}
+use Rattle.mp_store.specs.Sent.{sent_entry}
+use Rattle.mp_search.specs.Expansion.{expanded}
+use Rattle.mp_search.specs.Search.{SearchRecord, bound}
+use Rattle.mp_snapshot.specs.Notes.{Notes}
+use Rattle.mp_snapshot.specs.Rules.{after_report, is_strange_marker, is_strange_report, own}
+use Rattle.mp_machine.specs.declared.refusal.BadKind.TheVariants.{StrangeDone, StrangeLength, StrangeMarker, StrangePick, StrangeReport, StrangeTrace}
+use Rattle.mp_machine.specs.AgentRecord.{AgentRecord}
+use Rattle.mp_machine.specs.LocalStep.{with_search}
+use Rattle.mp_machine.specs.Outgoing.{Step, without_messages}
+use Rattle.mp_machine.specs.Snapshots.{goal_entry, judged, marked, started}
+use Rattle.mp_machine.specs.Taking.{ending_of, is_strange_length, is_strange_pick, is_strange_trace, took_message, took_trace, traced}
+use Rattle.mp_machine.specs.WalkingBack.{solved, walked, walked_from_goal}
+use Rattle.mp_world.specs.Events.{agent_of, taken}
+use Rattle.mp_world.specs.Steps.{IsStepOf}
+use Rattle.mp_world.specs.World.{World, agent_at}
+use Rattle.mp_team_snapshots.specs.Team.{IsTeamOf}
+use Rattle.mp_team_snapshots.proofs.Effects.{bad_or_good, good_step, same_step}
+use Rattle.mp_team_snapshots.proofs.TakingFirst.{apart, is_sender}
+use Rattle.mp_team_states.proofs.WorldsGrow.{state_taken, taking}
+use Rattle.mp_team_verdicts.specs.Ending.{HasGoal}
+use Rattle.mp_team_verdicts.proofs.Few.{keeps_few}
+use Rattle.mp_team_verdicts.proofs.Frames.{IsKnownWorld, NotesItsGoal, each_next, goal_stays, me_before, of_before}
+use Rattle.mp_team_verdicts.proofs.Proving.{goal_noted}
+use Rattle.mp_team_verdicts.proofs.EndSteps.{GoalAfter, HasPlace, KeepsNotes, NotesGoal, from_goal_keeps, marked_goal, report_goal, start_goal, state_goal, walked_keeps}
+use Rattle.mp_team_verdicts.proofs.EndSteps.GoalAfter.{keeps, notes}
+
+keeps_of_notes : (r s : AgentRecord) → KeepsNotes r s → GoalAfter r s
+keeps_of_notes r s k = keeps (record { goal = k.goal; own = ap (λ (n : Notes). (own n).goal) k.snapshot })
+
+module _ (r : AgentRecord) (s : Step) where
+  trace_keeps : (sent back : ℕ) → took_trace r sent back ≡ Ok s → GoalAfter r s.after
+  trace_keeps sent back = by (sent_entry sent r.search.kept)
+    where
+      by : (o : Option ℕ) → option_map_or (traced r back) o (Err StrangeTrace) ≡ Ok s → GoalAfter r s.after
+      by None is = absurd (bad_or_good StrangeTrace s is)
+      by (Some entry) is =
+          let good = good_step (is_strange_trace r entry back) StrangeTrace (walked r entry back) s is in
+          subst (λ (s : Step). GoalAfter r s.after) good.1 (keeps_of_notes r (walked r entry back).after (walked_keeps r entry back))
+
+  message_goal : (value : Numbers → Numbers → Option ℕ) (from : ℕ) (m : Message) → HasPlace r.snapshot → 1 ≤ from → from ≢ r.snapshot.me → took_message value r from m ≡ Ok s → GoalAfter r s.after
+  message_goal value from (AState m) place low other is =
+      subst (λ (s : Step). GoalAfter r s.after) (state_taken value r from m s is) (keeps (state_goal value r from m place))
+  message_goal value from (Marker number) place low other is =
+      let good = good_step (is_strange_marker r.snapshot from number) StrangeMarker (marked r from number) s is in
+      subst (λ (s : Step). GoalAfter r s.after) good.1 (marked_goal r from number place)
+  message_goal value from (Report found) place low other is =
+      let good = good_step (is_strange_report r.snapshot from found) StrangeReport (judged (record r { snapshot = after_report r.snapshot from found })) s is in
+      subst (λ (s : Step). GoalAfter r s.after) good.1 (keeps (report_goal r from found place low other))
+  message_goal value from (Pick number) place low other is =
+      let after : AgentRecord = record r { picked = true } in
+      let good = good_step (is_strange_pick r from number) StrangePick (walked_from_goal after) s is in
+      let k = from_goal_keeps after in
+      subst (λ (s : Step). GoalAfter r s.after) good.1 (keeps (record { goal = k.goal; own = ap (λ (n : Notes). (own n).goal) k.snapshot }))
+  message_goal value from (Trace sent back) place low other is = trace_keeps sent back is
+  message_goal value from (Length plan) place low other is =
+      let good = good_step (is_strange_length r plan) StrangeLength (without_messages (solved r plan)) s is in
+      subst (λ (s : Step). GoalAfter r s.after) good.1 (keeps (record { goal = refl; own = refl }))
+  message_goal value from (Done kind) place low other is =
+      let good = good_step (not (from == 1)) StrangeDone (without_messages (record r { ending = ending_of kind })) s is in
+      subst (λ (s : Step). GoalAfter r s.after) good.1 (keeps (record { goal = refl; own = refl }))
+
+module _ (value : AgentTask → Numbers → Numbers → Option ℕ) (publics : ℕ) (tasks : List AgentTask) (agree : Agree tasks) (limits : All IsWithinLimits tasks)
+    (team : IsTeamOf publics tasks) (w next : World) (known : IsKnownWorld publics tasks w) (known_next : IsKnownWorld publics tasks next) where
+  -- an agent has a place in its notes
+  pub place_of : (event : Event) → IsStepOf value w event next → (i : ℕ) (r : AgentRecord) → agent_at w i ≡ Some r → HasPlace r.snapshot × (r.snapshot.me ≡ r.task.me)
+  place_of event step i r there =
+      let me = me_before value publics tasks team w known.team event next step i r there in
+      let notes = known.in_runs.sound.notes r (ap (agent_at w) me ∙ there) in
+      let of = of_before value publics tasks team w known.team event next step i r there in
+      let few = team.agents in
+      let low = of.from_1 in
+      let high = of.at_most in
+      let mine = notes.me in
+      (record { low = omega arith; high = omega arith; many = notes.found }, notes.me)
+
+  goal_after : (event : Event) (step : IsStepOf value w event next) → GoalAfter step.agent step.step.after
+  goal_after (Expand agent) step =
+      let r = step.agent in
+      let made = expanded r.task (value r.task) r.search in
+      subst (λ (s : Step). GoalAfter r s.after) (same_step (with_search r made) step.step step.local) (keeps (record { goal = refl; own = refl }))
+  goal_after Start step =
+      let r = step.agent in
+      subst (λ (s : Step). GoalAfter r s.after) (same_step (started r) step.step step.local) (notes (start_goal r (place_of Start step 1 r step.there).0))
+  goal_after (Take b a) step =
+      let r = step.agent in
+      let t = taking (value r.task) r a (taken w (Take b a)) step.step step.local in
+      let place = place_of (Take b a) step b r step.there in
+      let is_a = is_sender value publics tasks team w known.team b a next step in
+      let me = me_before value publics tasks team w known.team (Take b a) next step b r step.there in
+      message_goal r step.step (value r.task) a t.message place.0 is_a.from_1
+      (λ same. apart value publics tasks team w known.team b a next step (same ∙ place.1 ∙ me)) t.took
+
+  pub goals_next : (event : Event) (step : IsStepOf value w event next) → ((i : ℕ) (r : AgentRecord) → agent_at w i ≡ Some r → NotesItsGoal r)
+      → (i : ℕ) (r : AgentRecord) → agent_at next i ≡ Some r → NotesItsGoal r
+  goals_next event step old =
+      each_next value publics tasks team w known.team event next step (λ i r. NotesItsGoal r) (here (goal_after event step)) (λ i r there other. old i r there)
+    where
+      few : length step.step.after.search.kept.entries < 2 ^ 60
+      few = let small = keeps_few tasks agree limits next known_next.team known_next.so_far (agent_of event) step.step.after step.after in omega arith
+
+      -- a goal that was noted before
+      stays : step.step.after.goal ≡ step.agent.goal → (o : Option ℕ) → IfSome o (λ cost. (number : ℕ) × HasGoal step.agent number cost)
+          → IfSome o (λ cost. (number : ℕ) × HasGoal step.step.after number cost)
+      stays same None has = tt
+      stays same (Some cost) has = (has.0, goal_stays value publics tasks team w known.team event next step step.agent step.step.after (agent_of event) has.0 cost step.there step.after same has.1)
+
+      new : NotesGoal step.agent step.step.after → (o : Option ℕ) → (own step.step.after.snapshot).goal ≡ o → IfSome o (λ cost. (number : ℕ) × HasGoal step.step.after number cost)
+      new n None is = tt
+      new n (Some cost) is =
+          goal_noted step.step.after cost few (n.goal ∙ ap (λ (x : SearchRecord). goal_entry x.kept) (sym n.search))
+          (ap (λ (x : SearchRecord). bound x.kept) n.search ∙ sym n.own ∙ is)
+
+      here : GoalAfter step.agent step.step.after → NotesItsGoal step.step.after
+      here (keeps k) =
+          subst (λ (o : Option ℕ). IfSome o (λ cost. (number : ℕ) × HasGoal step.step.after number cost)) (sym k.own)
+          (stays k.goal (own step.agent.snapshot).goal (old (agent_of event) step.agent step.there))
+      here (notes n) = new n (own step.step.after.snapshot).goal refl

@@ -1,0 +1,119 @@
+-- The other agents of a team, and origins that are none of the agent itself.
+use Rattle.std.proofs.Common.{◌≡◌, ◌≢◌, ℕ, zero, suc, ◌+◌, ◌<◌, ◌⊎◌, Bool, true, false, [], length, Option, Some, None, refl, sym, subst, ◌∙◌, arith, inl, inr}
+use Rattle.std.specs.Prelude.{Contains, not, slice_get, ◌==◌}
+use Rattle.std.specs.List.{range_with_len}
+use Rattle.std.specs.Option.{option_map_or}
+use Rattle.std.proofs.lemmas.Bool.{eqb-false}
+use Rattle.std.proofs.lemmas.List.FromFn.{get_or-range_with_len, length-range_with_len}
+use Rattle.std.proofs.lemmas.Option.{none-some}
+use Rattle.mp_sets.specs.Numbers.{Numbers}
+use Rattle.mp_task.specs.AgentTask.{AgentTask}
+use Rattle.mp_messages.specs.declared.message.State.{State}
+use Rattle.mp_store.specs.declared.entry.Entry.{Entry}
+use Rattle.mp_store.specs.declared.entry.Origin.{Origin}
+use Rattle.mp_store.specs.declared.entry.Origin.TheVariants.{Root, Own, From}
+use Rattle.mp_store.specs.Record.{Record, empty}
+use Rattle.mp_store.proofs.RankLemmas.{member_passes}
+use Rattle.mp_search.specs.AgentState.{AgentState}
+use Rattle.mp_search.specs.Expansion.{expanded}
+use Rattle.mp_search.specs.Offering.{start_record}
+use Rattle.mp_search.specs.Receipt.{received}
+use Rattle.mp_search.specs.Search.{SearchRecord}
+use Rattle.mp_trail.specs.declared.steps.Walked.{Walked}
+use Rattle.mp_trail.specs.declared.steps.Walked.TheVariants as ends
+use Rattle.mp_trail.specs.Walk.{origin_of, walk_from, walk_within}
+use Rattle.mp_machine.specs.Outgoing.{others}
+use Rattle.mp_team_states.proofs.Joint.{IsReceiver}
+use Rattle.mp_team_states.proofs.Entries.{IsNew, IsOld, changes_entry}
+use Rattle.mp_team_states.proofs.Expanding.{IsFirst, IsReceived, Led, expanded_changes, received_changes, start_changes}
+
+-- ---- all others
+
+not_same : (a b : ℕ) → not (a == b) ≡ true → a ≢ b
+not_same a b test = eqb-false a b (flipped (a == b) test)
+  where
+    flipped : (same : Bool) → not same ≡ true → same ≡ false
+    flipped true h = sym h
+    flipped false h = refl
+
+pub another_is : (t : AgentTask) (agent : ℕ) → Contains (others t.me t.agents) agent → IsReceiver t agent
+another_is t agent here =
+    let both = member_passes (λ other. not (other == t.me)) (range_with_len 1 t.agents) agent here in
+    let place = both.0 in
+    let many = length-range_with_len 1 t.agents in
+    let inside : place.0 < t.agents = let lt = place.1 in omega arith in
+    let number : 1 + place.0 ≡ agent = sym (get_or-range_with_len 1 t.agents place.0 agent inside) ∙ place.2 in
+    record {
+      from_1 = omega arith;
+      in_team = omega arith;
+      another = not_same agent t.me both.1;
+    }
+
+-- ---- origins
+
+-- an origin in another agent is in one of the team
+abbrev pub IsOfOther : AgentTask → Origin → Type 0
+IsOfOther t Root = Unit {0}
+IsOfOther t (Own action parent) = Unit {0}
+IsOfOther t (From agent sent) = IsReceiver t agent
+
+abbrev pub AreOfOthers : AgentTask → Record AgentState → Type 0
+AreOfOthers t r = (n : ℕ) (e : Entry AgentState) → slice_get r.entries n ≡ Some e → IsOfOther t e.origin
+
+moved : (t : AgentTask) (o p : Origin) → p ≡ o → IsOfOther t o → IsOfOther t p
+moved t o p same is = subst (IsOfOther t) (sym same) is
+
+module _ (t : AgentTask) (value : Numbers → Numbers → Option ℕ) where
+  pub expanded_of_others : (r : SearchRecord) → AreOfOthers t r.kept → AreOfOthers t (expanded t value r).1.kept
+  expanded_of_others r old n e at =
+      by (changes_entry (Led t value r.kept) t r.kept (expanded t value r).1.kept (expanded t value r).0
+      (expanded_changes t value r) n e at)
+    where
+      by : IsOld r.kept n e ⊎ IsNew (Led t value r.kept) t (expanded t value r).1.kept n e → IsOfOther t e.origin
+      by (inl is) = moved t is.old.origin e.origin is.alike.origin (old n is.old is.there)
+      by (inr is) = moved t (Own is.comes.action is.comes.parent) e.origin (is.alike.origin ∙ is.comes.is.origin) tt
+
+  pub received_of_others : (from : ℕ) (m : State) (r : Record AgentState) → IsReceiver t from → AreOfOthers t r
+      → AreOfOthers t (received t value from m r).1
+  received_of_others from m r other old n e at =
+      by (changes_entry (IsReceived t value from m r) t r (received t value from m r).1 []
+      (received_changes t value from m r) n e at)
+    where
+      by : IsOld r n e ⊎ IsNew (IsReceived t value from m r) t (received t value from m r).1 n e → IsOfOther t e.origin
+      by (inl is) = moved t is.old.origin e.origin is.alike.origin (old n is.old is.there)
+      by (inr is) = moved t (From from m.sent) e.origin (is.alike.origin ∙ is.comes.origin) other
+
+  pub start_of_others : AreOfOthers t (start_record t value).kept
+  start_of_others n e at = by
+      (changes_entry (IsFirst t value) t empty (start_record t value).kept [] (start_changes t value) n e at)
+    where
+      by : IsOld empty n e ⊎ IsNew (IsFirst t value) t (start_record t value).kept n e → IsOfOther t e.origin
+      by (inl is) = absurd (none-some is.old is.there)
+      by (inr is) = moved t Root e.origin (is.alike.origin ∙ is.comes.origin) tt
+
+-- ---- a walk ends at another agent of the team
+
+abbrev pub EndsAtOther : AgentTask → Walked → Type 0
+EndsAtOther t (ends.Root length) = Unit {0}
+EndsAtOther t (ends.Hop agent sent back) = IsReceiver t agent
+
+module _ (t : AgentTask) (r : Record AgentState) (all : AreOfOthers t r) where
+  origin_of_other : (number : ℕ) → IsOfOther t (origin_of r number)
+  origin_of_other number = by (slice_get r.entries number) refl
+    where
+      by : (o : Option (Entry AgentState)) → slice_get r.entries number ≡ o
+          → IsOfOther t (option_map_or (λ e. e.origin) o Root)
+      by None is = tt
+      by (Some e) is = all number e is
+
+  pub walk_to_other : (fuel number back : ℕ) → EndsAtOther t (walk_within fuel r number back).end
+  unfolding walk_within
+  walk_to_other zero number back = tt
+  walk_to_other (suc fuel) number back = by (origin_of r number) (origin_of_other number)
+      (λ parent. walk_to_other fuel parent (back + 1))
+    where
+      by : (o : Origin) → IsOfOther t o → ((parent : ℕ) → EndsAtOther t (walk_within fuel r parent (back + 1)).end)
+          → EndsAtOther t (walk_from (walk_within fuel r) o back).end
+      by Root is more = tt
+      by (Own action parent) is more = more parent
+      by (From agent sent) is more = is

@@ -1,0 +1,195 @@
+-- The path to each entry has at most as many steps as all agents have expanded entries.
+use Rattle.std.proofs.Common.{◌≡◌, ℕ, zero, suc, ◌+◌, ◌-◌, ◌≤◌, ◌⊎◌, List, [], ◌∷◌, ◌++◌, length, get_or, Option, Some, None, All, refl, sym, ap, subst, ◌∙◌, arith, inl, inr}
+use Rattle.std.specs.Prelude.{IsSomeAnd, slice_get, slice_set}
+use Rattle.std.specs.List.{sum_by}
+use Rattle.std.proofs.lemmas.Bool.{cases_eq}
+use Rattle.std.proofs.lemmas.List.{length-append}
+use Rattle.std.proofs.lemmas.List.Sums.{sum_by-set}
+use Rattle.std.proofs.lemmas.Option.{get_or_from_slice_get, none-some, same_Some, slice_get_within}
+use Rattle.mp_sets.specs.Numbers.{Numbers}
+use Rattle.mp_task.specs.Agree.{Agree}
+use Rattle.mp_task.specs.AgentTask.{AgentTask}
+use Rattle.mp_task.specs.Limits.{IsWithinLimits}
+use Rattle.mp_task.specs.Plan.{TaskStep}
+use Rattle.mp_messages.specs.declared.history.Event.{Event}
+use Rattle.mp_store.specs.declared.entry.Entry.{Entry}
+use Rattle.mp_store.specs.Record.{empty}
+use Rattle.mp_search.specs.AgentState.{AgentState}
+use Rattle.mp_search.specs.Offering.{start_record}
+use Rattle.mp_machine.specs.AgentRecord.{AgentRecord}
+use Rattle.mp_world.specs.World.{IsTeamWorld, World, agent_at, start_world, with_agent}
+use Rattle.mp_world.specs.Events.{agent_of}
+use Rattle.mp_world.specs.Steps.{IsStepOf}
+use Rattle.mp_world.proofs.Mail.{agent_at-other, agent_at-same}
+use Rattle.mp_team_states.specs.Further.{HaveGrown}
+use Rattle.mp_team_states.specs.Paths.{AreReached, IsEntryAt, IsPath, IsSentAt}
+use Rattle.mp_team_states.specs.Paths.IsPath.{at_root, by_action, by_message}
+use Rattle.mp_team_states.specs.Room.{expanded_by_all}
+use Rattle.mp_team_states.specs.Sound.{AreStatesSound}
+use Rattle.mp_team_states.proofs.Entries.{IsNew, IsOld, changes_entry}
+use Rattle.mp_team_states.proofs.Expanding.{IsFirst, start_changes}
+use Rattle.mp_team_states.proofs.Growth.{stays_at}
+use Rattle.mp_team_states.proofs.NewEntries.{Comes, IsHeardIn, IsLedIn, entry_comes}
+use Rattle.mp_team_states.proofs.Reached.{HasIt, entry_in, has_it, one_path, path_stays, told_rightly}
+use Rattle.mp_team_states.proofs.RoomLemmas.{counts_grow}
+use Rattle.mp_team_states.proofs.StartReached.{task_is}
+use Rattle.mp_team_states.proofs.WorldsGrow.{step_grows}
+use Rattle.mp_team_verdicts.specs.Few.{ArePathsShort}
+
+-- ---- sums over all agents
+
+same_by_get : {X : Type 0} (xs ys : List X) → ((k : ℕ) → slice_get xs k ≡ slice_get ys k) → xs ≡ ys
+same_by_get [] [] same = refl
+same_by_get [] (y ∷ ys) same = absurd (none-some y (same 0))
+same_by_get (x ∷ xs) [] same = absurd (none-some x (sym (same 0)))
+same_by_get (x ∷ xs) (y ∷ ys) same =
+    let first = same_Some x y (same 0) in
+    let rest = same_by_get xs ys (λ k. same (suc k)) in
+    λ j. first j ∷ rest j
+
+module _ (value : AgentTask → Numbers → Numbers → Option ℕ) (w next : World) (event : Event) (is : IsStepOf value w event next) where
+  pub agents_are : next.agents ≡ (with_agent w (agent_of event) is.step.after).agents
+  agents_are = same_by_get next.agents (with_agent w (agent_of event) is.step.after).agents (λ k. by k (cases_eq (suc k) (agent_of event)))
+    where
+      by : (k : ℕ) → (suc k ≡ agent_of event) ⊎ (suc k ≡ agent_of event → ⊥) → agent_at next (suc k) ≡ agent_at (with_agent w (agent_of event) is.step.after) (suc k)
+      by k (inl same) =
+          ap (agent_at next) same ∙ is.after
+          ∙ sym (ap (agent_at (with_agent w (agent_of event) is.step.after)) same ∙ agent_at-same w (agent_of event) is.agent is.step.after is.there)
+      by k (inr other) = is.others (suc k) other ∙ sym (agent_at-other w (agent_of event) (suc k) is.agent is.step.after is.there other)
+
+  -- a sum over all agents changes as the event's agent does
+  pub sum_more : (count : AgentRecord → ℕ) → sum_by count next.agents + count is.agent ≡ sum_by count w.agents + count is.step.after
+  sum_more count =
+      ap (λ (rs : List AgentRecord). sum_by count rs + count is.agent) agents_are ∙ by (agent_of event) is.there
+    where
+      by : (a : ℕ) → agent_at w a ≡ Some is.agent → sum_by count (slice_set w.agents (a - 1) is.step.after) + count is.agent ≡ sum_by count w.agents + count is.step.after
+      by zero there = absurd (none-some is.agent there)
+      by (suc k) there =
+          let place : suc k - 1 ≡ k = omega arith in
+          let inside = slice_get_within w.agents k is.agent there in
+          let at : get_or w.agents (suc k - 1) is.agent ≡ is.agent = ap (λ (i : ℕ). get_or w.agents i is.agent) place ∙ get_or_from_slice_get w.agents k is.agent is.agent there in
+          ap (λ (r : AgentRecord). sum_by count (slice_set w.agents (suc k - 1) is.step.after) + count r) (sym at)
+          ∙ sum_by-set count w.agents (suc k - 1) is.step.after is.agent (omega arith)
+
+-- ---- paths
+
+-- the entry that a path leads to
+pub path_entry : (w : World) (agent number : ℕ) (steps : List TaskStep) → IsPath w agent number steps → (e : Entry AgentState) × IsEntryAt w agent number e
+path_entry w agent number steps (at_root _ _ e is root) = (e, is)
+path_entry w agent number steps (by_action _ _ e action parent before is own path) = (e, is)
+path_entry w agent number steps (by_message _ _ e sender sent there _ is from given path) = (e, is)
+
+-- a sent number stays that of its entry
+pub sent_at_stays : (w next : World) → HaveGrown w next → (agent sent number : ℕ) → IsSentAt w agent sent number → IsSentAt next agent sent number
+sent_at_stays w next grown agent sent number is = by (agent_at w agent) refl is
+  where
+    by : (o : Option AgentRecord) → agent_at w agent ≡ o → IsSomeAnd o (λ r. slice_get r.search.kept.sent sent ≡ Some number) → IsSentAt next agent sent number
+    by None there is = absurd is
+    by (Some r) there is =
+        let later = grown agent r there in
+        subst (λ (o : Option AgentRecord). IsSomeAnd o (λ r. slice_get r.search.kept.sent sent ≡ Some number)) (sym later.1)
+        (ap (λ (ns : List ℕ). slice_get ns sent) later.2.kept.sent.is ∙ stays_at r.search.kept.sent later.2.kept.sent.more sent number is)
+
+module _ (tasks : List AgentTask) (agree : Agree tasks) (limits : All IsWithinLimits tasks) (w : World) (team : IsTeamWorld tasks w) (sound : AreStatesSound tasks w)
+    (reached : AreReached tasks w) (short : ArePathsShort w) (value : AgentTask → Numbers → Numbers → Option ℕ) (next : World) (event : Event)
+    (is : IsStepOf value w event next) where
+  grown : HaveGrown w next
+  grown = step_grows value w next event is
+
+  more : expanded_by_all w ≤ expanded_by_all next
+  more = counts_grow value w next event is
+
+  -- a path that was there
+  known : (agent number : ℕ) (before steps : List TaskStep) → IsPath w agent number before → IsPath next agent number steps
+      → length steps ≤ expanded_by_all w
+  known agent number before steps path now =
+      let same = ap length (one_path next agent number before steps (path_stays w next grown agent number before path) now) in
+      let few = short agent number before path in
+      omega arith
+
+  old_short : (agent number : ℕ) (e : Entry AgentState) (steps : List TaskStep) → IsEntryAt w agent number e → IsPath next agent number steps
+      → length steps ≤ expanded_by_all next
+  old_short agent number e steps has now =
+      let x = reached agent number e has in
+      let few = known agent number x.steps steps x.path now in
+      let least = more in
+      omega arith
+
+  led_short : (n : ℕ) (e : Entry AgentState) (steps : List TaskStep) → IsLedIn (value is.agent.task) is.agent is.step.after.search n e
+      → IsEntryAt next (agent_of event) n e → IsPath next (agent_of event) n steps → length steps ≤ expanded_by_all next
+  led_short n e steps led has now =
+      let a = agent_of event in
+      let step : TaskStep = record { agent = a; action = led.action } in
+      let x = reached a led.parent led.old (entry_in w a led.parent is.agent led.old is.there led.was) in
+      let path = path_stays w next grown a led.parent x.steps x.path in
+      let few = short a led.parent x.steps x.path in
+      let same = ap length (one_path next a n (x.steps ++ step ∷ []) steps (by_action a n e led.action led.parent x.steps has led.origin path) now) in
+      let longer = length-append x.steps (step ∷ []) in
+      let one = led.counted in
+      let all = sum_more value w next event is (λ r. r.search.expansions) in
+      omega arith
+
+  heard_short : (n : ℕ) (e : Entry AgentState) (steps : List TaskStep) → IsHeardIn (value is.agent.task) tasks w is.agent e
+      → IsEntryAt next (agent_of event) n e → IsPath next (agent_of event) n steps → length steps ≤ expanded_by_all next
+  heard_short n e steps heard has now =
+      let a = agent_of event in
+      let m = heard.message in
+      let x = told_rightly tasks agree limits w team sound reached heard.sender heard.task m heard.at heard.state in
+      let given = sent_at_stays w next grown heard.sender m.sent x.number x.given in
+      let path = path_stays w next grown heard.sender x.number x.steps x.path in
+      let same = ap length (one_path next a n x.steps steps (by_message a n e heard.sender m.sent x.number x.steps has heard.origin given path) now) in
+      let few = short heard.sender x.number x.steps x.path in
+      let least = more in
+      omega arith
+
+  pub event_short : ArePathsShort next
+  event_short agent number steps now = by (cases_eq agent (agent_of event))
+    where
+      found : (e : Entry AgentState) × IsEntryAt next agent number e
+      found = path_entry next agent number steps now
+
+      h : HasIt next agent number found.0
+      h = has_it next agent number found.0 found.1
+
+      -- an entry that is alike was there
+      was_old : (a : ℕ) (r : AgentRecord) (old : Entry AgentState) → agent_at w a ≡ Some r → slice_get r.search.kept.entries number ≡ Some old
+          → IsPath next a number steps → length steps ≤ expanded_by_all next
+      was_old a r old there at path = old_short a number old steps (entry_in w a number r old there at) path
+
+      new : IsEntryAt next (agent_of event) number found.0 → IsPath next (agent_of event) number steps → Comes (value is.agent.task) tasks w is.agent is.step number found.0
+          → length steps ≤ expanded_by_all next
+      new has path (inl old) = was_old (agent_of event) is.agent old.old is.there old.there path
+      new has path (inr (inl led)) = led_short number found.0 steps led has path
+      new has path (inr (inr heard)) = heard_short number found.0 steps heard has path
+
+      by : (agent ≡ agent_of event) ⊎ (agent ≡ agent_of event → ⊥) → length steps ≤ expanded_by_all next
+      by (inl same) =
+          let one : h.agent_is ≡ is.step.after = same_Some h.agent_is is.step.after (sym h.there ∙ ap (agent_at next) same ∙ is.after) in
+          new (subst (λ (a : ℕ). IsEntryAt next a number found.0) same found.1) (subst (λ (a : ℕ). IsPath next a number steps) same now)
+          (entry_comes tasks agree limits w team sound value next event is number found.0
+          (subst (λ (r : AgentRecord). slice_get r.search.kept.entries number ≡ Some found.0) one h.at))
+      by (inr other) = was_old agent h.agent_is found.0 (sym (is.others agent other) ∙ h.there) h.at now
+
+-- ---- the start
+
+module _ (value : AgentTask → Numbers → Numbers → Option ℕ) (limit : ℕ) (tasks : List AgentTask) (agree : Agree tasks) (limits : All IsWithinLimits tasks) (most : limit ≤ 10000000) where
+  abbrev pub start : World
+  start = start_world value limit tasks
+
+  -- each entry is an initial state
+  pub start_short : ArePathsShort start
+  start_short agent number steps path =
+      let found = path_entry start agent number steps path in
+      let h = has_it start agent number found.0 found.1 in
+      let of = task_is value limit tasks agree limits most agent h.agent_is h.there in
+      let t = of.0 in
+      let at : slice_get (start_record t (value t)).kept.entries number ≡ Some found.0 =
+      subst (λ (r : AgentRecord). slice_get r.search.kept.entries number ≡ Some found.0) of.2 h.at in
+      either found.0 found.1 (changes_entry (IsFirst t (value t)) t empty (start_record t (value t)).kept [] (start_changes t (value t)) number found.0 at)
+    where
+      either : (e : Entry AgentState) → IsEntryAt start agent number e → {t : AgentTask}
+          → IsOld empty number e ⊎ IsNew (IsFirst t (value t)) t (start_record t (value t)).kept number e → length steps ≤ expanded_by_all start
+      either e has (inl old) = absurd (none-some old.old old.there)
+      either e has (inr new) =
+          let same = ap length (one_path start agent number [] steps (at_root agent number e has (new.alike.origin ∙ new.comes.origin)) path) in
+          omega arith

@@ -1,0 +1,235 @@
+-- Each event leads the end of a search on.
+use Rattle.std.proofs.Common.{◌≡◌, ℕ, ◌+◌, ◌≤◌, Bool, true, false, List, [], ◌∷◌, length, Option, Some, None, All, refl, sym, ap, subst, ◌∙◌, arith, ◌⊎◌, inl, inr}
+use Rattle.std.specs.Prelude.{Ok, ◌==◌, filter, if◌then◌else◌}
+use Rattle.std.specs.List.{filter_map}
+use Rattle.std.proofs.lemmas.Bool.{and_parts, cases_eq, false≢true}
+use Rattle.std.proofs.lemmas.Option.{none-some, same_Some}
+use Rattle.mp_sets.specs.Numbers.{Numbers}
+use Rattle.mp_task.specs.Agree.{Agree}
+use Rattle.mp_task.specs.AgentTask.{AgentTask}
+use Rattle.mp_task.specs.Limits.{IsWithinLimits}
+use Rattle.mp_messages.specs.declared.history.Event.{Event}
+use Rattle.mp_messages.specs.declared.history.Event.TheVariants.{Expand, Take, Start}
+use Rattle.mp_messages.specs.declared.message.Message.{Message}
+use Rattle.mp_messages.specs.declared.message.Message.TheVariants.{State as AState, Marker, Report, Pick, Trace, Length, Done}
+use Rattle.mp_messages.specs.declared.message.State.{State}
+use Rattle.mp_messages.specs.Reading.{message_of}
+use Rattle.mp_search.specs.Expansion.{expanded}
+use Rattle.mp_snapshot.specs.declared.verdict.Verdict.{Verdict}
+use Rattle.mp_snapshot.specs.Notes.{Notes}
+use Rattle.mp_snapshot.specs.Rules.{after_report, after_state, is_counted, is_strange_marker, is_strange_report, verdict, with_state as counted_with}
+use Rattle.mp_machine.specs.declared.refusal.BadKind.TheVariants.{StrangeMarker, StrangeReport}
+use Rattle.mp_machine.specs.AgentRecord.{AgentRecord, given_verdict, is_going}
+use Rattle.mp_machine.specs.LocalStep.{may_start, with_search}
+use Rattle.mp_machine.specs.Outgoing.{Step}
+use Rattle.mp_machine.specs.Snapshots.{judged, marked, started}
+use Rattle.mp_machine.specs.Taking.{took_message, with_state}
+use Rattle.mp_machine.specs.Verdicts.{is_deciding}
+use Rattle.mp_machine.proofs.NotesLemmas.{state_changes_nothing}
+use Rattle.mp_world.specs.Events.{agent_of, taken}
+use Rattle.mp_world.specs.Steps.{IsStepOf}
+use Rattle.mp_world.specs.World.{World, agent_at}
+use Rattle.mp_team_snapshots.specs.Messages.{marker_of, markers}
+use Rattle.mp_team_snapshots.specs.Snapshots.{AreNotesOf, AreTwo}
+use Rattle.mp_team_snapshots.specs.Team.{HasRoom, IsTeamOf}
+use Rattle.mp_team_snapshots.proofs.Changes.{left, messages_before}
+use Rattle.mp_team_snapshots.proofs.Consequences.{verdict_is_over}
+use Rattle.mp_team_snapshots.proofs.Effects.{good_step, same_step}
+use Rattle.mp_team_snapshots.proofs.Protocol.{IsOf}
+use Rattle.mp_team_snapshots.proofs.TakingFirst.{apart, is_sender, taken_first}
+use Rattle.mp_team_snapshots.proofs.Worlds.{is_agent_of, team_numbers}
+use Rattle.mp_team_states.proofs.WorldsGrow.{state_taken, taking}
+use Rattle.mp_team_verdicts.specs.Ending.{IsAt, Stage, end_messages, is_of_end}
+use Rattle.mp_team_verdicts.specs.Ending.Stage.{over, picking, searching, walking, without_plan}
+use Rattle.mp_team_verdicts.proofs.Calmly.{IsSameVerdict, calm_comes}
+use Rattle.mp_team_verdicts.proofs.Frames.{IsKnownWorld, NotesItsGoal, agent_before, ends_left, me_before}
+use Rattle.mp_team_verdicts.proofs.Goals.{place_of}
+use Rattle.mp_team_verdicts.proofs.Judging.{judged_comes}
+use Rattle.mp_team_verdicts.proofs.Proving.{end_decides}
+use Rattle.mp_team_verdicts.proofs.EndSteps.{IsCalm, IsJudged, counted_none, expansion_calm, marked_calm, marked_judged, report_judged, start_judged, state_calm, state_goal, state_snapshot}
+use Rattle.mp_team_verdicts.proofs.TakenEnds.{done_comes, length_comes, pick_comes, trace_comes}
+use Rattle.mp_team_verdicts.proofs.WalkOn.{ComesTo}
+
+-- ---- a state that is taken leaves the verdict
+
+counted_number : (s : Notes) (from f : ℕ) → (after_state s from f).number ≡ s.number
+counted_number s from f = by (is_counted s from)
+  where
+    by : (b : Bool) → (if b then counted_with s f else s).number ≡ s.number
+    by true = refl
+    by false = refl
+
+state_verdict : (s : Notes) (from f : ℕ) → length s.marked ≡ 16 → s.agents ≤ 16 → 1 ≤ from → from ≤ s.agents → verdict (after_state s from f) ≡ verdict s
+state_verdict s from f many few low high = by (verdict s) refl
+  where
+    by : (o : Option Verdict) → verdict s ≡ o → verdict (after_state s from f) ≡ verdict s
+    by None is = counted_none s from f is ∙ sym is
+    by (Some v) is = ap verdict (state_changes_nothing s from f many few low high (λ none. none-some v (sym none ∙ is)))
+
+-- no verdict is given by another agent
+other_verdict : (r s : AgentRecord) → s.task ≡ r.task → verdict s.snapshot ≡ verdict r.snapshot → given_verdict s ≡ given_verdict r
+other_verdict r s task same = λ k. if (task k).me == 1 then same k else None
+
+module _ (value : AgentTask → Numbers → Numbers → Option ℕ) (publics : ℕ) (tasks : List AgentTask) (agree : Agree tasks) (limits : All IsWithinLimits tasks)
+    (team : IsTeamOf publics tasks) (w next : World) (known : IsKnownWorld publics tasks w) (known_next : IsKnownWorld publics tasks next)
+    (goals : (i : ℕ) (r : AgentRecord) → agent_at next i ≡ Some r → NotesItsGoal r) where
+  -- a verdict is given: the search went on before
+  judging : (event : Event) (step : IsStepOf value w event next) → All (λ x. HasRoom x.message) step.step.out → IsJudged step.agent step.step
+      → ((i j : ℕ) → IsOf (length tasks) i → IsOf (length tasks) j
+      → filter is_of_end (left value publics tasks team w known.team event next step i j) ≡ end_messages publics w i j)
+      → (stage : Stage) → IsAt publics w stage → ComesTo publics tasks step.step.out next
+  judging event step room judges left_same stage old = by stage old undecided
+    where
+      b_is : agent_of event ≡ 1
+      b_is = sym (me_before value publics tasks team w known.team event next step (agent_of event) step.agent step.there) ∙ judges.me
+
+      undecided : (first : AgentRecord) → agent_at w 1 ≡ Some first → is_deciding (given_verdict first) ≡ true → ⊥
+      undecided first there deciding =
+          let one : step.agent ≡ first = same_Some step.agent first (sym step.there ∙ ap (agent_at w) b_is ∙ there) in
+          false≢true (sym judges.undecided ∙ ap (λ (r : AgentRecord). is_deciding (given_verdict r)) one ∙ deciding)
+
+      by : (stage : Stage) (old : IsAt publics w stage) → ((first : AgentRecord) → agent_at w 1 ≡ Some first → is_deciding (given_verdict first) ≡ true → ⊥)
+          → ComesTo publics tasks step.step.out next
+      by searching old never =
+          judged_comes value publics tasks agree limits team w next known known_next event step room goals judges old.agents
+          (λ i j is_i is_j.
+          let x = agent_before value publics tasks team w known.team event next step j is_j in
+          left_same i j is_i is_j ∙ old.mail i j x.0 (is_agent_of publics tasks team w (team_numbers publics tasks team w known.team) i is_i) x.1)
+      by (without_plan kind) old never = absurd (never old.first old.there (end_decides (given_verdict old.first) kind old.verdict.verdict))
+      by (picking agent number plan) old never = absurd (never old.first old.there (ap is_deciding old.verdict.proved.verdict))
+      by (walking sender receiver sent earlier later) old never = absurd (never old.first old.there (ap is_deciding old.verdict.proved.verdict))
+      by (over by_agent plan) old never = absurd (never old.first old.there (ap is_deciding old.verdict.proved.verdict))
+
+  expansion_comes : (agent : ℕ) (step : IsStepOf value w (Expand agent) next) → All (λ x. HasRoom x.message) step.step.out → (stage : Stage) → IsAt publics w stage
+      → ComesTo publics tasks step.step.out next
+  expansion_comes agent step room stage old =
+      let r = step.agent in
+      let made = expanded r.task (value r.task) r.search in
+      let same = same_step (with_search r made) step.step step.local in
+      calm_comes value publics tasks agree limits team w next known known_next (Expand agent) step room
+      (subst (IsCalm r) same (expansion_calm r made))
+      (λ first. subst (λ (s : Step). IsSameVerdict r s.after) same (record { verdict = refl; number = refl }))
+      (λ i j is_i is_j. ap (filter is_of_end) (sym (messages_before value publics tasks team w known.team (Expand agent) next step i j)))
+      stage old (λ deciding. subst (λ (s : Step). s.after.goal ≡ r.goal) same refl)
+
+  start_comes : (step : IsStepOf value w Start next) → All (λ x. HasRoom x.message) step.step.out → (stage : Stage) → IsAt publics w stage
+      → ComesTo publics tasks step.step.out next
+  start_comes step room stage old =
+      let r = step.agent in
+      let same = same_step (started r) step.step step.local in
+      judging Start step room (subst (IsJudged r) same (start_judged r (and_parts (is_going r.ending) (may_start r) step.may).1))
+      (λ i j is_i is_j. ap (filter is_of_end) (sym (messages_before value publics tasks team w known.team Start next step i j)))
+      stage old
+
+  module _ (b a : ℕ) (step : IsStepOf value w (Take b a) next) (room : All (λ x. HasRoom x.message) step.step.out) (stage : Stage) (old : IsAt publics w stage) where
+    abbrev Reading : Message → Type 0
+    Reading m = message_of step.agent.task.agents step.agent.task.publics (taken w (Take b a)) ≡ Some m
+
+    me : step.agent.task.me ≡ b
+    me = me_before value publics tasks team w known.team (Take b a) next step b step.agent step.there
+
+    notes_me : step.agent.snapshot.me ≡ step.agent.task.me
+    notes_me = (place_of value publics tasks agree limits team w next known known_next (Take b a) step b step.agent step.there).1
+
+    notes : AreNotesOf (length w.agents) step.agent.task.me step.agent.snapshot
+    notes = known.in_runs.sound.notes step.agent (ap (agent_at w) me ∙ step.there)
+
+    is_a : IsOf (length tasks) a
+    is_a = is_sender value publics tasks team w known.team b a next step
+
+    -- a state
+    state_comes : (m : State) → Reading (AState m) → took_message (value step.agent.task) step.agent a (AState m) ≡ Ok step.step → ComesTo publics tasks step.step.out next
+    state_comes m read took =
+        let r = step.agent in
+        let same = state_taken (value r.task) r a m step.step took in
+        let size = (team_numbers publics tasks team w known.team).size in
+        let few = team.agents in
+        let agents = notes.agents in
+        let of = is_a in
+        let low = of.from_1 in
+        let high = of.at_most in
+        let verdict_same : verdict (with_state (value r.task) r a m).snapshot ≡ verdict r.snapshot =
+        ap verdict (state_snapshot (value r.task) r a m) ∙ state_verdict r.snapshot a (m.g + m.h) notes.marked (omega arith) low (omega arith) in
+        let calm = state_calm (value r.task) r a m in
+        calm_comes value publics tasks agree limits team w next known known_next (Take b a) step room
+        (subst (IsCalm r) same calm)
+        (λ first. subst (λ (s : Step). IsSameVerdict r s.after) same (record {
+          verdict = other_verdict r (with_state (value r.task) r a m) calm.task verdict_same;
+          number = ap (λ (s : Notes). s.number) (state_snapshot (value r.task) r a m) ∙ counted_number r.snapshot a (m.g + m.h);
+        }))
+        (ends_left value publics tasks team w known.team b a next step (AState m) read refl)
+        stage old
+        (λ deciding. subst (λ (s : Step). s.after.goal ≡ r.goal) same
+        (state_goal (value r.task) r a m (place_of value publics tasks agree limits team w next known known_next (Take b a) step b r step.there).0).goal)
+
+    -- no marker is under way once a verdict is given
+    no_marker : (number : ℕ) → Reading (Marker number) → (first : AgentRecord) → agent_at w 1 ≡ Some first → is_deciding (given_verdict first) ≡ true → ⊥
+    no_marker number read first there deciding = by (given_verdict first) refl deciding
+      where
+        sender : (r : AgentRecord) × (agent_at w a ≡ Some r)
+        sender = agent_before value publics tasks team w known.team (Take b a) next step a is_a
+
+        sender_me : sender.0.task.me ≡ a
+        sender_me = me_before value publics tasks team w known.team (Take b a) next step a sender.0 sender.1
+
+        two : AreTwo w sender.0 step.agent
+        two = record {
+          one = ap (agent_at w) sender_me ∙ sender.1;
+          other = ap (agent_at w) me ∙ step.there;
+          different = λ same. apart value publics tasks team w known.team b a next step (sym sender_me ∙ same ∙ me);
+        }
+
+        no_item : (x : ℕ) (xs : List ℕ) → x ∷ xs ≡ [] → ⊥
+        no_item x xs e = cc
+
+        by : (o : Option Verdict) → given_verdict first ≡ o → is_deciding o ≡ true → ⊥
+        by None given test = false≢true test
+        by (Some v) given test =
+            let none = (verdict_is_over publics tasks team w known.team known.in_runs.sound first v there given).no_marker sender.0 step.agent two in
+            let here : markers publics w a b ≡ [] = (λ k. markers publics w (sym sender_me k) (sym me k)) ∙ none in
+            no_item number (filter_map marker_of (left value publics tasks team w known.team (Take b a) next step a b))
+            (sym (ap (filter_map marker_of) (taken_first value publics tasks team w known.team b a next step (Marker number) read)) ∙ here)
+
+    marker_comes : (number : ℕ) → Reading (Marker number) → took_message (value step.agent.task) step.agent a (Marker number) ≡ Ok step.step → ComesTo publics tasks step.step.out next
+    marker_comes number read took = by (cases_eq step.agent.task.me 1)
+      where
+        r : AgentRecord
+        r = step.agent
+
+        good : (is_strange_marker step.agent.snapshot a number ≡ false) × (marked step.agent a number ≡ step.step)
+        good = good_step (is_strange_marker step.agent.snapshot a number) StrangeMarker (marked step.agent a number) step.step took
+
+        by : (step.agent.task.me ≡ 1) ⊎ (step.agent.task.me ≡ 1 → ⊥) → ComesTo publics tasks step.step.out next
+        by (inl first) =
+            judging (Take b a) step room (subst (IsJudged step.agent) good.1 (marked_judged step.agent a number first notes_me good.0))
+            (ends_left value publics tasks team w known.team b a next step (Marker number) read refl) stage old
+        by (inr other) =
+            calm_comes value publics tasks agree limits team w next known known_next (Take b a) step room
+            (subst (IsCalm step.agent) good.1 (marked_calm step.agent a number other))
+            (λ first. absurd (other (me ∙ first)))
+            (ends_left value publics tasks team w known.team b a next step (Marker number) read refl)
+            stage old (λ deciding. absurd (no_marker number read old.first old.there deciding))
+
+    message_comes : (m : Message) → Reading m → took_message (value step.agent.task) step.agent a m ≡ Ok step.step → ComesTo publics tasks step.step.out next
+    message_comes (AState m) read took = state_comes m read took
+    message_comes (Marker number) read took = marker_comes number read took
+    message_comes (Report found) read took =
+        let r = step.agent in
+        let good = good_step (is_strange_report r.snapshot a found) StrangeReport (judged (record r { snapshot = after_report r.snapshot a found })) step.step took in
+        judging (Take b a) step room (subst (IsJudged r) good.1 (report_judged r a found notes_me good.0))
+        (ends_left value publics tasks team w known.team b a next step (Report found) read refl) stage old
+    message_comes (Pick number) read took = pick_comes value publics tasks agree limits team w next known known_next b a step room stage old number read took
+    message_comes (Trace sent back) read took = trace_comes value publics tasks agree limits team w next known known_next b a step room stage old sent back read took
+    message_comes (Length plan) read took = length_comes value publics tasks agree limits team w next known known_next b a step room stage old plan read took
+    message_comes (Done kind) read took = done_comes value publics tasks agree limits team w next known known_next b a step room stage old kind read took
+
+    take_comes : ComesTo publics tasks step.step.out next
+    take_comes =
+        let t = taking (value step.agent.task) step.agent a (taken w (Take b a)) step.step step.local in
+        message_comes t.message t.reads t.took
+
+  pub event_comes : (event : Event) (step : IsStepOf value w event next) → All (λ x. HasRoom x.message) step.step.out → (stage : Stage) → IsAt publics w stage
+      → ComesTo publics tasks step.step.out next
+  event_comes (Expand agent) step room stage old = expansion_comes agent step room stage old
+  event_comes (Take b a) step room stage old = take_comes b a step room stage old
+  event_comes Start step room stage old = start_comes step room stage old

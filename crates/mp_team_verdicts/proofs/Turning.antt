@@ -1,0 +1,118 @@
+-- What is so before a round until an agent has taken all messages of another one, and what is so from then on.
+use Rattle.std.proofs.Common.{◌≡◌, ◌≢◌, ℕ, ◌≤◌, Bool, true, false, ◌||◌, List, [], ◌∷◌, length, Option, All, refl, sym, ap, subst, ◌∙◌, arith, ◌⊎◌, inl, inr}
+use Rattle.std.specs.Prelude.{◌==◌}
+use Rattle.std.specs.List.{range_with_len}
+use Rattle.std.proofs.lemmas.Bool.{eqb-true, false≢true}
+use Rattle.std.proofs.lemmas.Option.{same_Some}
+use Rattle.mp_runs.proofs.Runs.{run-none, run_parts}
+use Rattle.mp_sets.specs.Numbers.{Numbers}
+use Rattle.mp_task.specs.Agree.{Agree}
+use Rattle.mp_task.specs.AgentTask.{AgentTask}
+use Rattle.mp_task.specs.Limits.{IsWithinLimits}
+use Rattle.mp_messages.specs.declared.history.Event.{Event}
+use Rattle.mp_messages.specs.declared.history.Event.TheVariants.{Take}
+use Rattle.mp_machine.specs.Outgoing.{others}
+use Rattle.mp_world.specs.Events.{after_event, is_legal}
+use Rattle.mp_world.specs.RoundRobin.{AsLongAsItMay, ForEach, Round, Then, Turn}
+use Rattle.mp_world.specs.Steps.{IsStepOf}
+use Rattle.mp_world.specs.World.{World}
+use Rattle.mp_team_snapshots.specs.Team.{IsTeamOf}
+use Rattle.mp_team_snapshots.proofs.Protocol.{IsOf}
+use Rattle.mp_team_verdicts.proofs.Calm.{Goes, Reached, goes_reached}
+use Rattle.mp_team_verdicts.proofs.Points.{Alone, IsRunOf, Part, TakesFrom, alone_runs, as_long_runs, each_runs, in_others, in_range, is_listed, no_longer, takes_run, turn_runs}
+use Rattle.mp_team_verdicts.proofs.Reached.{reached_next, step_of}
+
+module _ (value : AgentTask → Numbers → Numbers → Option ℕ) (limit publics : ℕ) (tasks : List AgentTask)
+    (agree : Agree tasks) (limits : All IsWithinLimits tasks) (most : limit ≤ 10000000)
+    (team : IsTeamOf publics tasks) (Before After : World → Type 0) where
+  abbrev n : ℕ
+  n = length tasks
+
+  abbrev At : World → Type 0
+  At = Reached value limit publics tasks agree limits most team
+
+  abbrev Leads : World → List Event → World → Type 0
+  Leads = Goes value limit publics tasks agree limits most team
+
+  reach : (events : List Event) (u w : World) → At u → Leads u events w → At w
+  reach = goes_reached value limit publics tasks agree limits most team
+
+  module _
+      (goes : (v next : World) (event : Event) → At v → At next → IsStepOf value v event next → Before v → Before next ⊎ After next)
+      (stays : (v next : World) (event : Event) → At v → At next → IsStepOf value v event next → After v → After next) where
+    one_on : (v next : World) (event : Event) → At v → At next → IsStepOf value v event next → Before v ⊎ After v → Before next ⊎ After next
+    one_on v next event at at_next step (inl before) = goes v next event at at_next step before
+    one_on v next event at at_next step (inr after) = inr (stays v next event at at_next step after)
+
+    carry : (events : List Event) (u w : World) → At u → Leads u events w → Before u ⊎ After u → Before w ⊎ After w
+    carry [] u w at leads is = subst (λ v. Before v ⊎ After v) (same_Some u w (sym (run-none (after_event value) u) ∙ leads)) is
+    carry (e ∷ events) u w at leads is =
+        let parts = run_parts (after_event value) u w e events leads in
+        let at_v = reached_next value limit publics tasks agree limits most team u parts.0 e at parts.1 in
+        carry events parts.0 w at_v parts.2
+        (one_on u parts.0 e at at_v (step_of value limit publics tasks agree limits most team u parts.0 e at parts.1) is)
+
+    keep : (events : List Event) (u w : World) → At u → Leads u events w → After u → After w
+    keep [] u w at leads is = subst After (same_Some u w (sym (run-none (after_event value) u) ∙ leads)) is
+    keep (e ∷ events) u w at leads is =
+        let parts = run_parts (after_event value) u w e events leads in
+        let at_v = reached_next value limit publics tasks agree limits most team u parts.0 e at parts.1 in
+        keep events parts.0 w at_v parts.2
+        (stays u parts.0 e at at_v (step_of value limit publics tasks agree limits most team u parts.0 e at parts.1) is)
+
+    -- a part after which the later is so
+    abbrev Turns : Part → Type 0
+    Turns P = (w last : World) (events : List Event) → At w → P w events last → Before w ⊎ After w → After last
+
+    first_turns : (P Q : Part) → IsRunOf value P → IsRunOf value Q → Turns P → Turns (Then P Q)
+    first_turns P Q runs runs_too turns w last events at a is =
+        keep a.second a.middle last (reach a.first w a.middle at (runs w a.middle a.first a.done)) (runs_too a.middle last a.second a.then)
+        (turns w a.middle a.first at a.done is)
+
+    second_turns : (P Q : Part) → IsRunOf value P → Turns Q → Turns (Then P Q)
+    second_turns P Q runs turns w last events at a is =
+        let leads = runs w a.middle a.first a.done in
+        turns a.middle last a.second (reach a.first w a.middle at leads) a.then (carry a.first w a.middle at leads is)
+
+    each_turns : (P : ℕ → Part) → ((agent : ℕ) → IsRunOf value (P agent)) → (i : ℕ) → Turns (P i) → (agents : List ℕ) → is_listed i agents ≡ true
+        → Turns (ForEach P agents)
+    each_turns P runs i turns [] listed w last events at a is = absurd (false≢true listed)
+    each_turns P runs i turns (x ∷ xs) listed w last events at a is =
+        by (x == i) refl (λ more. each_turns P runs i turns xs more)
+      where
+        by : (b : Bool) → (x == i) ≡ b → (is_listed i xs ≡ true → Turns (ForEach P xs)) → After last
+        by true test more =
+            first_turns (P x) (ForEach P xs) (runs x) (each_runs value P runs xs)
+            (subst (λ k. Turns (P k)) (sym (eqb-true x i test)) turns) w last events at a is
+        by false test more =
+            second_turns (P x) (ForEach P xs) (runs x)
+            (more (ap (λ (b : Bool). b || is_listed i xs) (sym test) ∙ listed)) w last events at a is
+
+    -- an agent takes all messages of another one, so that the earlier is not so any more
+    module _ (from to : ℕ) (of_from : IsOf n from) (of_to : IsOf n to) (apart : from ≢ to)
+        (may : (v : World) → At v → Before v → is_legal v (Take to from) ≡ false → ⊥) where
+      takes_turns : Turns (AsLongAsItMay value (Take to from))
+      takes_turns w last events at a is = by (carry events w last at leads is)
+        where
+          leads : Leads w events last
+          leads = as_long_runs value (Take to from) w last events a
+
+          by : Before last ⊎ After last → After last
+          by (inl before) = absurd (may last (reach events w last at leads) before (no_longer value (Take to from) w last events a))
+          by (inr after) = after
+
+      listed : (i : ℕ) → IsOf n i → is_listed i (range_with_len 1 n) ≡ true
+      listed i of =
+          let low = of.from_1 in
+          let high = of.at_most in
+          in_range i 1 n low (omega arith)
+
+      turn_turns : Turns (Turn value n to)
+      turn_turns =
+          first_turns (ForEach (TakesFrom value to) (others to n)) (Alone value to) (takes_run value n to) (alone_runs value to)
+          (each_turns (TakesFrom value to) (λ k. as_long_runs value (Take to k)) from takes_turns (others to n)
+          (in_others from to (range_with_len 1 n) apart (listed from of_from)))
+
+      -- so it is after a round
+      pub round_turns : (w last : World) (events : List Event) → At w → Round value n w events last → Before w ⊎ After w → After last
+      round_turns = each_turns (Turn value n) (turn_runs value n) to turn_turns (range_with_len 1 n) (listed to of_to)

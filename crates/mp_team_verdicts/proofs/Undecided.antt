@@ -1,0 +1,37 @@
+-- The search goes on where agent 1 has not decided it.
+use Rattle.std.proofs.Common.{◌≡◌, ℕ, ◌≤◌, true, false, List, Option, Some, All, sym, ap, subst, ◌∙◌}
+use Rattle.std.specs.Prelude.{IfSome}
+use Rattle.std.proofs.lemmas.Bool.{false≢true}
+use Rattle.mp_sets.specs.Numbers.{Numbers}
+use Rattle.mp_task.specs.Agree.{Agree}
+use Rattle.mp_task.specs.AgentTask.{AgentTask}
+use Rattle.mp_task.specs.Limits.{IsWithinLimits}
+use Rattle.mp_machine.specs.AgentRecord.{AgentRecord, given_verdict}
+use Rattle.mp_machine.specs.Verdicts.{is_deciding}
+use Rattle.mp_world.specs.World.{World, agent_at}
+use Rattle.mp_team_snapshots.specs.Team.{IsTeamOf}
+use Rattle.mp_team_verdicts.specs.Ending.{IsAt, Stage}
+use Rattle.mp_team_verdicts.specs.Ending.Stage.{over, picking, searching, walking, without_plan}
+use Rattle.mp_team_verdicts.proofs.InRuns.{ends_so_far}
+use Rattle.mp_team_verdicts.proofs.Proving.{end_decides}
+use Rattle.mp_team_verdicts.specs.Quiet.{IsUndecided}
+use Rattle.mp_team_verdicts.proofs.Reached.{IsReached}
+
+module _ (value : AgentTask → Numbers → Numbers → Option ℕ) (limit publics : ℕ) (tasks : List AgentTask)
+    (agree : Agree tasks) (limits : All IsWithinLimits tasks) (most : limit ≤ 10000000)
+    (team : IsTeamOf publics tasks) (w : World) (at : IsReached value limit tasks w) (undecided : IsUndecided w) where
+  not_decided : (first : AgentRecord) → agent_at w 1 ≡ Some first → is_deciding (given_verdict first) ≡ true → ⊥
+  not_decided first there decides =
+      false≢true (sym (subst (λ (o : Option AgentRecord). IfSome o (λ r. is_deciding (given_verdict r) ≡ false)) there undecided) ∙ decides)
+
+  by_stage : (stage : Stage) → IsAt publics w stage → IsAt publics w searching
+  by_stage searching a = a
+  by_stage (without_plan kind) a = absurd (not_decided a.first a.there (end_decides (given_verdict a.first) kind a.verdict.verdict))
+  by_stage (picking agent number plan) a = absurd (not_decided a.first a.there (ap is_deciding a.verdict.proved.verdict))
+  by_stage (walking from to sent earlier later) a = absurd (not_decided a.first a.there (ap is_deciding a.verdict.proved.verdict))
+  by_stage (over by plan) a = absurd (not_decided a.first a.there (ap is_deciding a.verdict.proved.verdict))
+
+  pub searches_still : IsAt publics w searching
+  searches_still =
+      let ends = ends_so_far value limit publics tasks agree limits most team at.schedule w at.ran in
+      by_stage ends.stage ends.is

@@ -1,0 +1,286 @@
+-- An agent walks the plan back: the walk goes on over a trace, or it is over.
+use Rattle.std.proofs.Common.{◌≡◌, ◌≢◌, ℕ, ◌+◌, ◌≤◌, ◌<◌, ◌^◌, Bool, true, false, ◌&&◌, List, [], ◌++◌, length, Option, Some, All, refl, sym, ap, subst, ◌∙◌, append_assoc, arith, inl, inr}
+use Rattle.std.specs.Prelude.{◌==◌, filter, if◌then◌else◌, not}
+use Rattle.std.proofs.lemmas.Bool.{eq-eqb, eqb-true, false_from_ne_true}
+use Rattle.std.proofs.lemmas.List.{length-append}
+use Rattle.std.proofs.lemmas.List.Elements.{All-append, All-cons, All-contains, All-map, All-nil, All-weaker}
+use Rattle.mp_sets.specs.Numbers.{Numbers}
+use Rattle.mp_task.specs.Agree.{Agree}
+use Rattle.mp_task.specs.AgentTask.{AgentTask}
+use Rattle.mp_task.specs.Limits.{IsWithinLimits}
+use Rattle.mp_task.specs.Plan.{TaskStep}
+use Rattle.mp_messages.specs.declared.history.Event.{Event}
+use Rattle.mp_messages.specs.declared.message.Message.{Message}
+use Rattle.mp_messages.specs.declared.message.Message.TheVariants.{Trace, Length}
+use Rattle.mp_search.specs.Search.{SearchRecord}
+use Rattle.mp_trail.specs.declared.steps.Noted.{Noted}
+use Rattle.mp_trail.specs.declared.steps.Walked.{Walked}
+use Rattle.mp_trail.specs.declared.steps.Walked.TheVariants.{Root, Hop}
+use Rattle.mp_trail.specs.Share.{share}
+use Rattle.mp_trail.specs.Walk.{Walk, walk}
+use Rattle.mp_machine.specs.declared.event.Ending.TheVariants.{Solved}
+use Rattle.mp_machine.specs.AgentRecord.{AgentRecord, is_going}
+use Rattle.mp_machine.specs.Outgoing.{Outgoing, Step, after_sending, others, to_each, to_one}
+use Rattle.mp_machine.specs.WalkingBack.{arrived, solved, walked}
+use Rattle.mp_world.specs.Events.{agent_of}
+use Rattle.mp_world.specs.Steps.{IsStepOf}
+use Rattle.mp_world.specs.World.{World, agent_at}
+use Rattle.mp_world.proofs.Agents.{member_of}
+use Rattle.mp_world.proofs.Mail.{agent_of_team}
+use Rattle.mp_team_snapshots.specs.Snapshots.{one_if_due}
+use Rattle.mp_team_snapshots.specs.Team.{HasRoom, IsTeamOf}
+use Rattle.mp_team_snapshots.proofs.Changes.{left}
+use Rattle.mp_team_snapshots.proofs.Protocol.{IsOf}
+use Rattle.mp_team_states.specs.Paths.{IsPath, IsSentAt}
+use Rattle.mp_team_states.specs.Walks.{WalksAlong}
+use Rattle.mp_team_states.proofs.RoomCounts.{few_expansions}
+use Rattle.mp_team_states.proofs.StepsSound.{records_sound}
+use Rattle.mp_team_states.proofs.WalkingPaths.{walk_along}
+use Rattle.mp_team_verdicts.specs.Ending.{EndsWith, HasWalked, IsAt, IsProved, Stage, end_messages, is_of_end, notes}
+use Rattle.mp_team_verdicts.specs.Ending.Stage.{over, walking}
+use Rattle.mp_team_verdicts.proofs.EndMessages.{HasNoEnds, due_both, ends_behind, ends_to, one_end, others_end}
+use Rattle.mp_team_verdicts.proofs.Fitting.{AllFit, HasEndRoom, ends_next, no_end_has_room, step_fits}
+use Rattle.mp_team_verdicts.proofs.Frames.{IsKnownWorld, each_next, me_before, of_agent_next, of_next}
+use Rattle.mp_team_verdicts.proofs.Heard.{AreElsewhere, EndsElsewhere, walk_elsewhere}
+use Rattle.mp_team_verdicts.proofs.NotesOfPlans.{notes_other, notes_own}
+use Rattle.mp_team_verdicts.proofs.OneEntry.{sent_small}
+use Rattle.mp_team_verdicts.proofs.EndSteps.{walked_keeps}
+
+-- after a step: where the end has come, and that what went out has room
+pub record ComesTo (publics : ℕ) (tasks : List AgentTask) (out : List Outgoing) (next : World) : Type 0 where
+  pub stage : Stage
+  pub is : IsAt publics next stage
+  pub fits : AllFit (length tasks) publics out
+
+module _ (value : AgentTask → Numbers → Numbers → Option ℕ) (publics : ℕ) (tasks : List AgentTask) (agree : Agree tasks) (limits : All IsWithinLimits tasks)
+    (team : IsTeamOf publics tasks) (w next : World) (known : IsKnownWorld publics tasks w) (known_next : IsKnownWorld publics tasks next) (event : Event)
+    (step : IsStepOf value w event next) (room : All (λ x. HasRoom x.message) step.step.out) where
+  abbrev b : ℕ
+  b = agent_of event
+
+  -- the messages of the team fit
+  pub team_fits : All (λ x. HasEndRoom x.message) step.step.out → AllFit (length tasks) publics step.step.out
+  team_fits end =
+      let of = member_of tasks team.numbered w known.team b step.agent step.there in
+      let alike = All-contains (λ t. t.publics ≡ publics) tasks step.agent.task team.alike of.task in
+      let agents = of.agents in
+      subst (λ (n : ℕ). AllFit n publics step.step.out) agents
+      (subst (λ (n : ℕ). AllFit step.agent.task.agents n step.step.out) alike
+      (step_fits tasks agree limits w known.team known.so_far.sound value next event step room end))
+
+  -- a step after which messages of the end have gone out alone, where none was left
+  pub ends_are : AllFit (length tasks) publics step.step.out
+      → ((i j : ℕ) → IsOf (length tasks) i → IsOf (length tasks) j → filter is_of_end (left value publics tasks team w known.team event next step i j) ≡ [])
+      → (m : Message) (q : ℕ → Bool) → ((j : ℕ) → IsOf (length tasks) j → ends_to j step.step.out ≡ one_if_due (q j) m)
+      → (i j : ℕ) → IsOf (length tasks) i → IsOf (length tasks) j → end_messages publics next i j ≡ one_if_due (i == b && q j) m
+  ends_are fits none m q sent i j is_i is_j =
+      ends_next value publics tasks team w known.team event next step fits i j is_i is_j
+      ∙ (λ k. none i j is_i is_j k ++ (if i == b then sent j is_j k else []))
+      ∙ due_both (i == b) (q j) m
+
+  module _ (r : AgentRecord) (entry : ℕ) (earlier later : List TaskStep) (first : List Outgoing) (silent : HasNoEnds first)
+      (is : after_sending first (walked r entry (length later)) ≡ step.step)
+      (me : r.task ≡ step.agent.task) (trail : r.trail ≡ notes b later) (going : is_going r.ending ≡ true)
+      (others_walked : (i : ℕ) (x : AgentRecord) → agent_at w i ≡ Some x → i ≢ b → HasWalked later x)
+      (none : (i j : ℕ) → IsOf (length tasks) i → IsOf (length tasks) j → filter is_of_end (left value publics tasks team w known.team event next step i j) ≡ [])
+      (one : AgentRecord) (one_there : agent_at next 1 ≡ Some one) (proved : IsProved next one (earlier ++ later)) (path : IsPath next b entry earlier) where
+    me_is : r.task.me ≡ b
+    me_is = ap (λ (t : AgentTask). t.me) me ∙ me_before value publics tasks team w known.team event next step b step.agent step.there
+
+    agents_is : r.task.agents ≡ length tasks
+    agents_is = ap (λ (t : AgentTask). t.agents) me ∙ (member_of tasks team.numbered w known.team b step.agent step.there).agents
+
+    short : length (earlier ++ later) < 2 ^ 60
+    short =
+        let few = known_next.so_far.short proved.agent proved.number (earlier ++ later) proved.path in
+        let most = few_expansions tasks agree limits next known_next.team known_next.so_far.sound in
+        omega arith
+
+    -- the walk of the agent, as it is after the step
+    wk : Walk
+    wk = walk r.search.kept entry (length later)
+
+    along : WalksAlong next b (length later) earlier wk
+    unfolding wk
+    along =
+        let keeps = walked_keeps r entry (length later) in
+        let search : step.step.after.search ≡ r.search = ap (λ (s : Step). s.after.search) (sym is) ∙ keeps.search in
+        subst (λ (x : SearchRecord). WalksAlong next b (length later) earlier (walk x.kept entry (length later))) search
+        (walk_along next (records_sound tasks agree limits next known_next.team known_next.so_far.sound) b step.step.after step.after entry (length later) earlier path)
+
+    module _ (noted : List Noted) (end : Walked) (x : WalksAlong next b (length later) earlier (record { noted = noted; end = end }))
+        (now : after_sending first (arrived (record r { trail = r.trail ++ noted }) end) ≡ step.step) where
+      -- the own steps that are walked
+      own_later : List TaskStep
+      own_later = x.own ++ later
+
+      trail_after : r.trail ++ noted ≡ notes b own_later
+      unfolding own_later
+      trail_after = (λ k. trail k ++ x.noted k) ∙ sym (notes_own b x.own later x.agents)
+
+      trail_other : (i : ℕ) (y : AgentRecord) → agent_at w i ≡ Some y → i ≢ b → y.trail ≡ notes y.task.me own_later
+      unfolding own_later
+      trail_other i y there other =
+          let mine = me_before value publics tasks team w known.team event next step i y there in
+          (others_walked i y there other).trail ∙ sym (notes_other b y.task.me x.own later x.agents (λ same. other (sym mine ∙ same)))
+
+      out_is : step.step.out ≡ first ++ (arrived (record r { trail = r.trail ++ noted }) end).out
+      out_is = ap (λ (s : Step). s.out) (sym now)
+
+      after_is : step.step.after ≡ (arrived (record r { trail = r.trail ++ noted }) end).after
+      after_is = ap (λ (s : Step). s.after) (sym now)
+
+      -- what goes out first has room
+      first_room : All (λ y. HasEndRoom y.message) first
+      first_room = All-weaker (λ (y : Outgoing). is_of_end y.message ≡ false) (λ (y : Outgoing). HasEndRoom y.message) (λ y other. no_end_has_room y.message other) first silent
+
+    -- at the initial state
+    at_root : (noted : List Noted) (n : ℕ) (x : WalksAlong next b (length later) earlier (record { noted = noted; end = Root n }))
+        → after_sending first (arrived (record r { trail = r.trail ++ noted }) (Root n)) ≡ step.step → ComesTo publics tasks step.step.out next
+    unfolding own_later
+    at_root noted n x now =
+        let whole : earlier ≡ x.own = x.parts ∙ ap (λ (xs : List TaskStep). xs ++ x.own) x.end.0 in
+        let count = x.end.1 in
+        let own_long = ap length whole in
+        let all_long = length-append earlier later in
+        let long : n ≡ length (earlier ++ later) = omega arith in
+        by (earlier ++ later) (ap (λ (xs : List TaskStep). xs ++ later) (sym whole)) long proved short
+      where
+        last : AgentRecord
+        last = solved (record r { trail = r.trail ++ noted }) n
+
+        after : step.step.after ≡ last
+        after = after_is noted (Root n) x now
+
+        sent_to : (j : ℕ) → IsOf (length tasks) j → ends_to j step.step.out ≡ one_if_due (not (j == r.task.me)) (Length n)
+        sent_to j is_j =
+            ap (ends_to j) (out_is noted (Root n) x now)
+            ∙ ends_behind j first (to_each (others r.task.me r.task.agents) (Length n)) silent
+            ∙ others_end (Length n) r.task.me r.task.agents j refl is_j.from_1 (subst (λ (k : ℕ). j ≤ k) (sym agents_is) is_j.at_most)
+
+        all_room : n < 2 ^ 60 → All (λ y. HasEndRoom y.message) step.step.out
+        all_room small =
+            subst (λ (out : List Outgoing). All (λ y. HasEndRoom y.message) out) (sym (out_is noted (Root n) x now))
+            (All-append (λ (y : Outgoing). HasEndRoom y.message) first (to_each (others r.task.me r.task.agents) (Length n)) (first_room noted (Root n) x now)
+            (All-map (λ (y : Outgoing). HasEndRoom y.message) (λ agent. record { to = agent; message = Length n }) (others r.task.me r.task.agents) (λ k d h. small)))
+
+        going_is : (j : ℕ) (y : AgentRecord) → agent_at next j ≡ Some y → not (j == r.task.me) ≡ is_going y.ending
+        going_is =
+            each_next value publics tasks team w known.team event next step (λ j y. not (j == r.task.me) ≡ is_going y.ending)
+            (ap not (eq-eqb b r.task.me (sym me_is)) ∙ sym (ap (λ (y : AgentRecord). is_going y.ending) after))
+            (λ j y there other.
+            ap not (false_from_ne_true (j == r.task.me) (λ same. other (eqb-true j r.task.me same ∙ me_is)))
+            ∙ sym (others_walked j y there other).going)
+
+        by : (plan : List TaskStep) → x.own ++ later ≡ plan → n ≡ length plan → IsProved next one plan → length plan < 2 ^ 60 → ComesTo publics tasks step.step.out next
+        by plan same long proved_plan small =
+            let fits = team_fits (all_room (omega arith)) in
+            record {
+              stage = over b plan;
+              is = record {
+                first = one;
+                there = one_there;
+                verdict = record {
+                  proved = proved_plan;
+                  teller = record { who = step.step.after; there = step.after; ended = ap (λ (y : AgentRecord). is_going y.ending) after };
+                };
+                agents =
+                    each_next value publics tasks team w known.team event next step (λ i y. EndsWith plan y)
+                    (subst (EndsWith plan) (sym after)
+                    (record {
+                      trail = trail_after noted (Root n) x now ∙ ap (notes b) same ∙ ap (λ (i : ℕ). notes i plan) (sym me_is);
+                      ending = inr (record { ending = ap (λ (k : ℕ). Solved k) long; share = ap (λ (k : ℕ). share k (r.trail ++ noted)) long });
+                    }))
+                    (λ i y there other. record {
+                      trail = trail_other noted (Root n) x now i y there other ∙ ap (notes y.task.me) same;
+                      ending = inl (others_walked i y there other).going;
+                    });
+                mail = λ i j y agent there.
+                    ends_are fits none (Length n) (λ j. not (j == r.task.me)) sent_to i j
+                    (of_agent_next value publics tasks team w known.team event next step i agent) (of_next value publics tasks team w known.team event next step j y there)
+                    ∙ (λ k. one_if_due (i == b && going_is j y there k) (Length (long k)));
+              };
+              fits = fits;
+            }
+
+    -- at a state that another agent sent
+    at_hop : (noted : List Noted) (sender sent n : ℕ) (x : WalksAlong next b (length later) earlier (record { noted = noted; end = Hop sender sent n }))
+        → after_sending first (arrived (record r { trail = r.trail ++ noted }) (Hop sender sent n)) ≡ step.step → sender ≢ b → ComesTo publics tasks step.step.out next
+    unfolding own_later
+    at_hop noted sender sent n x now elsewhere = by x.end.0 x.end.1 x.end.2 x.end.3
+      where
+        last : AgentRecord
+        last = record r { trail = r.trail ++ noted }
+
+        after : step.step.after ≡ last
+        after = after_is noted (Hop sender sent n) x now
+
+        sent_to : (j : ℕ) → IsOf (length tasks) j → ends_to j step.step.out ≡ one_if_due (sender == j) (Trace sent n)
+        sent_to j is_j =
+            ap (ends_to j) (out_is noted (Hop sender sent n) x now)
+            ∙ ends_behind j first (to_one sender (Trace sent n)) silent
+            ∙ one_end sender (Trace sent n) refl j
+
+        all_room : sent < 2 ^ 60 → n < 2 ^ 60 → All (λ y. HasEndRoom y.message) step.step.out
+        all_room small_sent small =
+            subst (λ (out : List Outgoing). All (λ y. HasEndRoom y.message) out) (sym (out_is noted (Hop sender sent n) x now))
+            (All-append (λ (y : Outgoing). HasEndRoom y.message) first (to_one sender (Trace sent n)) (first_room noted (Hop sender sent n) x now)
+            (All-cons (λ (y : Outgoing). HasEndRoom y.message) (record { to = sender; message = Trace sent n }) [] (small_sent, small) (All-nil (λ (y : Outgoing). HasEndRoom y.message))))
+
+        by : (number : ℕ) → IsSentAt next sender sent number → IsPath next sender number x.earlier → n ≡ length later + length x.own → ComesTo publics tasks step.step.out next
+        by number given path_there count =
+            let own_long = length-append x.own later in
+            let long : n ≡ length (x.own ++ later) = omega arith in
+            let parts = ap length x.parts in
+            let parts_long = length-append x.earlier x.own in
+            let all_long = length-append earlier later in
+            let most = short in
+            let small = sent_small tasks agree limits next known_next.team known_next.so_far.sound known_next.so_far.reached b step.step.after step.after sender sent number given in
+            let few = small.1 in
+            let fits = team_fits (all_room (omega arith) (omega arith)) in
+            record {
+              stage = walking b sender sent x.earlier (x.own ++ later);
+              is = record {
+                first = one;
+                there = one_there;
+                verdict = record {
+                  proved = subst (IsProved next one) (ap (λ (xs : List TaskStep). xs ++ later) x.parts ∙ append_assoc x.earlier x.own later) proved;
+                  sender = agent_of_team next b step.step.after step.after;
+                  apart = elsewhere;
+                  next = record { number = number; given = given; path = path_there };
+                };
+                agents =
+                    each_next value publics tasks team w known.team event next step (λ i y. HasWalked (x.own ++ later) y)
+                    (subst (HasWalked (x.own ++ later)) (sym after)
+                    (record {
+                      trail = trail_after noted (Hop sender sent n) x now ∙ ap (λ (i : ℕ). notes i (x.own ++ later)) (sym me_is);
+                      going = going;
+                    }))
+                    (λ i y there other. record {
+                      trail = trail_other noted (Hop sender sent n) x now i y there other;
+                      going = (others_walked i y there other).going;
+                    });
+                mail = λ i j y agent there.
+                    ends_are fits none (Trace sent n) (λ j. sender == j) sent_to i j
+                    (of_agent_next value publics tasks team w known.team event next step i agent) (of_next value publics tasks team w known.team event next step j y there)
+                    ∙ ap (λ (k : ℕ). one_if_due (i == b && sender == j) (Trace sent k)) long;
+              };
+              fits = fits;
+            }
+
+    pub walk_comes : ComesTo publics tasks step.step.out next
+    unfolding walked wk
+    walk_comes = by (walk r.search.kept entry (length later)).noted (walk r.search.kept entry (length later)).end along is away
+      where
+        search : step.step.after.search ≡ r.search
+        search = ap (λ (s : Step). s.after.search) (sym is) ∙ (walked_keeps r entry (length later)).search
+
+        away : EndsElsewhere b (walk r.search.kept entry (length later)).end
+        away =
+            walk_elsewhere b r.search.kept (subst (λ (x : SearchRecord). AreElsewhere b x.kept) search (known_next.hears b step.step.after step.after))
+            (entry + 1) entry (length later)
+
+        by : (noted : List Noted) (end : Walked) → WalksAlong next b (length later) earlier (record { noted = noted; end = end })
+            → after_sending first (arrived (record r { trail = r.trail ++ noted }) end) ≡ step.step → EndsElsewhere b end → ComesTo publics tasks step.step.out next
+        by noted (Root n) x now away = at_root noted n x now
+        by noted (Hop sender sent n) x now away = at_hop noted sender sent n x now away
