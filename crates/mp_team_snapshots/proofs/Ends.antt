@@ -13,76 +13,77 @@ use Rattle.mp_machine.specs.AgentRecord.{AgentRecord}
 use Rattle.mp_world.specs.Events.{agent_of, local_of, taken}
 use Rattle.mp_world.specs.Steps.{IsStepOf}
 use Rattle.mp_world.specs.World.{IsTeamWorld, World, agent_at, start_world}
-use Rattle.mp_team_snapshots.specs.Messages.{end_of, ends}
+use Rattle.mp_team_snapshots.specs.Messages.{end_of, ends, messages}
 use Rattle.mp_team_snapshots.specs.Snapshots.{AreEndsOfFirst, AreTwo}
 use Rattle.mp_team_snapshots.specs.Team.{IsTeamOf, SendsFitting}
 use Rattle.mp_team_snapshots.proofs.Changes.{from_it, from_others, left, me_before, messages_before, numbers_next}
 use Rattle.mp_team_snapshots.proofs.Effects.{IsTaken, took_effect}
-use Rattle.mp_team_snapshots.proofs.EndsSent.{ends_to, local_sends}
+use Rattle.mp_team_snapshots.proofs.EndsSent.{local_sends}
 use Rattle.mp_team_snapshots.proofs.Kept.{no_messages}
 use Rattle.mp_team_snapshots.proofs.Protocol.{IsOf, pair}
 use Rattle.mp_team_snapshots.proofs.Reading.{IsPart}
+use Rattle.mp_team_snapshots.proofs.Sendings.{messages_to}
 use Rattle.mp_team_snapshots.proofs.TakingFirst.{left_others, taken_first}
 use Rattle.mp_team_snapshots.proofs.Worlds.{HasNumbers, both, is_of_there, team_numbers}
 
 ends_part : IsPart end_of
 ends_part = record { state = λ s. refl; pick = λ n. refl; trace = λ sent back. refl; length = λ n. refl }
 
--- none in a list, and none where the first is taken
-none_behind : (m : Message) (ms : List Message) → filter_map end_of (m ∷ ms) ≡ [] → filter_map end_of ms ≡ []
-none_behind m ms none = by (end_of m) refl
-  where
-    by : (o : Option EndKind) → end_of m ≡ o → filter_map end_of ms ≡ []
-    by None is = sym (rw is refl) ∙ none
-    by (Some kind) is = absurd (no_item kind (filter_map end_of ms) (sym (rw is refl) ∙ none))
-      where
-        no_item : (x : EndKind) (xs : List EndKind) → x ∷ xs ≡ [] → ⊥
-        no_item x xs e = cc
+-- Where no message with some part is under way between certain agents, none is after an event that sends none.
+module _ {X : Type 0} (part : Message → Option X) (is_part : IsPart part) (Between : ℕ → ℕ → Type 0)
+    (value : AgentTask → Numbers → Numbers → Option ℕ) (publics : ℕ) (tasks : List AgentTask) (team : IsTeamOf publics tasks) (w : World)
+    (is : IsTeamWorld tasks w)
+    (before : (i j : ℕ) → IsOf (length tasks) i → IsOf (length tasks) j → Between i j → filter_map part (messages publics w i j) ≡ []) where
+  -- none in a list, and none where the first is taken
+  none_behind : (m : Message) (ms : List Message) → filter_map part (m ∷ ms) ≡ [] → filter_map part ms ≡ []
+  none_behind m ms none = by (part m) refl
+    where
+      no_item : (x : X) (xs : List X) → x ∷ xs ≡ [] → ⊥
+      no_item x xs e = cc
 
-module _ (value : AgentTask → Numbers → Numbers → Option ℕ) (publics : ℕ) (tasks : List AgentTask) (team : IsTeamOf publics tasks) (w : World)
-    (is : IsTeamWorld tasks w) (before : (i j : ℕ) → IsOf (length tasks) i → IsOf (length tasks) j → i ≢ j → i ≢ 1 → ends publics w i j ≡ []) where
+      by : (o : Option X) → part m ≡ o → filter_map part ms ≡ []
+      by None is = sym (rw is refl) ∙ none
+      by (Some x) is = absurd (no_item x (filter_map part ms) (sym (rw is refl) ∙ none))
+
   -- what is left has none
-  left_none : (event : Event) (next : World) (step : IsStepOf value w event next) (i j : ℕ) → IsOf (length tasks) i → IsOf (length tasks) j → i ≢ j → i ≢ 1
-      → filter_map end_of (left value publics tasks team w is event next step i j) ≡ []
-  left_none (Expand agent) next step i j is_i is_j off other =
-      ap (filter_map end_of) (sym (messages_before value publics tasks team w is (Expand agent) next step i j)) ∙ before i j is_i is_j off other
-  left_none Start next step i j is_i is_j off other =
-      ap (filter_map end_of) (sym (messages_before value publics tasks team w is Start next step i j)) ∙ before i j is_i is_j off other
-  left_none (Take b a) next step i j is_i is_j off other = by (pair i j a b)
+  left_none : (event : Event) (next : World) (step : IsStepOf value w event next) (i j : ℕ) → IsOf (length tasks) i → IsOf (length tasks) j
+      → Between i j → filter_map part (left value publics tasks team w is event next step i j) ≡ []
+  left_none (Expand agent) next step i j is_i is_j off =
+      ap (filter_map part) (sym (messages_before value publics tasks team w is (Expand agent) next step i j)) ∙ before i j is_i is_j off
+  left_none Start next step i j is_i is_j off =
+      ap (filter_map part) (sym (messages_before value publics tasks team w is Start next step i j)) ∙ before i j is_i is_j off
+  left_none (Take b a) next step i j is_i is_j off = by (pair i j a b)
     where
       it : IsTaken step.agent a (taken w (Take b a)) step.step
       it = took_effect (value step.agent.task) step.agent a (taken w (Take b a)) step.step step.local
 
-      this : ends publics w a b ≡ [] → filter_map end_of (left value publics tasks team w is (Take b a) next step a b) ≡ []
+      this : filter_map part (messages publics w a b) ≡ [] → filter_map part (left value publics tasks team w is (Take b a) next step a b) ≡ []
       this none =
           none_behind it.message (left value publics tasks team w is (Take b a) next step a b)
-          (sym (ap (filter_map end_of) (taken_first value publics tasks team w is b a next step it.message it.read)) ∙ none)
+          (sym (ap (filter_map part) (taken_first value publics tasks team w is b a next step it.message it.read)) ∙ none)
 
-      by : ((i ≡ a) × (j ≡ b)) ⊎ ((i ≢ a) ⊎ (j ≢ b)) → filter_map end_of (left value publics tasks team w is (Take b a) next step i j) ≡ []
+      by : ((i ≡ a) × (j ≡ b)) ⊎ ((i ≢ a) ⊎ (j ≢ b)) → filter_map part (left value publics tasks team w is (Take b a) next step i j) ≡ []
       by (inl same) =
-          let none : ends publics w a b ≡ [] =
-          subst (λ k. ends publics w a k ≡ []) same.1 (subst (λ k. ends publics w k j ≡ []) same.0 (before i j is_i is_j off other)) in
-          subst (λ k. filter_map end_of (left value publics tasks team w is (Take b a) next step k j) ≡ []) (sym same.0)
-          (subst (λ k. filter_map end_of (left value publics tasks team w is (Take b a) next step a k) ≡ []) (sym same.1) (this none))
+          (λ k. filter_map part (left value publics tasks team w is (Take b a) next step (same.0 k) (same.1 k)))
+          ∙ this ((λ k. filter_map part (messages publics w (sym same.0 k) (sym same.1 k))) ∙ before i j is_i is_j off)
       by (inr apart) =
-          ap (filter_map end_of) (left_others value publics tasks team w is b a next step it.message it.read i j is_i is_j apart)
-          ∙ before i j is_i is_j off other
+          ap (filter_map part) (left_others value publics tasks team w is b a next step it.message it.read i j is_i is_j apart)
+          ∙ before i j is_i is_j off
 
-  module _ (event : Event) (next : World) (step : IsStepOf value w event next) (fits : SendsFitting step.step) where
-    none_next : (i j : ℕ) → IsOf (length tasks) i → IsOf (length tasks) j → i ≢ j → i ≢ 1 → ends publics next i j ≡ []
-    none_next i j is_i is_j off other = by (eqb i (agent_of event)) refl
-      where
-        by : (b : Bool) → eqb i (agent_of event) ≡ b → ends publics next i j ≡ []
-        by false apart =
-            from_others value publics tasks team w is event next step fits end_of ends_part i j is_i is_j (eqb-false i (agent_of event) apart)
-            ∙ left_none event next step i j is_i is_j off other
-        by true test =
-            let same = eqb-true i (agent_of event) test in
-            let silent = local_sends (value step.agent.task) step.agent (λ first. other (same ∙ sym (me_before value publics tasks team w is event next step) ∙ first))
-            (local_of event) (taken w event) step.step step.may step.local in
-            from_it value publics tasks team w is event next step fits end_of ends_part i j is_i is_j same
-            ∙ ap (λ es. es ++ ends_to j step.step.out) (left_none event next step i j is_i is_j off other)
-            ∙ silent.none j
+  pub none_next : (event : Event) (next : World) (step : IsStepOf value w event next) → SendsFitting step.step
+      → ((j : ℕ) → Between (agent_of event) j → filter_map part (messages_to j step.step.out) ≡ [])
+      → (i j : ℕ) → IsOf (length tasks) i → IsOf (length tasks) j → Between i j → filter_map part (messages publics next i j) ≡ []
+  none_next event next step fits silent i j is_i is_j off = by (eqb i (agent_of event)) refl
+    where
+      by : (b : Bool) → eqb i (agent_of event) ≡ b → filter_map part (messages publics next i j) ≡ []
+      by false apart =
+          from_others value publics tasks team w is event next step fits part is_part i j is_i is_j (eqb-false i (agent_of event) apart)
+          ∙ left_none event next step i j is_i is_j off
+      by true test =
+          let same = eqb-true i (agent_of event) test in
+          from_it value publics tasks team w is event next step fits part is_part i j is_i is_j same
+          ∙ ap (λ es. es ++ filter_map part (messages_to j step.step.out)) (left_none event next step i j is_i is_j off)
+          ∙ silent j (subst (λ k. Between k j) same off)
 
 -- ---- in worlds
 
@@ -91,7 +92,12 @@ pub ends_kept : (value : AgentTask → Numbers → Numbers → Option ℕ) (publ
     → AreEndsOfFirst publics w → AreEndsOfFirst publics next
 ends_kept value publics tasks team w event next is step fits old = record {
   none = λ a b two other.
-      none_next value publics tasks team w is before event next step fits a.task.me b.task.me (of a two.one) (of b two.other) two.different other;
+      none_next end_of ends_part (λ i j. (i ≢ j) × (i ≢ 1)) value publics tasks team w is
+      (λ i j is_i is_j off. before i j is_i is_j off.0 off.1) event next step fits
+      (λ j off. local_sends (value step.agent.task) step.agent
+      (λ first. off.1 (sym (me_before value publics tasks team w is event next step) ∙ first))
+      (local_of event) (taken w event) step.step step.local j)
+      a.task.me b.task.me (of a two.one) (of b two.other) (two.different, other);
 }
   where
     numbers : HasNumbers tasks next

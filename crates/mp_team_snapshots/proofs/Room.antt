@@ -14,7 +14,7 @@ use Rattle.mp_messages.specs.Reading.{message_of}
 use Rattle.mp_messages.specs.Spelling.{AreFindings}
 use Rattle.mp_search.specs.Expansion.{expanded}
 use Rattle.mp_snapshot.specs.Notes.{Notes}
-use Rattle.mp_snapshot.specs.Rules.{after_state, begun, is_counted, own, with_state}
+use Rattle.mp_snapshot.specs.Rules.{after_report, after_state, begun, is_counted, own, with_marker, with_state}
 use Rattle.mp_machine.specs.AgentRecord.{AgentRecord, is_going}
 use Rattle.mp_machine.specs.LocalStep.{may_start, with_search}
 use Rattle.mp_machine.specs.Outgoing.{Step}
@@ -56,13 +56,18 @@ counted_number s from f = by (is_counted s from)
     by true = refl
     by false = refl
 
+-- an agent with other notes and the same search
+roomy : (r s : AgentRecord) (notes : Notes) → s.snapshot ≡ notes → s.search ≡ r.search → IsRoomy r → notes.number < 2 ^ 60
+    → AreFindings (own notes) → IsRoomy s
+roomy r s notes snapshot search room number found = record {
+  number = subst (λ t. t.number < 2 ^ 60) (sym snapshot) number;
+  own = subst (λ t. AreFindings (own t)) (sym snapshot) found;
+  entries = subst (λ t. AreSmall t.kept) (sym search) room.entries;
+}
+
 quiet_roomy : (r : AgentRecord) (s : Step) → IsRoomy r → IsQuiet r s → StaysRoomy s
 quiet_roomy r s room quiet = record {
-  after = record {
-    number = subst (λ t. t.number < 2 ^ 60) (sym quiet.snapshot) room.number;
-    own = subst (λ t. AreFindings (own t)) (sym quiet.snapshot) room.own;
-    entries = subst (λ t. AreSmall t.kept) (sym quiet.search) room.entries;
-  };
+  after = roomy r s.after r.snapshot quiet.snapshot quiet.search room room.number room.own;
   sends = record { fits = quiet.silent.room };
 }
 
@@ -81,37 +86,22 @@ module _ (agents : ℕ) (small : agents ≤ 16) (r : AgentRecord) (b : ℕ) (not
 
   pub marked_on_roomy : (from number : ℕ) (s : Step) → IsMarkedOn r from number s → StaysRoomy s
   marked_on_roomy from number s effect =
-      let found : AreFindings (own s.after.snapshot) = subst (λ t. AreFindings (own t)) (sym effect.snapshot) room.own in
-      record {
-        after = record {
-          number = subst (λ t. t.number < 2 ^ 60) (sym effect.snapshot) room.number;
-          own = found;
-          entries = subst (λ t. AreSmall t.kept) (sym effect.search) room.entries;
-        };
-        sends = record { fits = effect.room found };
-      }
+      let after = roomy r s.after (with_marker r.snapshot from) effect.snapshot effect.search room room.number room.own in
+      record { after = after; sends = record { fits = effect.room after.own } }
 
   pub begun_roomy : (from number : ℕ) (s : Step) → number < 2 ^ 60 → IsBegun r from number s → StaysRoomy s
   begun_roomy from number s fits effect =
-      let found : AreFindings (own s.after.snapshot) = subst (λ t. AreFindings (own t)) (sym effect.snapshot) (new_findings number fits) in
-      record {
-        after = record {
-          number = subst (λ t. t.number < 2 ^ 60) (sym effect.snapshot) fits;
-          own = found;
-          entries = subst (λ t. AreSmall t.kept) (sym effect.search) room.entries;
-        };
-        sends = record { fits = effect.room fits found };
-      }
+      let notes = with_marker (begun r.snapshot number (findings r)) from in
+      let after = roomy r s.after notes effect.snapshot effect.search room fits (new_findings number fits) in
+      record { after = after; sends = record { fits = effect.room fits after.own } }
 
   pub started_roomy : (s : Step) → r.snapshot.number + 1 < 2 ^ 60 → IsStarted r s → StaysRoomy s
-  started_roomy s fits effect = record {
-    after = record {
-      number = subst (λ t. t.number < 2 ^ 60) (sym effect.snapshot) fits;
-      own = subst (λ t. AreFindings (own t)) (sym effect.snapshot) (new_findings (r.snapshot.number + 1) fits);
-      entries = subst (λ t. AreSmall t.kept) (sym effect.search) room.entries;
-    };
-    sends = record { fits = effect.room fits };
-  }
+  started_roomy s fits effect =
+      let number = r.snapshot.number + 1 in
+      record {
+        after = roomy r s.after (begun r.snapshot number (findings r)) effect.snapshot effect.search room fits (new_findings number fits);
+        sends = record { fits = effect.room fits };
+      }
 
 -- ---- any event
 
@@ -162,17 +152,14 @@ module _ (value : AgentTask → Numbers → Numbers → Option ℕ) (publics : �
     reported_roomy found effect =
         let r = step.agent in
         let me = notes.me in
+        let same =
+        own_reported r.snapshot a found (low (length tasks) team.agents r b notes is_b room) is_a.from_1
+        (λ same. apart value publics tasks team w is b a next step (same ∙ me))
+        in
         record {
-          after = record {
-            number = subst (λ t. t.number < 2 ^ 60) (sym effect.snapshot) room.number;
-            own =
-                subst (λ t. AreFindings (own t)) (sym effect.snapshot)
-                (subst AreFindings
-                (sym (own_reported r.snapshot a found (low (length tasks) team.agents r b notes is_b room) is_a.from_1
-                (λ same. apart value publics tasks team w is b a next step (same ∙ me))))
-                room.own);
-            entries = subst (λ t. AreSmall t.kept) (sym effect.search) room.entries;
-          };
+          after =
+              roomy r step.step.after (after_report r.snapshot a found) effect.snapshot effect.search room room.number
+              (subst AreFindings (sym same) room.own);
           sends = record { fits = effect.silent.room };
         }
 

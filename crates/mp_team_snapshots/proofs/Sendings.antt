@@ -1,13 +1,14 @@
 -- Markers and reports among the messages that go out in a step.
-use Rattle.std.proofs.Common.{◌≡◌, ◌≢◌, ℕ, zero, suc, ◌+◌, ◌≤◌, ◌<◌, Bool, true, false, List, [], ◌∷◌, ◌++◌, map, None, refl, ap, ◌∙◌, arith}
+use Rattle.std.proofs.Common.{◌≡◌, ◌≢◌, ℕ, zero, suc, ◌+◌, ◌≤◌, ◌<◌, Bool, true, false, List, [], ◌∷◌, ◌++◌, map, Option, None, refl, ap, ◌∙◌, arith}
 use Rattle.std.specs.Prelude.{◌==◌, All, filter, not}
 use Rattle.std.specs.List.{filter_map, range_with_len}
 use Rattle.std.proofs.lemmas.Bool.{eqb-false, eqb-true, false_from_ne_true, not_from_false}
 use Rattle.std.proofs.lemmas.List.{map-append}
-use Rattle.std.proofs.lemmas.List.Elements.{All-append, All-cons, All-nil, filter-append, filter_map-append}
+use Rattle.std.proofs.lemmas.List.Elements.{All-head, All-tail, All-weaker, filter-append, filter_map-append}
 use Rattle.mp_messages.specs.declared.message.Findings.{Findings}
 use Rattle.mp_messages.specs.declared.message.Message.{Message}
 use Rattle.mp_machine.specs.Outgoing.{Outgoing, others, to_each}
+use Rattle.mp_world.proofs.LocalCases.{each_such, none_such}
 use Rattle.mp_team_snapshots.specs.Messages.{marker_of, report_of}
 use Rattle.mp_team_snapshots.specs.Team.{HasRoom}
 
@@ -43,35 +44,32 @@ pub record IsSilent (out : List Outgoing) : Type 0 where
   pub reports : (to : ℕ) → reports_to to out ≡ []
   pub room : All (λ x. HasRoom x.message) out
 
-pub nothing_silent : IsSilent []
-nothing_silent = record { markers = λ to. refl; reports = λ to. refl; room = All-nil (λ x. HasRoom x.message) }
-
-pub silent_append : (xs ys : List Outgoing) → IsSilent xs → IsSilent ys → IsSilent (xs ++ ys)
-silent_append xs ys first then_silent = record {
-  markers = λ to. markers_to-append to xs ys ∙ ap (λ ms. ms ++ markers_to to ys) (first.markers to) ∙ then_silent.markers to;
-  reports = λ to. reports_to-append to xs ys ∙ ap (λ ms. ms ++ reports_to to ys) (first.reports to) ∙ then_silent.reports to;
-  room = All-append (λ x. HasRoom x.message) xs ys first.room then_silent.room;
-}
-
-pub one_silent : (x : Outgoing) → IsPlain x.message → IsSilent (x ∷ [])
-one_silent x plain = record {
-  markers = λ to. marks to (x.to == to) refl;
-  reports = λ to. tells to (x.to == to) refl;
-  room = All-cons (λ y. HasRoom y.message) x [] plain.room (All-nil (λ y. HasRoom y.message));
-}
+-- messages none of which has some part
+pub none_to : {X : Type 0} (part : Message → Option X) (out : List Outgoing) → All (λ x. part x.message ≡ None) out
+    → (to : ℕ) → filter_map part (messages_to to out) ≡ []
+none_to part [] none to = refl
+none_to part (x ∷ xs) none to =
+    by (x.to == to) refl (none_to part xs (All-tail (λ y. part y.message ≡ None) x xs none) to)
   where
-    marks : (to : ℕ) (b : Bool) → (x.to == to) ≡ b → markers_to to (x ∷ []) ≡ []
-    marks to true test = rw (test, plain.marker) refl
-    marks to false test = rw test refl
+    by : (b : Bool) → (x.to == to) ≡ b → filter_map part (messages_to to xs) ≡ []
+        → filter_map part (messages_to to (x ∷ xs)) ≡ []
+    by true test rest = rw (test, All-head (λ y. part y.message ≡ None) x xs none) rest
+    by false test rest = rw test rest
 
-    tells : (to : ℕ) (b : Bool) → (x.to == to) ≡ b → reports_to to (x ∷ []) ≡ []
-    tells to true test = rw (test, plain.report) refl
-    tells to false test = rw test refl
+pub silent_of : (out : List Outgoing) → All (λ x. IsPlain x.message) out → IsSilent out
+silent_of out plain =
+    let each = All-weaker (λ (x : Outgoing). IsPlain x.message) in
+    record {
+      markers = none_to marker_of out (each (λ x. marker_of x.message ≡ None) (λ x is. is.marker) out plain);
+      reports = none_to report_of out (each (λ x. report_of x.message ≡ None) (λ x is. is.report) out plain);
+      room = each (λ x. HasRoom x.message) (λ x is. is.room) out plain;
+    }
+
+pub nothing_silent : IsSilent []
+nothing_silent = silent_of [] (none_such IsPlain)
 
 pub each_silent : (m : Message) → IsPlain m → (agents : List ℕ) → IsSilent (to_each agents m)
-each_silent m plain [] = nothing_silent
-each_silent m plain (agent ∷ agents) =
-    silent_append (record { to = agent; message = m } ∷ []) (to_each agents m) (one_silent (record { to = agent; message = m }) plain) (each_silent m plain agents)
+each_silent m plain agents = silent_of (to_each agents m) (each_such IsPlain m plain agents)
 
 -- ---- a message to all others
 
@@ -126,8 +124,3 @@ each_gets m j (agent ∷ agents) = by (agent == j) refl (each_gets m j agents)
 pub others_get : (m : Message) (me agents j : ℕ) → 1 ≤ j → j ≤ agents → j ≢ me → messages_to j (to_each (others me agents) m) ≡ m ∷ []
 others_get m me agents j low high other =
     each_gets m j (others me agents) ∙ ap (map (λ agent. m)) (one_among_others me agents j low high other)
-
-pub each_has_room : (m : Message) → HasRoom m → (agents : List ℕ) → All (λ x. HasRoom x.message) (to_each agents m)
-each_has_room m room [] = All-nil (λ x. HasRoom x.message)
-each_has_room m room (agent ∷ agents) =
-    All-cons (λ x. HasRoom x.message) (record { to = agent; message = m }) (to_each agents m) room (each_has_room m room agents)

@@ -3,30 +3,28 @@ use Rattle.std.proofs.Common.{◌≡◌, ◌≢◌, ℕ, ◌+◌, ◌≤◌, ◌
 use Rattle.std.specs.Prelude.{All, ◌==◌, nat_lt, not, if◌then◌else◌}
 use Rattle.std.specs.List.{filter_map}
 use Rattle.std.proofs.lemmas.Bool.{and_parts, eq-eqb, ltb-false, ltb-true}
-use Rattle.std.proofs.lemmas.List.Elements.{All-append}
 use Rattle.mp_sets.specs.Numbers.{Numbers}
 use Rattle.mp_task.specs.AgentTask.{AgentTask}
 use Rattle.mp_messages.specs.declared.history.Event.TheVariants.{Start}
 use Rattle.mp_messages.specs.declared.message.Message.TheVariants.{Marker}
-use Rattle.mp_search.specs.Search.{may_expand}
 use Rattle.mp_snapshot.specs.Notes.{Notes}
 use Rattle.mp_snapshot.specs.Rules.{begun, is_complete, is_under_way, is_whole}
-use Rattle.mp_machine.specs.AgentRecord.{AgentRecord, given_verdict, is_going}
+use Rattle.mp_machine.specs.AgentRecord.{AgentRecord, is_going}
 use Rattle.mp_machine.specs.LocalStep.{may_start}
 use Rattle.mp_machine.specs.Outgoing.{Step, others, to_others}
 use Rattle.mp_machine.specs.Snapshots.{findings, judged, started, with_notes}
-use Rattle.mp_machine.specs.Verdicts.{is_deciding}
 use Rattle.mp_world.specs.Steps.{IsStepOf}
 use Rattle.mp_world.specs.World.{IsTeamWorld, World}
+use Rattle.mp_machine.proofs.StepLemmas.{start_parts}
 use Rattle.mp_world.proofs.Agents.{member_of}
+use Rattle.mp_world.proofs.LocalCases.{both_such, each_such}
 use Rattle.mp_team_snapshots.specs.Messages.{marker_of, markers, messages, report_of}
 use Rattle.mp_team_snapshots.specs.Team.{HasRoom, IsTeamOf, SendsFitting}
 use Rattle.mp_team_snapshots.proofs.Changes.{left, markers_from_it, markers_from_others, me_before, messages_before, note_after, note_before, note_other, reports_from_others}
-use Rattle.mp_team_snapshots.proofs.Due.{not_true}
 use Rattle.mp_team_snapshots.proofs.Effects.{not_false, same_step}
 use Rattle.mp_team_snapshots.proofs.Protocol.{IsOf, Sound}
 use Rattle.mp_team_snapshots.proofs.Quiet.{judged_quiet}
-use Rattle.mp_team_snapshots.proofs.Sendings.{each_has_room, markers_to, markers_to-append, others_get}
+use Rattle.mp_team_snapshots.proofs.Sendings.{markers_to, markers_to-append, others_get}
 use Rattle.mp_team_snapshots.proofs.Starting.{IsOver, started_sound}
 use Rattle.mp_team_snapshots.proofs.Worlds.{is_of_there, note_at, team_numbers, view}
 
@@ -55,19 +53,11 @@ start_effect r =
     record {
       search = quiet.search;
       room = λ small.
-          All-append (λ x. HasRoom x.message) first (judged after).out (each_has_room (Marker (r.snapshot.number + 1)) small (others r.task.me r.task.agents)) quiet.silent.room;
+          both_such HasRoom first (judged after).out (each_such HasRoom (Marker (r.snapshot.number + 1)) small (others r.task.me r.task.agents)) quiet.silent.room;
       snapshot = quiet.snapshot;
       markers = λ to.
           markers_to-append to first (judged after).out ∙ ap (λ ms. markers_to to first ++ ms) (quiet.silent.markers to) ∙ append-nil (markers_to to first);
     }
-
-idle_to_start : (r : AgentRecord) → may_start r ≡ true → is_under_way r.snapshot ≡ false
-idle_to_start r allowed =
-    let a = and_parts ((r.task.me == 1) && not (may_expand r.limit r.search) && not (is_under_way r.snapshot) && not (is_deciding (given_verdict r)))
-    (nat_lt (r.snapshot.number + 1) (2 ^ 60)) allowed in
-    let b = and_parts ((r.task.me == 1) && not (may_expand r.limit r.search) && not (is_under_way r.snapshot)) (not (is_deciding (given_verdict r))) a.0 in
-    let c = and_parts ((r.task.me == 1) && not (may_expand r.limit r.search)) (not (is_under_way r.snapshot)) b.0 in
-    not_true (is_under_way r.snapshot) c.1
 
 module _ (value : AgentTask → Numbers → Numbers → Option ℕ) (publics : ℕ) (tasks : List AgentTask) (team : IsTeamOf publics tasks) (w : World)
     (is : IsTeamWorld tasks w) (next : World) (step : IsStepOf value w Start next) (fits : SendsFitting step.step)
@@ -82,7 +72,7 @@ module _ (value : AgentTask → Numbers → Numbers → Option ℕ) (publics : �
   was = note_before value publics tasks team w is Start next step
 
   idle : is_under_way step.agent.snapshot ≡ false
-  idle = idle_to_start step.agent (and_parts (is_going step.agent.ending) (may_start step.agent) step.may).1
+  idle = (start_parts step.agent (and_parts (is_going step.agent.ending) (may_start step.agent) step.may).1).free
 
   over : IsOver (length tasks) team.agents (view publics w) before
   over = is_over_of (note_at w 1) (before.notes 1 is_1).me (ap is_under_way was ∙ idle)

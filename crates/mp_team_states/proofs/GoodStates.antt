@@ -1,5 +1,5 @@
 -- What a receiver reads, and which joint states it knows then, in the world of a team.
-use Rattle.std.proofs.Common.{◌≡◌, ℕ, ◌+◌, ◌-◌, ◌⊎◌, Bool, true, cond, List, get_or, Option, Some, All, refl, sym, ap, subst, ◌∙◌, arith, inl, inr}
+use Rattle.std.proofs.Common.{◌≡◌, ℕ, ◌+◌, ◌-◌, Bool, true, cond, List, get_or, Option, Some, All, refl, sym, ap, subst, ◌∙◌, arith}
 use Rattle.std.specs.Prelude.{Contains, IsSomeAnd, Ok, Err, not, slice_get, if◌then◌else◌}
 use Rattle.std.specs.FinSet as set
 use Rattle.std.specs.List.{enumerate_from}
@@ -12,11 +12,10 @@ use Rattle.mp_task.specs.Agree.{Agree}
 use Rattle.mp_task.specs.AgentTask.{AgentTask}
 use Rattle.mp_task.specs.Limits.{IsWithinLimits}
 use Rattle.mp_task.specs.Plan.{IsJointState, private_of, task_of}
-use Rattle.mp_messages.specs.declared.message.Message.{Message}
 use Rattle.mp_messages.specs.declared.message.Message.TheVariants as kinds
 use Rattle.mp_messages.specs.declared.message.State.{State}
 use Rattle.mp_messages.specs.Reading.{message_of}
-use Rattle.mp_messages.specs.Spelling.{IfState, spelling}
+use Rattle.mp_messages.specs.Spelling.{spelling}
 use Rattle.mp_store.specs.declared.entry.Entry.{Entry}
 use Rattle.mp_search.specs.AgentState.{AgentState, no_tag}
 use Rattle.mp_search.specs.Receipt.{IsStateFor, is_byte_right, is_token_given, state_of}
@@ -32,10 +31,8 @@ use Rattle.mp_world.proofs.Agents.{agree_numbered, member_of}
 use Rattle.mp_team_states.specs.Sent.{IsSentIn}
 use Rattle.mp_team_states.specs.Sound.{AreStatesSound, AreTold, IsSentState, IsSoundState, IsStateOf}
 use Rattle.mp_team_states.proofs.JointStates.{read_place, received_joint, same_from_joint, sent_joint}
-use Rattle.mp_team_states.proofs.Quiet.{IsOther}
 use Rattle.mp_team_states.proofs.Received.{byte_right, state_known, token_given}
-use Rattle.mp_team_states.proofs.StepsSound.{agent_sound, at_me, limits_of, other_stays, read_state, state_heard, task_at}
-use Rattle.mp_team_states.proofs.WorldsGrow.{state_or_other}
+use Rattle.mp_team_states.proofs.StepsSound.{agent_sound, at_me, limits_of, spelled_state, state_heard, task_at}
 
 module _ (tasks : List AgentTask) (agree : Agree tasks) (limits : All IsWithinLimits tasks) (w : World) (team : IsTeamWorld tasks w) where
   me_is : (agent : ℕ) (r : AgentRecord) → agent_at w agent ≡ Some r → r.task.me ≡ agent
@@ -108,20 +105,11 @@ module _ (tasks : List AgentTask) (agree : Agree tasks) (limits : All IsWithinLi
           → (bytes ≡ spelling (kinds.State m)) × IsSoundState w u m
       what_is_read bytes m here reads =
           let sent = sound.mail from to u r.task bytes at (task_at tasks agree limits w team to r there) here in
-          by sent.message sent.is sent.state (state_or_other sent.message)
-        where
-          by : (x : Message) → bytes ≡ spelling x → IfState (IsSoundState w u) x → ((y : State) × (x ≡ kinds.State y)) ⊎ IsOther x
-              → (bytes ≡ spelling (kinds.State m)) × IsSoundState w u m
-          by x is state (inl found) =
-              let y = found.0 in
-              let known : IsSoundState w u y = subst (λ (x : Message). IfState (IsSoundState w u) x) found.1 state in
-              let spelled : bytes ≡ spelling (kinds.State y) = is ∙ ap spelling found.1 in
-              let again = read_state w r.task (limits_of tasks agree limits w team to r there) y bytes spelled (heard y known).0 in
-              let same_message : kinds.State y ≡ kinds.State m = same_Some (kinds.State y) (kinds.State m) (sym again ∙ reads) in
-              let same : y ≡ m = cc in
-              (subst (λ (y : State). bytes ≡ spelling (kinds.State y)) same spelled, subst (IsSoundState w u) same known)
-          by x is state (inr other) =
-              absurd (other_stays r.task.agents r.task.publics x (kinds.State m) other (ap (message_of r.task.agents r.task.publics) (sym is) ∙ reads))
+          let read =
+          spelled_state r.task (limits_of tasks agree limits w team to r there) (IsSoundState w u)
+          (λ y state. (heard y state).0) bytes sent.message sent.is sent.state m reads
+          in
+          (sent.is ∙ ap spelling read.0, read.1)
 
       pub state_is_taken : (value : Numbers → Numbers → Option ℕ) (m : State) → IsSoundState w u m
           → (is_token_given r.task r.search.kept m ≡ true) × (is_byte_right r.task r.search.kept m ≡ true)

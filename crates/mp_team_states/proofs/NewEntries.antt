@@ -1,6 +1,6 @@
 -- Which entries come in an event: own actions led to them, or a state that another agent sent.
-use Rattle.std.proofs.Common.{◌≡◌, ℕ, ◌+◌, ◌<◌, ◌⊎◌, true, List, [], Option, Some, All, sym, ap, subst, ◌∙◌, arith, inl, inr}
-use Rattle.std.specs.Prelude.{Contains, Ok, slice_get}
+use Rattle.std.proofs.Common.{◌≡◌, ℕ, ◌+◌, ◌<◌, ◌⊎◌, true, List, [], Option, Some, All, sym, ap, ◌∙◌, arith, inl, inr}
+use Rattle.std.specs.Prelude.{Contains, slice_get}
 use Rattle.std.proofs.lemmas.List.Elements.{Contains-get_or}
 use Rattle.std.proofs.lemmas.Option.{slice_get_within}
 use Rattle.mp_sets.specs.Numbers.{Numbers}
@@ -11,7 +11,6 @@ use Rattle.mp_task.specs.Limits.{IsWithinLimits}
 use Rattle.mp_task.specs.Plan.{task_of}
 use Rattle.mp_messages.specs.declared.history.Event.{Event}
 use Rattle.mp_messages.specs.declared.history.Event.TheVariants.{Expand, Take, Start}
-use Rattle.mp_messages.specs.declared.message.Message.{Message}
 use Rattle.mp_messages.specs.declared.message.Message.TheVariants as kinds
 use Rattle.mp_messages.specs.declared.message.State.{State}
 use Rattle.mp_store.specs.declared.entry.Entry.{Entry}
@@ -23,22 +22,23 @@ use Rattle.mp_search.specs.Expansion.{expanded}
 use Rattle.mp_search.specs.Offering.{own_value}
 use Rattle.mp_search.specs.Receipt.{greater_value, received, state_of}
 use Rattle.mp_search.specs.Search.{SearchRecord}
+use Rattle.mp_messages.specs.Reading.{message_of}
+use Rattle.mp_machine.specs.declared.event.Local.TheVariants as locals
 use Rattle.mp_machine.specs.AgentRecord.{AgentRecord}
 use Rattle.mp_machine.specs.LocalStep.{with_search}
 use Rattle.mp_machine.specs.Outgoing.{Step, without_messages}
-use Rattle.mp_machine.specs.Snapshots.{started}
-use Rattle.mp_machine.specs.Taking.{took_message, took_state, with_state}
+use Rattle.mp_machine.specs.Taking.{with_state}
 use Rattle.mp_world.specs.World.{IsTeamWorld, World, under_way}
-use Rattle.mp_world.specs.Events.{taken}
+use Rattle.mp_world.specs.Events.{local_of, taken}
 use Rattle.mp_world.specs.Steps.{IsStepOf}
 use Rattle.mp_world.proofs.Agents.{agent_there, agree_numbered, sender_of}
 use Rattle.mp_team_states.specs.Sound.{AreStatesSound, IsSoundState}
 use Rattle.mp_team_states.proofs.Entries.{IsNew, IsOld, alike_itself, changes_entry}
 use Rattle.mp_team_states.proofs.Expanding.{IsReceived, Led, expanded_changes, expanded_counts, received_changes}
 use Rattle.mp_team_states.proofs.GoodStates.{what_is_read}
-use Rattle.mp_team_states.proofs.Quiet.{IsOther, IsQuiet, quiet_message, quiet_started}
+use Rattle.mp_team_states.proofs.Quiet.{IsQuiet}
 use Rattle.mp_team_states.proofs.StepsSound.{not_none, task_at}
-use Rattle.mp_team_states.proofs.WorldsGrow.{IsTaking, state_or_other, state_taken, taking}
+use Rattle.mp_team_states.proofs.WorldsGrow.{search_holds}
 
 -- an own action led to an entry from an earlier one
 pub record IsLedIn (value : Numbers → Numbers → Option ℕ) (r : AgentRecord) (after : SearchRecord) (n : ℕ) (e : Entry AgentState) : Type 0 where
@@ -158,44 +158,43 @@ module _ (value : Numbers → Numbers → Option ℕ) (tasks : List AgentTask) (
 
 module _ (tasks : List AgentTask) (agree : Agree tasks) (limits : All IsWithinLimits tasks) (w : World) (team : IsTeamWorld tasks w) (sound : AreStatesSound tasks w)
     (value : AgentTask → Numbers → Numbers → Option ℕ) (next : World) where
-  pub entry_comes : (event : Event) (is : IsStepOf value w event next) (n : ℕ) (e : Entry AgentState) → slice_get is.step.after.search.kept.entries n ≡ Some e
+  -- a state that is read is one that another agent sent
+  sender_sent : (event : Event) (is : IsStepOf value w event next) (from : ℕ) (m : State) → local_of event ≡ locals.Take from
+      → message_of is.agent.task.agents is.agent.task.publics (taken w event) ≡ Some (kinds.State m)
+      → (u : AgentTask) × (task_of tasks from ≡ Some u) × IsSoundState w u m
+  sender_sent (Expand agent) is from m e reads = absurd (let impossible : ⊥ = cc in impossible)
+  sender_sent Start is from m e reads = absurd (let impossible : ⊥ = cc in impossible)
+  sender_sent (Take by a) is from m e reads =
+      let sender = sender_of tasks (agree_numbered tasks agree) w team by a is.agent is.there is.may in
+      let other = agent_there w a sender.0 in
+      let at : task_of tasks a ≡ Some other.0.task = task_at tasks agree limits w team a other.0 other.1 in
+      let here : Contains (under_way w a by) (taken w (Take by a)) =
+      Contains-get_or (under_way w a by) 0 [] (not_none (under_way w a by) is.message)
+      in
+      let read =
+      what_is_read tasks agree limits w team sound a by other.0.task is.agent at is.there (taken w (Take by a)) m here reads
+      in
+      let same : from ≡ a = cc in
+      (other.0.task, ap (task_of tasks) same ∙ at, read.1)
+
+  pub entry_comes : (event : Event) (is : IsStepOf value w event next) (n : ℕ) (e : Entry AgentState)
+      → slice_get is.step.after.search.kept.entries n ≡ Some e
       → Comes (value is.agent.task) tasks w is.agent is.step n e
   unfolding with_state
-  entry_comes (Expand agent) is n e at =
+  entry_comes event is n e at =
       let r = is.agent in
-      let d = expanded r.task (value r.task) r.search in
-      let same : with_search r d ≡ is.step = let local : Ok (with_search r d) ≡ Ok is.step = is.local in cc in
-      subst (λ (s : Step). slice_get s.after.search.kept.entries n ≡ Some e → Comes (value r.task) tasks w r s n e) same (λ at. expanded_comes (value r.task) tasks w r n e at) at
-  entry_comes (Take by from) is n e at = kind (state_or_other t.message)
+      let v = value r.task in
+      search_holds v r (local_of event) (taken w event)
+      (λ (s : Step). slice_get s.after.search.kept.entries n ≡ Some e → Comes v tasks w r s n e) (record {
+        expands = λ here. expanded_comes v tasks w r n e;
+        receives = λ from m here reads at.
+            let sent = sender_sent event is from m here reads in
+            either from m (received_comes v tasks w r from sent.0 m sent.1 sent.2 n e at);
+        quiet = λ s quiet. old_only v tasks w r s quiet n e;
+      }) is.step is.local at
     where
-      r : AgentRecord
-      r = is.agent
-
-      bytes : List ℕ
-      bytes = taken w (Take by from)
-
-      t : IsTaking (value r.task) r from bytes is.step
-      t = taking (value r.task) r from bytes is.step is.local
-
-      kind : ((x : State) × (t.message ≡ kinds.State x)) ⊎ IsOther t.message → Comes (value r.task) tasks w r is.step n e
-      kind (inl found) =
-          let m = found.0 in
-          let sender = sender_of tasks (agree_numbered tasks agree) w team by from r is.there is.may in
-          let other = agent_there w from sender.0 in
-          let at_sender : task_of tasks from ≡ Some other.0.task = task_at tasks agree limits w team from other.0 other.1 in
-          let here : Contains (under_way w from by) bytes = Contains-get_or (under_way w from by) 0 [] (not_none (under_way w from by) is.message) in
-          let read = what_is_read tasks agree limits w team sound from by other.0.task r at_sender is.there bytes m here (t.reads ∙ ap Some found.1) in
-          let took : took_state (value r.task) r from m ≡ Ok is.step = subst (λ (x : Message). took_message (value r.task) r from x ≡ Ok is.step) found.1 t.took in
-          let same = state_taken (value r.task) r from m is.step took in
-          subst (λ (s : Step). slice_get s.after.search.kept.entries n ≡ Some e → Comes (value r.task) tasks w r s n e) same
-          (λ at. either (received_comes (value r.task) tasks w r from other.0.task m at_sender read.1 n e at)) at
-        where
-          either : IsOld r.search.kept n e ⊎ IsHeardIn (value r.task) tasks w r e → Comes (value r.task) tasks w r (without_messages (with_state (value r.task) r from found.0)) n e
-          either (inl old) = inl old
-          either (inr heard) = inr (inr heard)
-      kind (inr other) = old_only (value r.task) tasks w r is.step (quiet_message r is.step (value r.task) from t.message other t.took) n e at
-  entry_comes Start is n e at =
-      let r = is.agent in
-      let same : started r ≡ is.step = let local : Ok (started r) ≡ Ok is.step = is.local in cc in
-      subst (λ (s : Step). slice_get s.after.search.kept.entries n ≡ Some e → Comes (value r.task) tasks w r s n e) same
-      (λ at. old_only (value r.task) tasks w r (started r) (quiet_started r) n e at) at
+      either : (from : ℕ) (m : State) → IsOld is.agent.search.kept n e ⊎ IsHeardIn (value is.agent.task) tasks w is.agent e
+          → Comes (value is.agent.task) tasks w is.agent
+          (without_messages (with_state (value is.agent.task) is.agent from m)) n e
+      either from m (inl old) = inl old
+      either from m (inr heard) = inr (inr heard)

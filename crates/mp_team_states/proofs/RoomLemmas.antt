@@ -12,8 +12,6 @@ use Rattle.mp_task.specs.AgentTask.{AgentTask}
 use Rattle.mp_task.specs.Limits.{ActFits, IsWithinLimits}
 use Rattle.mp_task.specs.Plan.{task_of}
 use Rattle.mp_task.proofs.Agreeing.{Contains-slice_get}
-use Rattle.mp_messages.specs.declared.message.Message.{Message}
-use Rattle.mp_messages.specs.declared.message.Message.TheVariants as kinds
 use Rattle.mp_messages.specs.declared.history.Event.{Event}
 use Rattle.mp_messages.specs.declared.message.State.{State}
 use Rattle.mp_store.specs.declared.entry.Entry.{Entry}
@@ -21,12 +19,10 @@ use Rattle.mp_search.specs.AgentState.{AgentState}
 use Rattle.mp_search.specs.Expansion.{expanded}
 use Rattle.mp_search.specs.Search.{SearchRecord}
 use Rattle.mp_machine.specs.declared.event.Local.{Local}
-use Rattle.mp_machine.specs.declared.event.Local.TheVariants as locals
 use Rattle.mp_machine.specs.AgentRecord.{AgentRecord}
-use Rattle.mp_machine.specs.LocalStep.{local, with_search}
+use Rattle.mp_machine.specs.LocalStep.{local}
 use Rattle.mp_machine.specs.Outgoing.{Step}
-use Rattle.mp_machine.specs.Snapshots.{started}
-use Rattle.mp_machine.specs.Taking.{took_message, took_state, with_state}
+use Rattle.mp_machine.specs.Taking.{with_state}
 use Rattle.mp_world.specs.World.{IsTeamWorld, World, agent_at, with_agent}
 use Rattle.mp_world.specs.Events.{agent_of, local_of, taken}
 use Rattle.mp_world.specs.Steps.{IsStepOf}
@@ -38,48 +34,31 @@ use Rattle.mp_team_states.specs.Sound.{AreStatesSound, IsSentState, IsSoundState
 use Rattle.mp_team_states.proofs.Expanding.{expanded_counts}
 use Rattle.mp_team_states.proofs.GoodStates.{tells_of_entry}
 use Rattle.mp_team_states.proofs.NewEntries.{Comes, IsHeardIn, IsLedIn, entry_comes}
-use Rattle.mp_team_states.proofs.Quiet.{IsOther, IsQuiet, quiet_message, quiet_started}
 use Rattle.mp_team_states.proofs.Reached.{HasIt, entry_in, has_it}
 use Rattle.mp_team_states.proofs.StepsSound.{agent_of_task, task_at}
-use Rattle.mp_team_states.proofs.WorldsGrow.{state_or_other, state_taken, taking}
+use Rattle.mp_team_states.proofs.WorldsGrow.{search_holds}
 
 -- ---- how many entries are expanded
 
 abbrev count : AgentRecord → ℕ
 count r = r.search.expansions
 
-module _ (value : Numbers → Numbers → Option ℕ) (r : AgentRecord) (s : Step) where
-  quiet_counts : IsQuiet r.task r.limit r.search s → count r ≤ count s.after
-  quiet_counts quiet = let same = ap (λ (x : SearchRecord). x.expansions) quiet.search_is in omega arith
-
-  take_counts : (from : ℕ) (m : Message) → took_message value r from m ≡ Ok s → count r ≤ count s.after
-  unfolding with_state
-  take_counts from m is = by (state_or_other m)
-    where
-      by : ((x : State) × (m ≡ kinds.State x)) ⊎ IsOther m → count r ≤ count s.after
-      by (inl state) =
-          let x = state.0 in
-          let took : took_state value r from x ≡ Ok s = subst (λ (m : Message). took_message value r from m ≡ Ok s) state.1 is in
-          subst (λ (s : Step). count r ≤ count s.after) (state_taken value r from x s took) (omega arith)
-      by (inr other) = quiet_counts (quiet_message r s value from m other is)
-
-  -- no fewer than before
-  local_counts : (event : Local) (bytes : List ℕ) → local value r event bytes ≡ Ok s → count r ≤ count s.after
-  local_counts locals.Expand bytes is =
-      let d = expanded r.task value r.search in
-      let same : with_search r d ≡ s = cc in
-      subst (λ (s : Step). count r ≤ count s.after) same (by (expanded_counts r.task value r.search))
-    where
-      by : ((expanded r.task value r.search).1 ≡ r.search) ⊎ ((expanded r.task value r.search).1.expansions ≡ r.search.expansions + 1)
-          → count r ≤ (expanded r.task value r.search).1.expansions
-      by (inl same) = let e = ap (λ (x : SearchRecord). x.expansions) same in omega arith
-      by (inr one) = omega arith
-  local_counts (locals.Take from) bytes is =
-      let t = taking value r from bytes s is in
-      take_counts from t.message t.took
-  local_counts locals.Start bytes is =
-      let same : started r ≡ s = cc in
-      subst (λ (s : Step). count r ≤ count s.after) same (let quiet = quiet_started r in let e = ap (λ (x : SearchRecord). x.expansions) quiet.search_is in omega arith)
+-- no fewer than before
+local_counts : (value : Numbers → Numbers → Option ℕ) (r : AgentRecord) (s : Step) (event : Local) (bytes : List ℕ)
+    → local value r event bytes ≡ Ok s → count r ≤ count s.after
+unfolding with_state
+local_counts value r s event bytes is =
+    search_holds value r event bytes (λ (s : Step). count r ≤ count s.after) (record {
+      expands = λ at. by (expanded_counts r.task value r.search);
+      receives = λ from m at reads. omega arith;
+      quiet = λ s quiet. let same = ap (λ (x : SearchRecord). x.expansions) quiet.search_is in omega arith;
+    }) s is
+  where
+    by : ((expanded r.task value r.search).1 ≡ r.search)
+        ⊎ ((expanded r.task value r.search).1.expansions ≡ r.search.expansions + 1)
+        → count r ≤ (expanded r.task value r.search).1.expansions
+    by (inl same) = let e = ap (λ (x : SearchRecord). x.expansions) same in omega arith
+    by (inr one) = omega arith
 
 same_by_get : {X : Type 0} (xs ys : List X) → ((k : ℕ) → slice_get xs k ≡ slice_get ys k) → xs ≡ ys
 same_by_get [] [] same = refl

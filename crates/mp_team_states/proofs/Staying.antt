@@ -12,7 +12,6 @@ use Rattle.mp_task.specs.Plan.{JointState, task_of}
 use Rattle.mp_task.proofs.Agreeing.{Contains-slice_get}
 use Rattle.mp_messages.specs.declared.history.Event.{Event}
 use Rattle.mp_messages.specs.declared.history.Event.TheVariants.{Take}
-use Rattle.mp_messages.specs.declared.message.Message.{Message}
 use Rattle.mp_messages.specs.declared.message.Message.TheVariants as kinds
 use Rattle.mp_messages.specs.declared.message.State.{State}
 use Rattle.mp_messages.specs.Reading.{message_of}
@@ -24,7 +23,7 @@ use Rattle.mp_search.specs.Concern.{receivers}
 use Rattle.mp_search.specs.Receipt.{greater_value, received, state_of}
 use Rattle.mp_machine.specs.AgentRecord.{AgentRecord}
 use Rattle.mp_machine.specs.Outgoing.{Step, without_messages}
-use Rattle.mp_machine.specs.Taking.{took_message, with_state}
+use Rattle.mp_machine.specs.Taking.{took, with_state}
 use Rattle.mp_reach.specs.Explored.{HasEntry, HasMessage}
 use Rattle.mp_reach.specs.Found.{Entry as Seen, Message as Sent}
 use Rattle.mp_reach.proofs.Changing.{reached_at_more}
@@ -42,7 +41,7 @@ use Rattle.mp_team_states.specs.Sound.{AreStatesSound, IsSoundState, IsStateOf}
 use Rattle.mp_team_states.proofs.GoodStates.{receiver_knows, tells_of_entry, what_is_read}
 use Rattle.mp_team_states.proofs.StartSound.{some_item}
 use Rattle.mp_team_states.proofs.StepsSound.{agent_sound, limits_of, read_state, records_sound, state_heard, task_at}
-use Rattle.mp_team_states.proofs.WorldsGrow.{IsTaking, joint_same, joint_told_same, state_taken, step_grows, taking}
+use Rattle.mp_team_states.proofs.WorldsGrow.{joint_same, joint_told_same, state_taken, step_grows, took_read}
 use Rattle.mp_team_states.specs.TeamFound.{found_of, on_its_way, seen_entry, sent_to}
 use Rattle.mp_team_states.proofs.Expanded.{received_is_kept}
 use Rattle.mp_team_states.proofs.Found.{IsFoundMessage, entry_found, found_entry, found_message, message_found, sent_found}
@@ -147,19 +146,13 @@ module _ (tasks : List AgentTask) (agree : Agree tasks) (limits : All IsWithinLi
         one : step.agent ≡ r
         one = same_Some step.agent r (sym step.there ∙ there)
 
-        t : IsTaking (value step.agent.task) step.agent from (taken w (Take to from)) step.step
-        t = taking (value step.agent.task) step.agent from (taken w (Take to from)) step.step step.local
-
-        took : IsTaking (value r.task) r from bytes step.step
-        took = subst (λ (b : List ℕ). IsTaking (value r.task) r from b step.step) first (subst (λ (r : AgentRecord). IsTaking (value r.task) r from (taken w (Take to from)) step.step) one t)
-
-        message : took.message ≡ kinds.State m
-        message = same_Some took.message (kinds.State m) (sym took.reads ∙ reads)
+        did : took (value r.task) r from bytes ≡ Ok step.step
+        did = (λ j. took (value (sym one j).task) (sym one j) from (sym first j)) ∙ step.local
 
         after : without_messages (with_state (value r.task) r from m) ≡ step.step
         after =
             state_taken (value r.task) r from m step.step
-            (subst (λ (x : Message). took_message (value r.task) r from x ≡ Ok step.step) message took.took)
+            (took_read (value r.task) r from bytes step.step (kinds.State m) did reads)
 
         last : Record AgentState
         last = (received r.task (value r.task) from m r.search.kept).1
@@ -282,7 +275,7 @@ module _ (tasks : List AgentTask) (agree : Agree tasks) (limits : All IsWithinLi
           } in
           let from_at : task_of tasks a ≡ Some is.agent.task = task_at tasks agree limits w team a is.agent is.there in
           let fits = (state_heard tasks agree limits next later_team later_sound a is.agent.task u.0.task m from_at (task_in tasks agree limits next later_team receiver u.0 u.1) state).0 in
-          let reads = read_state next u.0.task (limits_of tasks agree limits next later_team receiver u.0 u.1) m (spelling (kinds.State m)) refl fits in
+          let reads = read_state u.0.task (limits_of tasks agree limits next later_team receiver u.0 u.1) m (spelling (kinds.State m)) refl fits in
           let sent_of_last : IsSoundState next last.task m = subst (λ (t : AgentTask). IsSoundState next t m) (sym task) state in
           let tells =
           tells_of_entry tasks agree limits next later_team later_sound a last m n e is.after sent_of_last.sent

@@ -1,6 +1,6 @@
 -- What an event does to what its agent keeps and sent, and to the messages under way.
 use Rattle.std.proofs.Common.{◌≡◌, ◌≢◌, ℕ, ◌+◌, ◌<◌, ◌^◌, ◌⊎◌, Bool, true, List, [], ◌∷◌, map, Option, Some, All, refl, sym, subst, ◌∙◌, inl, inr}
-use Rattle.std.specs.Prelude.{Contains, Ok, drop, slice_get, slice_index_or, ◌==◌, if◌then◌else◌}
+use Rattle.std.specs.Prelude.{Contains, drop, slice_get, slice_index_or, ◌==◌, if◌then◌else◌}
 use Rattle.std.specs.List.{filter, flat_map}
 use Rattle.std.proofs.lemmas.Bool.{and_parts, cases_eq, eq-eqb}
 use Rattle.std.proofs.lemmas.List.Elements.{All-contains, Contains-append_left, Contains-append_right}
@@ -14,7 +14,6 @@ use Rattle.mp_messages.specs.declared.history.Event.{Event}
 use Rattle.mp_messages.specs.declared.history.Event.TheVariants.{Expand, Take, Start}
 use Rattle.mp_messages.specs.declared.message.Message.{Message}
 use Rattle.mp_messages.specs.declared.message.Message.TheVariants as kinds
-use Rattle.mp_messages.specs.declared.message.State.{State}
 use Rattle.mp_messages.specs.Spelling.{spelling}
 use Rattle.mp_store.specs.declared.entry.Entry.{Entry}
 use Rattle.mp_store.proofs.RankLemmas.{member_kept}
@@ -24,13 +23,14 @@ use Rattle.mp_search.specs.Expansion.{expanded}
 use Rattle.mp_search.specs.Offering.{own_value}
 use Rattle.mp_search.specs.Receipt.{IsStateFor, received}
 use Rattle.mp_search.specs.Search.{SearchRecord, may_expand}
+use Rattle.mp_machine.specs.declared.event.Local.{Local}
+use Rattle.mp_machine.specs.declared.event.Local.TheVariants as locals
 use Rattle.mp_machine.specs.declared.outgoing.Out.{Out}
 use Rattle.mp_machine.specs.AgentRecord.{AgentRecord, is_going}
-use Rattle.mp_machine.specs.LocalStep.{outgoing_of, with_search}
-use Rattle.mp_machine.specs.Outgoing.{Step, in_bytes, without_messages}
-use Rattle.mp_machine.specs.Snapshots.{started}
-use Rattle.mp_machine.specs.Taking.{took_message, took_state, with_state}
-use Rattle.mp_world.specs.Events.{agent_of, taken, without_taken}
+use Rattle.mp_machine.specs.LocalStep.{may, outgoing_of, with_search}
+use Rattle.mp_machine.specs.Outgoing.{Step, in_bytes}
+use Rattle.mp_machine.specs.Taking.{with_state}
+use Rattle.mp_world.specs.Events.{agent_of, local_of, taken, without_taken}
 use Rattle.mp_world.specs.Steps.{IsStepOf, sent_between, sent_to}
 use Rattle.mp_world.specs.World.{IsAgent, IsTeamWorld, World, agent_at, under_way}
 use Rattle.mp_world.proofs.Agents.{agree_numbered, sender_of}
@@ -40,10 +40,10 @@ use Rattle.mp_team_states.specs.Room.{AreSmall, HasSmallValues}
 use Rattle.mp_team_states.specs.Sent.{IsSentIn}
 use Rattle.mp_team_states.specs.Sound.{AreStatesSound}
 use Rattle.mp_team_states.proofs.LocalStates.{GoesOut as GoesOutSound, IsSoundStep, expansion_sound}
-use Rattle.mp_team_states.proofs.Quiet.{IsOther, IsQuiet, quiet_message, quiet_started}
+use Rattle.mp_team_states.proofs.Quiet.{IsQuiet}
 use Rattle.mp_team_states.proofs.RoomLemmas.{small_value}
 use Rattle.mp_team_states.proofs.StepsSound.{agent_sound, limits_of}
-use Rattle.mp_team_states.proofs.WorldsGrow.{IsTaking, state_or_other, state_taken, taking}
+use Rattle.mp_team_states.proofs.WorldsGrow.{search_holds}
 use Rattle.mp_team_states.proofs.Expanded.{HasExpanded, gone_on, has_expanded, received_continues}
 use Rattle.mp_team_states.proofs.Continuing.{continues_same}
 use Rattle.mp_team_states.proofs.SoundWorlds.{entry_room, task_in}
@@ -100,41 +100,27 @@ module _ (tasks : List AgentTask) (agree : Agree tasks) (limits : All IsWithinLi
             entry_room tasks agree limits w team sound small agent n r e there at act.cost h price
             (small_value (value r.task s.publics s.mine) h (values r.task s.publics s.mine (task_in tasks agree limits w team agent r there)) is)
 
-    -- a message
-    take_stepped : (from : ℕ) (m : Message) (s : Step) → took_message (value r.task) r from m ≡ Ok s → HasStepped (value r.task) r s
-    unfolding with_state
-    take_stepped from m s took = by (state_or_other m)
-      where
-        state_stepped : (x : State) → HasStepped (value r.task) r (without_messages (with_state (value r.task) r from x))
-        state_stepped x = record {
-          task = refl;
-          out = [];
-          done = gone_on r.task (value r.task) r.search.kept (received r.task (value r.task) from x r.search.kept).1 [] (received_continues r.task (value r.task) from x r.search.kept);
-          goes = λ y here. absurd (no_member y here);
-        }
-
-        by : ((x : State) × (m ≡ kinds.State x)) ⊎ IsOther m → HasStepped (value r.task) r s
-        by (inl found) =
-            let took_x : took_state (value r.task) r from found.0 ≡ Ok s = subst (λ (m : Message). took_message (value r.task) r from m ≡ Ok s) found.1 took in
-            subst (HasStepped (value r.task) r) (state_taken (value r.task) r from found.0 s took_x) (state_stepped found.0)
-        by (inr other) = quiet_stepped (value r.task) r s (quiet_message r s (value r.task) from m other took)
-
   module _ (value : AgentTask → Numbers → Numbers → Option ℕ) (next : World) where
-    pub event_stepped : AreSmall w → HasSmallValues value tasks → (event : Event) (is : IsStepOf value w event next) → HasStepped (value is.agent.task) is.agent is.step
-    event_stepped small values (Expand agent) is =
+    pub event_stepped : AreSmall w → HasSmallValues value tasks → (event : Event) (is : IsStepOf value w event next)
+        → HasStepped (value is.agent.task) is.agent is.step
+    unfolding with_state
+    event_stepped small values event is =
         let r = is.agent in
-        let d = expanded r.task (value r.task) r.search in
-        let same : with_search r d ≡ is.step = let done : Ok (with_search r d) ≡ Ok is.step = is.local in cc in
-        let may = and_parts (is_going r.ending) (may_expand r.limit r.search) is.may in
-        subst (HasStepped (value r.task) r) same (expand_stepped small value values agent r is.there may.1)
-    event_stepped small values (Take by from) is =
-        let r = is.agent in
-        let t : IsTaking (value r.task) r from (taken w (Take by from)) is.step = taking (value r.task) r from (taken w (Take by from)) is.step is.local in
-        take_stepped small value values by r is.there from t.message is.step t.took
-    event_stepped small values Start is =
-        let r = is.agent in
-        let same : started r ≡ is.step = let done : Ok (started r) ≡ Ok is.step = is.local in cc in
-        subst (HasStepped (value r.task) r) same (quiet_stepped (value r.task) r (started r) (quiet_started r))
+        search_holds (value r.task) r (local_of event) (taken w event) (HasStepped (value r.task) r) (record {
+          expands = λ at.
+              let may : may r locals.Expand ≡ true = subst (λ (e : Local). may r e ≡ true) at is.may in
+              expand_stepped small value values (agent_of event) r is.there
+              (and_parts (is_going r.ending) (may_expand r.limit r.search) may).1;
+          receives = λ from m at reads. record {
+            task = refl;
+            out = [];
+            done =
+                gone_on r.task (value r.task) r.search.kept (received r.task (value r.task) from m r.search.kept).1 []
+                (received_continues r.task (value r.task) from m r.search.kept);
+            goes = λ y here. absurd (no_member y here);
+          };
+          quiet = quiet_stepped (value r.task) r;
+        }) is.step is.local
 
     -- ---- messages under way
 

@@ -19,19 +19,16 @@ use Rattle.mp_messages.specs.declared.message.State.{State}
 use Rattle.mp_messages.specs.Reading.{◌>>=◌, as_kind, ending_at, fields_at, findings_at, message_at, message_of, number_at, trace_at}
 use Rattle.mp_messages.specs.Spelling.{Fits, IfState, ending, findings, number, spelling}
 use Rattle.mp_messages.proofs.Messages.{all_again}
-use Rattle.mp_search.specs.Expansion.{expanded}
 use Rattle.mp_search.specs.Receipt.{IsStateFor}
 use Rattle.mp_search.specs.Search.{may_expand}
 use Rattle.mp_machine.specs.declared.event.Local.{Local}
 use Rattle.mp_machine.specs.declared.event.Local.TheVariants as locals
 use Rattle.mp_machine.specs.declared.outgoing.Out.{Out}
 use Rattle.mp_machine.specs.AgentRecord.{AgentRecord, is_going}
-use Rattle.mp_machine.specs.LocalStep.{local, may, with_search}
+use Rattle.mp_machine.specs.LocalStep.{local, may}
 use Rattle.mp_machine.specs.Outgoing.{Outgoing, Step, in_bytes}
-use Rattle.mp_machine.specs.Snapshots.{started}
-use Rattle.mp_machine.specs.Taking.{took_message, took_state}
 use Rattle.mp_world.specs.World.{IsAgent, IsTeamWorld, World, agent_at, under_way}
-use Rattle.mp_world.specs.Events.{agent_of, taken, without_taken}
+use Rattle.mp_world.specs.Events.{agent_of, local_of, taken, without_taken}
 use Rattle.mp_world.specs.Steps.{IsStepOf, sent_between, sent_to}
 use Rattle.mp_world.proofs.Agents.{agent_there, agree_numbered, member_of, sender_of}
 use Rattle.mp_world.proofs.Mail.{agent_of_team, under_way-other, under_way-same}
@@ -40,9 +37,9 @@ use Rattle.mp_team_states.specs.Further.{HaveGrown, HaveSoundRecords}
 use Rattle.mp_team_states.specs.Sent.{IsSentIn}
 use Rattle.mp_team_states.specs.Sound.{AreStatesSound, AreTold, IsSoundAgent, IsSoundMessage, IsSoundState, IsStateOf}
 use Rattle.mp_team_states.proofs.LocalStates.{GoesOut, IsSoundStep, expansion_sound, quiet_sound, receipt_sound}
-use Rattle.mp_team_states.proofs.Quiet.{IsOther, quiet_message, quiet_started}
+use Rattle.mp_team_states.proofs.Quiet.{IsOther}
 use Rattle.mp_team_states.proofs.Received.{sent_told}
-use Rattle.mp_team_states.proofs.WorldsGrow.{sent_state_stays, state_or_other, state_stays, state_taken, step_grows, taking}
+use Rattle.mp_team_states.proofs.WorldsGrow.{search_holds, sent_state_stays, state_or_other, state_stays, step_grows}
 
 -- ---- what is read of bytes that spell no state
 
@@ -72,41 +69,46 @@ pub record IsKnown (w : World) (t : AgentTask) (bytes : List ℕ) : Type 0 where
   pub state : IfState (λ m. IsStateFor t m × AreTold w m.tags) message
 
 -- what is read of them
-pub read_state : (w : World) (t : AgentTask) (limits : IsWithinLimits t) (m : State) (bytes : List ℕ) → bytes ≡ spelling (kinds.State m) → IsStateFor t m
+pub read_state : (t : AgentTask) (limits : IsWithinLimits t) (m : State) (bytes : List ℕ) → bytes ≡ spelling (kinds.State m) → IsStateFor t m
     → message_of t.agents t.publics bytes ≡ Some (kinds.State m)
-read_state w t limits m bytes is fits =
+read_state t limits m bytes is fits =
     all_again t.agents t.publics (kinds.State m) bytes (let size = limits.publics in omega arith) (record { fits = fits; is = is })
+
+-- a state that is read is the message that was spelled
+pub spelled_state : (t : AgentTask) → IsWithinLimits t → (Fitting : State → Type 0) → ((x : State) → Fitting x → IsStateFor t x)
+    → (bytes : List ℕ) (sent : Message) → bytes ≡ spelling sent → IfState Fitting sent
+    → (m : State) → message_of t.agents t.publics bytes ≡ Some (kinds.State m) → (sent ≡ kinds.State m) × Fitting m
+spelled_state t limits Fitting fits bytes sent is state m reads = by (state_or_other sent)
+  where
+    by : ((x : State) × (sent ≡ kinds.State x)) ⊎ IsOther sent → (sent ≡ kinds.State m) × Fitting m
+    by (inl found) =
+        let x = found.0 in
+        let known : Fitting x = subst (IfState Fitting) found.1 state in
+        let again = read_state t limits x bytes (is ∙ ap spelling found.1) (fits x known) in
+        let same : kinds.State x ≡ kinds.State m = same_Some (kinds.State x) (kinds.State m) (sym again ∙ reads) in
+        (found.1 ∙ same, subst (IfState Fitting) same known)
+    by (inr other) =
+        absurd (other_stays t.agents t.publics sent (kinds.State m) other (ap (message_of t.agents t.publics) (sym is) ∙ reads))
 
 module _ (w : World) (r : AgentRecord) (limits : IsWithinLimits r.task) (sound : IsSoundAgent w r.task r) (there : agent_at w r.task.me ≡ Some r)
     (value : Numbers → Numbers → Option ℕ) (s : Step) where
-  take_sound : (from : ℕ) (bytes : List ℕ) → IsKnown w r.task bytes → local value r (locals.Take from) bytes ≡ Ok s → IsSoundStep w r.task s
-  take_sound from bytes known is =
-      let t = taking value r from bytes s is in
-      by known.message known.is known.state (state_or_other known.message) t.message t.reads t.took
-    where
-      by : (m : Message) → bytes ≡ spelling m → IfState (λ m. IsStateFor r.task m × AreTold w m.tags) m → ((x : State) × (m ≡ kinds.State x)) ⊎ IsOther m
-          → (read : Message) → message_of r.task.agents r.task.publics bytes ≡ Some read → took_message value r from read ≡ Ok s → IsSoundStep w r.task s
-      by m spelled state (inl found) read reads took =
-          let x = found.0 in
-          let parts : IsStateFor r.task x × AreTold w x.tags = subst (λ (m : Message). IfState (λ m. IsStateFor r.task m × AreTold w m.tags) m) found.1 state in
-          let again = read_state w r.task limits x bytes (spelled ∙ ap spelling found.1) parts.0 in
-          let same : read ≡ kinds.State x = same_Some read (kinds.State x) (sym reads ∙ again) in
-          let took_x : took_state value r from x ≡ Ok s = subst (λ (m : Message). took_message value r from m ≡ Ok s) same took in
-          subst (IsSoundStep w r.task) (state_taken value r from x s took_x) (receipt_sound w r limits sound value there from x parts.0 parts.1)
-      by m spelled state (inr other) read reads took =
-          let still = other_stays r.task.agents r.task.publics m read other (ap (message_of r.task.agents r.task.publics) (sym spelled) ∙ reads) in
-          quiet_sound w r.task r s sound (quiet_message r s value from read still took)
-
-  pub local_sound : (event : Local) (bytes : List ℕ) → may r event ≡ true → ((from : ℕ) → event ≡ locals.Take from → IsKnown w r.task bytes)
+  pub local_sound : (event : Local) (bytes : List ℕ) → may r event ≡ true
+      → ((from : ℕ) → event ≡ locals.Take from → IsKnown w r.task bytes)
       → local value r event bytes ≡ Ok s → IsSoundStep w r.task s
-  local_sound locals.Expand bytes allowed known is =
-      let same : with_search r (expanded r.task value r.search) ≡ s = cc in
-      let parts = and_parts (is_going r.ending) (may_expand r.limit r.search) allowed in
-      subst (IsSoundStep w r.task) same (expansion_sound w r limits sound value parts.1)
-  local_sound (locals.Take from) bytes allowed known is = take_sound from bytes (known from refl) is
-  local_sound locals.Start bytes allowed known is =
-      let same : started r ≡ s = cc in
-      subst (IsSoundStep w r.task) same (quiet_sound w r.task r (started r) sound (quiet_started r))
+  local_sound event bytes allowed known is =
+      search_holds value r event bytes (IsSoundStep w r.task) (record {
+        expands = λ at.
+            let may : may r locals.Expand ≡ true = subst (λ (e : Local). may r e ≡ true) at allowed in
+            expansion_sound w r limits sound value (and_parts (is_going r.ending) (may_expand r.limit r.search) may).1;
+        receives = λ from m at reads.
+            let k = known from at in
+            let parts =
+            (spelled_state r.task limits (λ (x : State). IsStateFor r.task x × AreTold w x.tags) (λ x both. both.0)
+            bytes k.message k.is k.state m reads).1
+            in
+            receipt_sound w r limits sound value there from m parts.0 parts.1;
+        quiet = λ s quiet. quiet_sound w r.task r s sound quiet;
+      }) s is
 
 -- ---- what stays
 
@@ -217,20 +219,21 @@ module _ (tasks : List AgentTask) (agree : Agree tasks) (limits : All IsWithinLi
         }
 
     module _ (value : AgentTask → Numbers → Numbers → Option ℕ) (next : World) where
-      step_sound : (event : Event) (is : IsStepOf value w event next) → IsSoundStep w is.agent.task is.step
-      step_sound (Expand agent) is =
-          local_sound w is.agent (limits_of agent is.agent is.there) (agent_sound agent is.agent is.there) (at_me agent is.agent is.there)
-          (value is.agent.task) is.step locals.Expand [] is.may (λ from e. absurd (let impossible : ⊥ = cc in impossible)) is.local
-      step_sound (Take by from) is =
-          let sender = sender_of tasks (agree_numbered tasks agree) w team by from is.agent is.there is.may in
-          let found = agent_there w from sender.0 in
-          let here : Contains (under_way w from by) (taken w (Take by from)) = Contains-get_or (under_way w from by) 0 [] (not_none (under_way w from by) is.message) in
-          local_sound w is.agent (limits_of by is.agent is.there) (agent_sound by is.agent is.there) (at_me by is.agent is.there)
-          (value is.agent.task) is.step (locals.Take from) (taken w (Take by from)) is.may
-          (λ other e. bytes_known from by found.0.task is.agent (taken w (Take by from)) (task_at from found.0 found.1) is.there here) is.local
-      step_sound Start is =
-          local_sound w is.agent (limits_of 1 is.agent is.there) (agent_sound 1 is.agent is.there) (at_me 1 is.agent is.there)
-          (value is.agent.task) is.step locals.Start [] is.may (λ from e. absurd (let impossible : ⊥ = cc in impossible)) is.local
+      pub step_sound : (event : Event) (is : IsStepOf value w event next) → IsSoundStep w is.agent.task is.step
+      step_sound event is =
+          local_sound w is.agent (limits_of (agent_of event) is.agent is.there)
+          (agent_sound (agent_of event) is.agent is.there) (at_me (agent_of event) is.agent is.there)
+          (value is.agent.task) is.step (local_of event) (taken w event) is.may (known event is) is.local
+        where
+          known : (event : Event) (is : IsStepOf value w event next) (from : ℕ) → local_of event ≡ locals.Take from
+              → IsKnown w is.agent.task (taken w event)
+          known (Expand agent) is from e = absurd (let impossible : ⊥ = cc in impossible)
+          known Start is from e = absurd (let impossible : ⊥ = cc in impossible)
+          known (Take by a) is from e =
+              let sender = sender_of tasks (agree_numbered tasks agree) w team by a is.agent is.there is.may in
+              let found = agent_there w a sender.0 in
+              bytes_known a by found.0.task is.agent (taken w (Take by a)) (task_at a found.0 found.1) is.there
+              (Contains-get_or (under_way w a by) 0 [] (not_none (under_way w a by) is.message))
 
       -- no more messages are under way when one is taken
       was_there : (event : Event) → IsStepOf value w event next → (from to : ℕ) → IsAgent w from → IsAgent w to → (bytes : List ℕ)

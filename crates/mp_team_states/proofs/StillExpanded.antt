@@ -6,54 +6,30 @@ use Rattle.std.proofs.lemmas.Option.{same_Some}
 use Rattle.mp_sets.specs.Numbers.{Numbers}
 use Rattle.mp_task.specs.AgentTask.{AgentTask}
 use Rattle.mp_messages.specs.declared.history.Event.{Event}
-use Rattle.mp_messages.specs.declared.message.Message.{Message}
-use Rattle.mp_messages.specs.declared.message.Message.TheVariants as kinds
-use Rattle.mp_messages.specs.declared.message.State.{State}
-use Rattle.mp_search.specs.Expansion.{expanded}
 use Rattle.mp_search.specs.Search.{SearchRecord}
 use Rattle.mp_machine.specs.declared.event.Local.{Local}
-use Rattle.mp_machine.specs.declared.event.Local.TheVariants as locals
 use Rattle.mp_machine.specs.AgentRecord.{AgentRecord}
-use Rattle.mp_machine.specs.LocalStep.{local, with_search}
+use Rattle.mp_machine.specs.LocalStep.{local}
 use Rattle.mp_machine.specs.Outgoing.{Step}
-use Rattle.mp_machine.specs.Snapshots.{started}
-use Rattle.mp_machine.specs.Taking.{took_message, took_state, with_state}
+use Rattle.mp_machine.specs.Taking.{with_state}
 use Rattle.mp_world.specs.Events.{agent_of, local_of, taken}
 use Rattle.mp_world.specs.Steps.{IsStepOf}
 use Rattle.mp_world.specs.World.{World, agent_at}
-use Rattle.mp_team_states.proofs.Quiet.{IsOther, IsQuiet, quiet_message, quiet_started}
 use Rattle.mp_team_states.proofs.Reached.{HasIt, entry_in, has_it}
-use Rattle.mp_team_states.proofs.WorldsGrow.{state_or_other, state_taken, taking}
+use Rattle.mp_team_states.proofs.WorldsGrow.{search_holds}
 use Rattle.mp_team_states.specs.Expansions.{IsExpandedAt}
 use Rattle.mp_team_states.proofs.Continuing.{WasExpanded}
 use Rattle.mp_team_states.proofs.Expanded.{received_continues, still_expanded}
 
-module _ (value : Numbers → Numbers → Option ℕ) (r : AgentRecord) (s : Step) (m : ℕ) (was : WasExpanded r.search.kept m) where
-  quiet_still : IsQuiet r.task r.limit r.search s → WasExpanded s.after.search.kept m
-  quiet_still quiet = subst (λ (x : SearchRecord). WasExpanded x.kept m) (sym quiet.search_is) was
-
-  message_still : (from : ℕ) (x : Message) → took_message value r from x ≡ Ok s → WasExpanded s.after.search.kept m
-  unfolding with_state
-  message_still from x took = by (state_or_other x)
-    where
-      by : ((y : State) × (x ≡ kinds.State y)) ⊎ IsOther x → WasExpanded s.after.search.kept m
-      by (inl found) =
-          let took_y : took_state value r from found.0 ≡ Ok s = subst (λ (x : Message). took_message value r from x ≡ Ok s) found.1 took in
-          subst (λ (s : Step). WasExpanded s.after.search.kept m) (state_taken value r from found.0 s took_y)
-          ((received_continues r.task value from found.0 r.search.kept).still m was)
-      by (inr other) = quiet_still (quiet_message r s value from x other took)
-
-  local_still : (event : Local) (bytes : List ℕ) → local value r event bytes ≡ Ok s → WasExpanded s.after.search.kept m
-  local_still locals.Expand bytes is =
-      let same : with_search r (expanded r.task value r.search) ≡ s = cc in
-      subst (λ (s : Step). WasExpanded s.after.search.kept m) same (still_expanded r.task value r.search m was)
-  local_still (locals.Take from) bytes is =
-      let t = taking value r from bytes s is in
-      message_still from t.message t.took
-  local_still locals.Start bytes is =
-      let same : started r ≡ s = cc in
-      subst (λ (s : Step). WasExpanded s.after.search.kept m) same
-      (subst (λ (x : SearchRecord). WasExpanded x.kept m) (sym (quiet_started r).search_is) was)
+local_still : (value : Numbers → Numbers → Option ℕ) (r : AgentRecord) (s : Step) (m : ℕ) → WasExpanded r.search.kept m
+    → (event : Local) (bytes : List ℕ) → local value r event bytes ≡ Ok s → WasExpanded s.after.search.kept m
+unfolding with_state
+local_still value r s m was event bytes is =
+    search_holds value r event bytes (λ (s : Step). WasExpanded s.after.search.kept m) (record {
+      expands = λ at. still_expanded r.task value r.search m was;
+      receives = λ from x at reads. (received_continues r.task value from x r.search.kept).still m was;
+      quiet = λ s quiet. subst (λ (x : SearchRecord). WasExpanded x.kept m) (sym quiet.search_is) was;
+    }) s is
 
 pub stays_expanded : (value : AgentTask → Numbers → Numbers → Option ℕ) (w next : World) (event : Event) → IsStepOf value w event next
     → (agent m : ℕ) → IsExpandedAt w agent m → IsExpandedAt next agent m

@@ -29,6 +29,7 @@ use Rattle.mp_machine.specs.Outgoing.{Step, without_messages}
 use Rattle.mp_machine.specs.Snapshots.{started}
 use Rattle.mp_machine.specs.Taking.{took, took_message, took_state, unless_bad, with_state}
 use Rattle.mp_world.specs.World.{World, agent_at}
+use Rattle.mp_world.proofs.LocalCases.{event_holds, good_step}
 use Rattle.mp_world.specs.Events.{agent_of, local_of, taken}
 use Rattle.mp_world.specs.Joint.{joint, joint_told, private_facts, sets_of, told_by}
 use Rattle.mp_world.specs.Steps.{IsStepOf}
@@ -39,7 +40,7 @@ use Rattle.mp_team_states.specs.Sound.{AreTold, IsSentState, IsStateOf, IsTold, 
 use Rattle.mp_team_states.proofs.Changes.{changes_grow}
 use Rattle.mp_team_states.proofs.Expanding.{IsReceived, Led, expanded_changes, received_changes}
 use Rattle.mp_team_states.proofs.Growth.{grown_not, sent_stays, tokens_grow}
-use Rattle.mp_team_states.proofs.Quiet.{IsOther, IsQuiet, not_bad, quiet_message, quiet_started}
+use Rattle.mp_team_states.proofs.Quiet.{IsOther, IsQuiet, quiet_message, quiet_started}
 
 -- ---- the step of one agent, taken apart
 
@@ -58,6 +59,13 @@ taking value r from bytes s is = by (message_of r.task.agents r.task.publics byt
     by None reads is = absurd (let impossible : ⊥ = cc in impossible)
     by (Some m) reads is = record { message = m; reads = reads; took = is }
 
+-- where it is known which message is read
+pub took_read : (value : Numbers → Numbers → Option ℕ) (r : AgentRecord) (from : ℕ) (bytes : List ℕ) (s : Step) (m : Message)
+    → took value r from bytes ≡ Ok s → message_of r.task.agents r.task.publics bytes ≡ Some m → took_message value r from m ≡ Ok s
+unfolding took
+took_read value r from bytes s m is reads =
+    ap (λ (o : Option Message). option_map_or (took_message value r from) o (Err NotASpelling)) (sym reads) ∙ is
+
 -- a state that was taken
 pub state_taken : (value : Numbers → Numbers → Option ℕ) (r : AgentRecord) (from : ℕ) (m : State) (s : Step) → took_state value r from m ≡ Ok s
     → without_messages (with_state value r from m) ≡ s
@@ -66,7 +74,7 @@ state_taken value r from m s is = by (is_token_given r.task r.search.kept m) is
     by : (given : Bool)
         → cond (not given) (Err UnknownToken) (unless_bad (not (is_byte_right r.task r.search.kept m)) WrongByte (without_messages (with_state value r from m))) ≡ Ok s
         → without_messages (with_state value r from m) ≡ s
-    by true is = not_bad (not (is_byte_right r.task r.search.kept m)) WrongByte s (without_messages (with_state value r from m)) is
+    by true is = (good_step (not (is_byte_right r.task r.search.kept m)) WrongByte (without_messages (with_state value r from m)) s is).1
     by false is = absurd (let impossible : ⊥ = cc in impossible)
 
 -- a message is a state or another one
@@ -79,43 +87,65 @@ state_or_other (kinds.Trace sent back) = inr tt
 state_or_other (kinds.Length n) = inr tt
 state_or_other (kinds.Done e) = inr tt
 
-quiet_further : (r : AgentRecord) (s : Step) → IsQuiet r.task r.limit r.search s → IsFurther r s.after
-quiet_further r s quiet = record {
-  task = quiet.task;
-  kept = subst (λ (x : SearchRecord). HasGrown r.search.kept x.kept) (sym quiet.search_is) (grown_not r.search.kept);
-}
+-- What an agent does, as far as its search goes: it expands an entry, a state comes, or the search stays as it is.
+pub record SearchCases
+    (value : Numbers → Numbers → Option ℕ)
+    (r : AgentRecord)
+    (event : Local)
+    (bytes : List ℕ)
+    (Q : Step → Type 0)
+    : Type 0 where
+  pub expands : event ≡ locals.Expand → Q (with_search r (expanded r.task value r.search))
+  pub receives : (from : ℕ) (m : State) → event ≡ locals.Take from
+      → message_of r.task.agents r.task.publics bytes ≡ Some (kinds.State m)
+      → Q (without_messages (with_state value r from m))
+  pub quiet : (s : Step) → IsQuiet r.task r.limit r.search s → Q s
 
-module _ (value : Numbers → Numbers → Option ℕ) (r : AgentRecord) (s : Step) where
-  message_further : (from : ℕ) (m : Message) → took_message value r from m ≡ Ok s → IsFurther r s.after
-  unfolding with_state
-  message_further from m is = by (state_or_other m)
+module _ (value : Numbers → Numbers → Option ℕ) (r : AgentRecord) (event : Local) (bytes : List ℕ) (Q : Step → Type 0)
+    (cases : SearchCases value r event bytes Q) where
+  abbrev Reads : Message → Type 0
+  Reads m = message_of r.task.agents r.task.publics bytes ≡ Some m
+
+  message_searches : (from : ℕ) (m : Message) (s : Step) → event ≡ locals.Take from → Reads m
+      → took_message value r from m ≡ Ok s → Q s
+  message_searches from m s at reads took = by (state_or_other m)
     where
-      by : ((x : State) × (m ≡ kinds.State x)) ⊎ IsOther m → IsFurther r s.after
-      by (inl state) =
-          let x = state.0 in
-          let took_x : took_state value r from x ≡ Ok s = subst (λ (m : Message). took_message value r from m ≡ Ok s) state.1 is in
-          subst (λ (s : Step). IsFurther r s.after) (state_taken value r from x s took_x)
-          (record {
-            task = refl;
-            kept = changes_grow (IsReceived r.task value from x r.search.kept) r.task r.search.kept (received r.task value from x r.search.kept).1 [] (received_changes r.task value from x r.search.kept);
-          })
-      by (inr other) = quiet_further r s (quiet_message r s value from m other is)
+      by : ((x : State) × (m ≡ kinds.State x)) ⊎ IsOther m → Q s
+      by (inl found) =
+          subst (λ (m : Message). Reads m → took_message value r from m ≡ Ok s → Q s) (sym found.1)
+          (λ reads took. subst Q (state_taken value r from found.0 s took) (cases.receives from found.0 at reads)) reads took
+      by (inr other) = cases.quiet s (quiet_message r s value from m other took)
 
-  pub local_further : (event : Local) (bytes : List ℕ) → local value r event bytes ≡ Ok s → IsFurther r s.after
-  local_further locals.Expand bytes is =
-      let d = expanded r.task value r.search in
-      let same : with_search r d ≡ s = cc in
-      subst (λ (s : Step). IsFurther r s.after) same
-      (record {
+  pub search_holds : (s : Step) → local value r event bytes ≡ Ok s → Q s
+  search_holds s is =
+      event_holds value r event bytes Q (record {
+        expands = cases.expands;
+        takes = message_searches;
+        starts = λ at. cases.quiet (started r) (quiet_started r);
+      }) s is
+
+pub local_further : (value : Numbers → Numbers → Option ℕ) (r : AgentRecord) (s : Step) (event : Local) (bytes : List ℕ)
+    → local value r event bytes ≡ Ok s → IsFurther r s.after
+unfolding with_state
+local_further value r s event bytes is =
+    search_holds value r event bytes (λ (s : Step). IsFurther r s.after) (record {
+      expands = λ at.
+          let d = expanded r.task value r.search in
+          record {
+            task = refl;
+            kept = changes_grow (Led r.task value r.search.kept) r.task r.search.kept d.1.kept d.0
+                (expanded_changes r.task value r.search);
+          };
+      receives = λ from m at reads. record {
         task = refl;
-        kept = changes_grow (Led r.task value r.search.kept) r.task r.search.kept d.1.kept d.0 (expanded_changes r.task value r.search);
-      })
-  local_further (locals.Take from) bytes is =
-      let t = taking value r from bytes s is in
-      message_further from t.message t.took
-  local_further locals.Start bytes is =
-      let same : started r ≡ s = cc in
-      subst (λ (s : Step). IsFurther r s.after) same (quiet_further r (started r) (quiet_started r))
+        kept = changes_grow (IsReceived r.task value from m r.search.kept) r.task r.search.kept
+            (received r.task value from m r.search.kept).1 [] (received_changes r.task value from m r.search.kept);
+      };
+      quiet = λ s quiet. record {
+        task = quiet.task;
+        kept = subst (λ (x : SearchRecord). HasGrown r.search.kept x.kept) (sym quiet.search_is) (grown_not r.search.kept);
+      };
+    }) s is
 
 -- ---- each agent is further
 

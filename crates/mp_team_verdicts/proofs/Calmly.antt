@@ -82,24 +82,22 @@ module _ (value : AgentTask → Numbers → Numbers → Option ℕ) (publics : �
           (later, at, subst (λ (x : AgentRecord). IsSameVerdict x later) one (subst (λ (x : AgentRecord). IsSameVerdict step.agent x) (sym is) (keeps (sym here))))
       by (later, at, inr (other, is)) = (later, at, record { verdict = ap given_verdict is; number = ap (λ (x : AgentRecord). x.snapshot.number) is })
 
-  module _ (calm : IsCalm step.agent step.step) (keeps : agent_of event ≡ 1 → IsSameVerdict step.agent step.step.after)
-      (left_same : (i j : ℕ) → IsOf (length tasks) i → IsOf (length tasks) j
-      → filter is_of_end (left value publics tasks team w known.team event next step i j) ≡ end_messages publics w i j)
-      (stage : Stage) (old : IsAt publics w stage) (goal : is_deciding (given_verdict old.first) ≡ true → step.step.after.goal ≡ step.agent.goal) where
-    one : (later : AgentRecord) × (agent_at next 1 ≡ Some later) × IsSameVerdict old.first later
-    one = first_same keeps old.first old.there
+  module _ (keeps : agent_of event ≡ 1 → IsSameVerdict step.agent step.step.after) (stage : Stage) (old : IsAt publics w stage)
+      (goal : is_deciding (given_verdict old.first) ≡ true → step.step.after.goal ≡ step.agent.goal) where
+    pub first_now : (later : AgentRecord) × (agent_at next 1 ≡ Some later) × IsSameVerdict old.first later
+    first_now = first_same keeps old.first old.there
 
-    proved_now : (plan : List TaskStep) → (p : IsProved w old.first plan) → (now : IsProved next one.0 plan) × (now.agent ≡ p.agent)
+    proved_now : (plan : List TaskStep) → (p : IsProved w old.first plan) → (now : IsProved next first_now.0 plan) × (now.agent ≡ p.agent)
     proved_now plan p =
-        proved_stays value publics tasks team w known.team event next step old.first one.0 plan one.2.verdict
+        proved_stays value publics tasks team w known.team event next step old.first first_now.0 plan first_now.2.verdict
         (goal (ap is_deciding p.verdict)) p
 
-    verdict_now : (s : Stage) → VerdictAt w old.first s → VerdictAt next one.0 s
-    verdict_now searching v = ap is_deciding one.2.verdict ∙ v
-    verdict_now (without_plan kind) v = record { verdict = ap end_by one.2.verdict ∙ v.verdict; teller = ended_stays value publics tasks team w known.team event next step 1 v.teller }
+    pub verdict_now : (s : Stage) → VerdictAt w old.first s → VerdictAt next first_now.0 s
+    verdict_now searching v = ap is_deciding first_now.2.verdict ∙ v
+    verdict_now (without_plan kind) v = record { verdict = ap end_by first_now.2.verdict ∙ v.verdict; teller = ended_stays value publics tasks team w known.team event next step 1 v.teller }
     verdict_now (picking agent number plan) v =
         let p = proved_now plan v.proved in
-        record { proved = p.0; agent_is = p.1 ∙ v.agent_is; other = v.other; number_is = v.number_is ∙ sym one.2.number }
+        record { proved = p.0; agent_is = p.1 ∙ v.agent_is; other = v.other; number_is = v.number_is ∙ sym first_now.2.number }
     verdict_now (walking sender receiver sent earlier later) v = record {
       proved = (proved_now (earlier ++ later) v.proved).0;
       sender = agent_stays value publics tasks team w known.team event next step sender v.sender;
@@ -109,44 +107,46 @@ module _ (value : AgentTask → Numbers → Numbers → Option ℕ) (publics : �
     verdict_now (over by_agent plan) v =
         record { proved = (proved_now plan v.proved).0; teller = ended_stays value publics tasks team w known.team event next step by_agent v.teller }
 
-    -- the receiver goes on if it did
-    was : (j : ℕ) (y : AgentRecord) → agent_at next j ≡ Some y → (x : AgentRecord) × (agent_at w j ≡ Some x) × (is_going y.ending ≡ is_going x.ending)
-    was =
-        each_next value publics tasks team w known.team event next step (λ j y. (x : AgentRecord) × (agent_at w j ≡ Some x) × (is_going y.ending ≡ is_going x.ending))
-        (step.agent, step.there, ap is_going calm.ending)
-        (λ j y there other. (y, there, refl))
+    module _ (calm : IsCalm step.agent step.step) (left_same : (i j : ℕ) → IsOf (length tasks) i → IsOf (length tasks) j
+        → filter is_of_end (left value publics tasks team w known.team event next step i j) ≡ end_messages publics w i j) where
+      -- the receiver goes on if it did
+      was : (j : ℕ) (y : AgentRecord) → agent_at next j ≡ Some y → (x : AgentRecord) × (agent_at w j ≡ Some x) × (is_going y.ending ≡ is_going x.ending)
+      was =
+          each_next value publics tasks team w known.team event next step (λ j y. (x : AgentRecord) × (agent_at w j ≡ Some x) × (is_going y.ending ≡ is_going x.ending))
+          (step.agent, step.there, ap is_going calm.ending)
+          (λ j y there other. (y, there, refl))
 
-    pub calm_comes : ComesTo publics tasks step.step.out next
-    calm_comes =
-        let fits = team_fits value publics tasks agree limits team w next known known_next event step room
-        (All-weaker IsNoEnd (λ (y : Outgoing). HasEndRoom y.message) (λ y other. no_end_has_room y.message other) step.step.out calm.out) in
-        record {
-          stage = stage;
-          is = record {
-            first = one.0;
-            there = one.1;
-            verdict = verdict_now stage old.verdict;
-            agents =
-                each_next value publics tasks team w known.team event next step (λ i y. AgentAt stage y)
-                (agent_calm stage step.agent step.step calm (old.agents (agent_of event) step.agent step.there))
-                (λ i y there other. old.agents i y there);
-            mail = λ i j y agent there.
-                let of_i = of_agent_next value publics tasks team w known.team event next step i agent in
-                let of_j = of_next value publics tasks team w known.team event next step j y there in
-                let before = was j y there in
-                ends_next value publics tasks team w known.team event next step fits i j of_i of_j
-                ∙ (λ k. left_same i j of_i of_j k ++ (if i == agent_of event then none_to step.step.out calm.out j k else []))
-                ∙ ap (λ ms. end_messages publics w i j ++ ms) (nothing (i == agent_of event))
-                ∙ append-nil (end_messages publics w i j)
-                ∙ old.mail i j before.0 (is_agent_of publics tasks team w (team_numbers publics tasks team w known.team) i of_i) before.1
-                ∙ ap (due stage i j) (sym before.2);
-          };
-          fits = fits;
-        }
-      where
-        none : List Message
-        none = []
+      pub calm_comes : ComesTo publics tasks step.step.out next
+      calm_comes =
+          let fits = team_fits value publics tasks agree limits team w next known known_next event step room
+          (All-weaker IsNoEnd (λ (y : Outgoing). HasEndRoom y.message) (λ y other. no_end_has_room y.message other) step.step.out calm.out) in
+          record {
+            stage = stage;
+            is = record {
+              first = first_now.0;
+              there = first_now.1;
+              verdict = verdict_now stage old.verdict;
+              agents =
+                  each_next value publics tasks team w known.team event next step (λ i y. AgentAt stage y)
+                  (agent_calm stage step.agent step.step calm (old.agents (agent_of event) step.agent step.there))
+                  (λ i y there other. old.agents i y there);
+              mail = λ i j y agent there.
+                  let of_i = of_agent_next value publics tasks team w known.team event next step i agent in
+                  let of_j = of_next value publics tasks team w known.team event next step j y there in
+                  let before = was j y there in
+                  ends_next value publics tasks team w known.team event next step fits i j of_i of_j
+                  ∙ (λ k. left_same i j of_i of_j k ++ (if i == agent_of event then none_to step.step.out calm.out j k else []))
+                  ∙ ap (λ ms. end_messages publics w i j ++ ms) (nothing (i == agent_of event))
+                  ∙ append-nil (end_messages publics w i j)
+                  ∙ old.mail i j before.0 (is_agent_of publics tasks team w (team_numbers publics tasks team w known.team) i of_i) before.1
+                  ∙ ap (due stage i j) (sym before.2);
+            };
+            fits = fits;
+          }
+        where
+          none : List Message
+          none = []
 
-        nothing : (b : Bool) → (if b then none else none) ≡ none
-        nothing true = refl
-        nothing false = refl
+          nothing : (b : Bool) → (if b then none else none) ≡ none
+          nothing true = refl
+          nothing false = refl

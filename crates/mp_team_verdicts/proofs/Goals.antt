@@ -1,75 +1,60 @@
 -- Each agent keeps the goal entry whose cost it found in its last snapshot.
-use Rattle.std.proofs.Common.{◌≡◌, ◌≢◌, ℕ, ◌≤◌, ◌<◌, ◌^◌, true, List, length, Option, Some, None, All, refl, sym, ap, subst, ◌∙◌, arith}
-use Rattle.std.specs.Prelude.{IfSome, Ok, Err, ◌==◌, not}
-use Rattle.std.specs.Option.{option_map_or}
+use Rattle.std.proofs.Common.{◌≡◌, ◌≢◌, ℕ, ◌+◌, ◌≤◌, ◌<◌, ◌^◌, true, List, length, Option, Some, None, All, refl, sym, ap, subst, ◌∙◌, arith}
+use Rattle.std.specs.Prelude.{IfSome, Ok}
 use Rattle.mp_sets.specs.Numbers.{Numbers}
 use Rattle.mp_task.specs.Agree.{Agree}
 use Rattle.mp_task.specs.AgentTask.{AgentTask}
 use Rattle.mp_task.specs.Limits.{IsWithinLimits}
 use Rattle.mp_messages.specs.declared.history.Event.{Event}
 use Rattle.mp_messages.specs.declared.history.Event.TheVariants.{Expand, Take, Start}
+use Rattle.mp_messages.specs.declared.message.Findings.{Findings}
 use Rattle.mp_messages.specs.declared.message.Message.{Message}
-use Rattle.mp_messages.specs.declared.message.Message.TheVariants.{State as AState, Marker, Report, Pick, Trace, Length, Done}
-use Rattle.mp_store.specs.Sent.{sent_entry}
 use Rattle.mp_search.specs.Expansion.{expanded}
 use Rattle.mp_search.specs.Search.{SearchRecord, bound}
-use Rattle.mp_snapshot.specs.Notes.{Notes}
-use Rattle.mp_snapshot.specs.Rules.{after_report, is_strange_marker, is_strange_report, own}
-use Rattle.mp_machine.specs.declared.refusal.BadKind.TheVariants.{StrangeDone, StrangeLength, StrangeMarker, StrangePick, StrangeReport, StrangeTrace}
+use Rattle.mp_snapshot.specs.Rules.{after_report, begun, own, with_marker}
 use Rattle.mp_machine.specs.AgentRecord.{AgentRecord}
 use Rattle.mp_machine.specs.LocalStep.{with_search}
-use Rattle.mp_machine.specs.Outgoing.{Step, without_messages}
-use Rattle.mp_machine.specs.Snapshots.{goal_entry, judged, marked, started}
-use Rattle.mp_machine.specs.Taking.{ending_of, is_strange_length, is_strange_pick, is_strange_trace, took_message, took_trace, traced}
-use Rattle.mp_machine.specs.WalkingBack.{solved, walked, walked_from_goal}
+use Rattle.mp_machine.specs.Outgoing.{Step}
+use Rattle.mp_machine.specs.Snapshots.{findings, goal_entry, judged, judged_or_reported, started, with_notes}
+use Rattle.mp_machine.specs.Taking.{took_message}
+use Rattle.mp_machine.specs.WalkingBack.{walked, walked_from_goal}
+use Rattle.mp_machine.proofs.NotesLemmas.{own_reported}
 use Rattle.mp_world.specs.Events.{agent_of, taken}
 use Rattle.mp_world.specs.Steps.{IsStepOf}
 use Rattle.mp_world.specs.World.{World, agent_at}
+use Rattle.mp_world.proofs.LocalCases.{message_holds, same_step}
 use Rattle.mp_team_snapshots.specs.Team.{IsTeamOf}
-use Rattle.mp_team_snapshots.proofs.Effects.{bad_or_good, good_step, same_step}
 use Rattle.mp_team_snapshots.proofs.TakingFirst.{apart, is_sender}
-use Rattle.mp_team_states.proofs.WorldsGrow.{state_taken, taking}
+use Rattle.mp_team_states.proofs.WorldsGrow.{taking}
 use Rattle.mp_team_verdicts.specs.Ending.{HasGoal}
 use Rattle.mp_team_verdicts.proofs.Few.{keeps_few}
 use Rattle.mp_team_verdicts.proofs.Frames.{IsKnownWorld, NotesItsGoal, each_next, goal_stays, me_before, of_before}
 use Rattle.mp_team_verdicts.proofs.Proving.{goal_noted}
-use Rattle.mp_team_verdicts.proofs.EndSteps.{GoalAfter, HasPlace, KeepsNotes, NotesGoal, from_goal_keeps, marked_goal, report_goal, start_goal, state_goal, walked_keeps}
+use Rattle.mp_team_verdicts.proofs.EndSteps.{GoalAfter, HasPlace, NotesGoal, begun_goal, either_keeps, from_goal_keeps, goal_begun, goal_kept, judged_keeps, state_goal, walked_keeps}
 use Rattle.mp_team_verdicts.proofs.EndSteps.GoalAfter.{keeps, notes}
 
-keeps_of_notes : (r s : AgentRecord) → KeepsNotes r s → GoalAfter r s
-keeps_of_notes r s k = keeps (record { goal = k.goal; own = ap (λ (n : Notes). (own n).goal) k.snapshot })
-
-module _ (r : AgentRecord) (s : Step) where
-  trace_keeps : (sent back : ℕ) → took_trace r sent back ≡ Ok s → GoalAfter r s.after
-  trace_keeps sent back = by (sent_entry sent r.search.kept)
-    where
-      by : (o : Option ℕ) → option_map_or (traced r back) o (Err StrangeTrace) ≡ Ok s → GoalAfter r s.after
-      by None is = absurd (bad_or_good StrangeTrace s is)
-      by (Some entry) is =
-          let good = good_step (is_strange_trace r entry back) StrangeTrace (walked r entry back) s is in
-          subst (λ (s : Step). GoalAfter r s.after) good.1 (keeps_of_notes r (walked r entry back).after (walked_keeps r entry back))
-
-  message_goal : (value : Numbers → Numbers → Option ℕ) (from : ℕ) (m : Message) → HasPlace r.snapshot → 1 ≤ from → from ≢ r.snapshot.me → took_message value r from m ≡ Ok s → GoalAfter r s.after
-  message_goal value from (AState m) place low other is =
-      subst (λ (s : Step). GoalAfter r s.after) (state_taken value r from m s is) (keeps (state_goal value r from m place))
-  message_goal value from (Marker number) place low other is =
-      let good = good_step (is_strange_marker r.snapshot from number) StrangeMarker (marked r from number) s is in
-      subst (λ (s : Step). GoalAfter r s.after) good.1 (marked_goal r from number place)
-  message_goal value from (Report found) place low other is =
-      let good = good_step (is_strange_report r.snapshot from found) StrangeReport (judged (record r { snapshot = after_report r.snapshot from found })) s is in
-      subst (λ (s : Step). GoalAfter r s.after) good.1 (keeps (report_goal r from found place low other))
-  message_goal value from (Pick number) place low other is =
-      let after : AgentRecord = record r { picked = true } in
-      let good = good_step (is_strange_pick r from number) StrangePick (walked_from_goal after) s is in
-      let k = from_goal_keeps after in
-      subst (λ (s : Step). GoalAfter r s.after) good.1 (keeps (record { goal = k.goal; own = ap (λ (n : Notes). (own n).goal) k.snapshot }))
-  message_goal value from (Trace sent back) place low other is = trace_keeps sent back is
-  message_goal value from (Length plan) place low other is =
-      let good = good_step (is_strange_length r plan) StrangeLength (without_messages (solved r plan)) s is in
-      subst (λ (s : Step). GoalAfter r s.after) good.1 (keeps (record { goal = refl; own = refl }))
-  message_goal value from (Done kind) place low other is =
-      let good = good_step (not (from == 1)) StrangeDone (without_messages (record r { ending = ending_of kind })) s is in
-      subst (λ (s : Step). GoalAfter r s.after) good.1 (keeps (record { goal = refl; own = refl }))
+message_goal : (value : Numbers → Numbers → Option ℕ) (r : AgentRecord) (from : ℕ) → HasPlace r.snapshot → 1 ≤ from → from ≢ r.snapshot.me
+    → (m : Message) (s : Step) → took_message value r from m ≡ Ok s → GoalAfter r s.after
+message_goal value r from place low other =
+    message_holds value r from (λ m s. GoalAfter r s.after) (record {
+      state = λ m given right. keeps (state_goal value r from m place);
+      on = λ number goes.
+          let new : AgentRecord = record r { snapshot = with_marker r.snapshot from } in
+          goal_kept r new (judged_or_reported new).after (either_keeps new) refl refl;
+      begins = λ number begins.
+          let new = with_marker (begun r.snapshot number (findings r)) from in
+          goal_begun r new (judged_or_reported (with_notes new r)).after (either_keeps (with_notes new r)) (begun_goal r number place);
+      report = λ found good.
+          let new : AgentRecord = record r { snapshot = after_report r.snapshot from found } in
+          goal_kept r new (judged new).after (judged_keeps new) refl
+          (ap (λ (x : Findings). x.goal) (own_reported r.snapshot from found place.low low other));
+      pick = λ number good.
+          let new : AgentRecord = record r { picked = true } in
+          goal_kept r new (walked_from_goal new).after (from_goal_keeps new) refl refl;
+      trace = λ sent back entry there good. goal_kept r r (walked r entry back).after (walked_keeps r entry back) refl refl;
+      length = λ plan good. keeps (record { goal = refl; own = refl });
+      done = λ kind first. keeps (record { goal = refl; own = refl });
+    })
 
 module _ (value : AgentTask → Numbers → Numbers → Option ℕ) (publics : ℕ) (tasks : List AgentTask) (agree : Agree tasks) (limits : All IsWithinLimits tasks)
     (team : IsTeamOf publics tasks) (w next : World) (known : IsKnownWorld publics tasks w) (known_next : IsKnownWorld publics tasks next) where
@@ -92,15 +77,17 @@ module _ (value : AgentTask → Numbers → Numbers → Option ℕ) (publics : �
       subst (λ (s : Step). GoalAfter r s.after) (same_step (with_search r made) step.step step.local) (keeps (record { goal = refl; own = refl }))
   goal_after Start step =
       let r = step.agent in
-      subst (λ (s : Step). GoalAfter r s.after) (same_step (started r) step.step step.local) (notes (start_goal r (place_of Start step 1 r step.there).0))
+      let number = r.snapshot.number + 1 in
+      let new = begun r.snapshot number (findings r) in
+      subst (λ (s : Step). GoalAfter r s.after) (same_step (started r) step.step step.local) (goal_begun r new (judged (with_notes new r)).after (judged_keeps (with_notes new r)) (begun_goal r number (place_of Start step 1 r step.there).0))
   goal_after (Take b a) step =
       let r = step.agent in
       let t = taking (value r.task) r a (taken w (Take b a)) step.step step.local in
       let place = place_of (Take b a) step b r step.there in
       let is_a = is_sender value publics tasks team w known.team b a next step in
       let me = me_before value publics tasks team w known.team (Take b a) next step b r step.there in
-      message_goal r step.step (value r.task) a t.message place.0 is_a.from_1
-      (λ same. apart value publics tasks team w known.team b a next step (same ∙ place.1 ∙ me)) t.took
+      message_goal (value r.task) r a place.0 is_a.from_1
+      (λ same. apart value publics tasks team w known.team b a next step (same ∙ place.1 ∙ me)) t.message step.step t.took
 
   pub goals_next : (event : Event) (step : IsStepOf value w event next) → ((i : ℕ) (r : AgentRecord) → agent_at w i ≡ Some r → NotesItsGoal r)
       → (i : ℕ) (r : AgentRecord) → agent_at next i ≡ Some r → NotesItsGoal r

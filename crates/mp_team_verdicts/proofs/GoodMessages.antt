@@ -48,8 +48,8 @@ use Rattle.mp_team_states.specs.Paths.{IsSentAt}
 use Rattle.mp_team_states.proofs.Reached.{has_it}
 use Rattle.mp_team_states.proofs.RoomCounts.{few_expansions}
 use Rattle.mp_team_states.proofs.StepsSound.{task_at}
-use Rattle.mp_team_verdicts.specs.Ending.{IsAt, IsProved, Stage, due, end_messages, is_of_end, notes}
-use Rattle.mp_team_verdicts.specs.Ending.Stage.{over, picking, searching, walking, without_plan}
+use Rattle.mp_team_verdicts.specs.Ending.{IsAt, IsProved, due, end_messages, is_of_end, notes}
+use Rattle.mp_team_verdicts.specs.Ending.Stage.{over, picking, walking}
 use Rattle.mp_team_verdicts.proofs.Few.{keeps_few}
 use Rattle.mp_team_verdicts.proofs.Fitting.{IsRead}
 use Rattle.mp_team_verdicts.proofs.Frames.{IsKnownWorld}
@@ -57,7 +57,7 @@ use Rattle.mp_team_verdicts.proofs.InRuns.{EndsSoFar}
 use Rattle.mp_team_verdicts.proofs.NotesOfPlans.{notes_fit, notes_none}
 use Rattle.mp_team_verdicts.proofs.Short.{path_entry}
 use Rattle.mp_team_verdicts.proofs.TakenEnds.{sent_is}
-use Rattle.mp_team_verdicts.proofs.TakingEnds.{nothing_due, one_due}
+use Rattle.mp_team_verdicts.proofs.TakingEnds.{due_holds}
 
 -- what is not bad is taken
 not_bad : (bad : Bool) (kind : BadKind) (s : Step) → bad ≡ false → unless_bad bad kind s ≡ Ok s
@@ -94,13 +94,12 @@ module _ (publics : ℕ) (tasks : List AgentTask) (agree : Agree tasks) (limits 
   other_at : agent_at w other.0.task.me ≡ Some other.0
   other_at = ap (agent_at w) other_me ∙ other.1
 
-  IsTaken : Message → Type 0
+  abbrev IsTaken : Message → Type 0
   IsTaken m = (value : Numbers → Numbers → Option ℕ) → (s : Step) × (took_message value r a m ≡ Ok s)
 
   -- ---- markers and reports
 
   marker_taken : (number : ℕ) (rest : List Message) → messages publics w a b ≡ Marker number ∷ rest → IsTaken (Marker number)
-  unfolding IsTaken
   marker_taken number rest first value =
       let two : AreTwo w other.0 r = record { one = other_at; other = mine_at; different = λ same. apart (sym other_me ∙ same ∙ me_is) } in
       let here : markers publics w other.0.task.me r.task.me ≡ number ∷ filter_map marker_of rest =
@@ -109,7 +108,6 @@ module _ (publics : ℕ) (tasks : List AgentTask) (agree : Agree tasks) (limits 
       (marked r a number, not_bad (is_strange_marker r.snapshot a number) StrangeMarker (marked r a number) (ap (λ (k : ℕ). is_strange_marker r.snapshot k number) (sym other_me) ∙ good))
 
   report_taken : (found : Findings) (rest : List Message) → messages publics w a b ≡ Report found ∷ rest → IsTaken (Report found)
-  unfolding IsTaken
   report_taken found rest first value = by (cases_eq b 1)
     where
       no_item : (x : Findings) (xs : List Findings) → x ∷ xs ≡ [] → ⊥
@@ -166,120 +164,66 @@ module _ (publics : ℕ) (tasks : List AgentTask) (agree : Agree tasks) (limits 
         let not_first : (r.snapshot.me == 1) ≡ false = false_from_ne_true (r.snapshot.me == 1) (λ is. off (sym notes_of.me ∙ eqb-true r.snapshot.me 1 is)) in
         (λ k. nat_lt 0 r.snapshot.number && not (if not_first k then is_complete r.snapshot else is_over.whole r mine_at k)) ∙ and_false (nat_lt 0 r.snapshot.number)
 
-  module _ (stage : Stage) (old : IsAt publics w stage) (m : Message) (rest : List Message) (first : end_messages publics w a b ≡ m ∷ rest) where
-    pub is_due : due stage a b true ≡ m ∷ rest
-    is_due = sym (old.mail a b r sender there ∙ ap (due stage a b) going) ∙ first
-
-  -- a message of another kind is not due
-  pick_taken : (n : ℕ) (rest : List Message) (stage : Stage) (old : IsAt publics w stage) → end_messages publics w a b ≡ Pick n ∷ rest → IsTaken (Pick n)
-  unfolding IsTaken
-  pick_taken n rest searching old first value = absurd (nothing_due (Pick n) rest (is_due searching old (Pick n) rest first))
-  pick_taken n rest (without_plan kind) old first value =
-      let d = one_due (a == 1 && true) (Done kind) (Pick n) rest (is_due (without_plan kind) old (Pick n) rest first) in
-      absurd (let same = d.same in let impossible : ⊥ = cc in impossible)
-  pick_taken n rest (walking from to sent earlier later) old first value =
-      let d = one_due (a == from && to == b) (Trace sent (length later)) (Pick n) rest (is_due (walking from to sent earlier later) old (Pick n) rest first) in
-      absurd (let same = d.same in let impossible : ⊥ = cc in impossible)
-  pick_taken n rest (over teller plan) old first value =
-      let d = one_due (a == teller && true) (Length (length plan)) (Pick n) rest (is_due (over teller plan) old (Pick n) rest first) in
-      absurd (let same = d.same in let impossible : ⊥ = cc in impossible)
-  pick_taken n rest (picking agent number plan) old first value =
-      let d = one_due (a == 1 && agent == b) (Pick number) (Pick n) rest (is_due (picking agent number plan) old (Pick n) rest first) in
-      let same = d.same in
-      let numbers : number ≡ n = cc in
-      let parts = and_parts (a == 1) (agent == b) d.so in
-      let b_is : agent ≡ b = eqb-true agent b parts.1 in
+  pick_taken : (agent number : ℕ) (plan : List TaskStep) → a ≡ 1 → agent ≡ b → IsAt publics w (picking agent number plan) → IsTaken (Pick number)
+  pick_taken agent number plan a_is b_is old value =
       let p = old.verdict.proved in
       let who : p.picked ≡ r = same_Some p.picked r (sym p.there ∙ ap (agent_at w) (old.verdict.agent_is ∙ b_is) ∙ there) in
       let idle = old.agents b r there in
-      let number_is : n ≡ r.snapshot.number = sym numbers ∙ old.verdict.number_is ∙ sym (same_number old.first p.agent p.cost old.there p.verdict) in
+      let number_is : number ≡ r.snapshot.number = old.verdict.number_is ∙ sym (same_number old.first p.agent p.cost old.there p.verdict) in
       let resting = no_snapshot old.first p.agent p.cost old.there p.verdict (λ is. old.verdict.other (b_is ∙ sym me_is ∙ is)) in
       let goal : r.goal ≡ Some p.number = ap (λ (x : AgentRecord). x.goal) (sym who) ∙ p.goal.noted in
       let trail : r.trail ≡ [] = idle.walked.trail ∙ notes_none r.task.me in
       let after : AgentRecord = record r { picked = true } in (
         walked_from_goal after,
-        not_bad (is_strange_pick r a n) StrangePick (walked_from_goal after)
+        not_bad (is_strange_pick r a number) StrangePick (walked_from_goal after)
             (λ k.
-            not (parts.0 k) || not (eq-eqb n r.snapshot.number number_is k) || resting k || is_none (goal k) || idle.picked k || not (length (trail k) == 0)),
+            not (eq-eqb a 1 a_is k) || not (eq-eqb number r.snapshot.number number_is k) || resting k || is_none (goal k) || idle.picked k
+            || not (length (trail k) == 0)),
       )
 
-  trace_taken : (sent back : ℕ) (rest : List Message) (stage : Stage) (old : IsAt publics w stage) → end_messages publics w a b ≡ Trace sent back ∷ rest → IsTaken (Trace sent back)
-  unfolding IsTaken
-  trace_taken sent back rest searching old first value = absurd (nothing_due (Trace sent back) rest (is_due searching old (Trace sent back) rest first))
-  trace_taken sent back rest (without_plan kind) old first value =
-      let d = one_due (a == 1 && true) (Done kind) (Trace sent back) rest (is_due (without_plan kind) old (Trace sent back) rest first) in
-      absurd (let same = d.same in let impossible : ⊥ = cc in impossible)
-  trace_taken sent back rest (picking agent number plan) old first value =
-      let d = one_due (a == 1 && agent == b) (Pick number) (Trace sent back) rest (is_due (picking agent number plan) old (Trace sent back) rest first) in
-      absurd (let same = d.same in let impossible : ⊥ = cc in impossible)
-  trace_taken sent back rest (over teller plan) old first value =
-      let d = one_due (a == teller && true) (Length (length plan)) (Trace sent back) rest (is_due (over teller plan) old (Trace sent back) rest first) in
-      absurd (let same = d.same in let impossible : ⊥ = cc in impossible)
-  trace_taken sent back rest (walking from to number earlier later) old first value =
-      let d = one_due (a == from && to == b) (Trace number (length later)) (Trace sent back) rest (is_due (walking from to number earlier later) old (Trace sent back) rest first) in
-      let same = d.same in
-      let numbers : number ≡ sent = cc in
-      let backs : length later ≡ back = cc in
-      let parts = and_parts (a == from) (to == b) d.so in
-      let b_is : to ≡ b = eqb-true to b parts.1 in
+  trace_taken : (from to sent : ℕ) (earlier later : List TaskStep) → to ≡ b → IsAt publics w (walking from to sent earlier later)
+      → IsTaken (Trace sent (length later))
+  trace_taken from to sent earlier later b_is old value =
       let p = old.verdict.proved in
       let leads = old.verdict.next in
-      let given : IsSentAt w b sent leads.number =
-      subst (λ (k : ℕ). IsSentAt w k sent leads.number) b_is (subst (λ (k : ℕ). IsSentAt w to k leads.number) numbers leads.given) in
-      let entry = sent_is w b sent leads.number r there given in
+      let entry = sent_is w b sent leads.number r there (subst (λ (k : ℕ). IsSentAt w k sent leads.number) b_is leads.given) in
       let found = path_entry w to leads.number earlier leads.path in
       let at = has_it w to leads.number found.0 found.1 in
       let inside = slice_get_within at.agent_is.search.kept.entries leads.number found.0 at.at in
       let few = keeps_few tasks agree limits w known.team known.so_far to at.agent_is at.there in
       let long = length-append earlier later in
       let most = short old.first (earlier ++ later) p in
-      let small : back + leads.number < 2 ^ 60 = omega arith in
-      let room : fits back r.trail ≡ true = ap (λ (k : ℕ). fits k r.trail) (sym backs) ∙ fits_trail later (old.agents b r there).trail in
+      let small : length later + leads.number < 2 ^ 60 = omega arith in
+      let room = fits_trail later (old.agents b r there).trail in
       let known_plan = knows old.first p.agent p.cost old.there p.verdict in (
-        walked r leads.number back,
-        ap (λ (o : Option ℕ). option_map_or (traced r back) o (Err StrangeTrace)) entry
-            ∙ not_bad (is_strange_trace r leads.number back) StrangeTrace (walked r leads.number back)
-            (λ k. not (lt-ltb (back + leads.number) (2 ^ 60) small k) || not (room k) || known_plan k),
+        walked r leads.number (length later),
+        ap (λ (o : Option ℕ). option_map_or (traced r (length later)) o (Err StrangeTrace)) entry
+            ∙ not_bad (is_strange_trace r leads.number (length later)) StrangeTrace (walked r leads.number (length later))
+            (λ k. not (lt-ltb (length later + leads.number) (2 ^ 60) small k) || not (room k) || known_plan k),
       )
 
-  length_taken : (n : ℕ) (rest : List Message) (stage : Stage) (old : IsAt publics w stage) → end_messages publics w a b ≡ Length n ∷ rest → IsTaken (Length n)
-  unfolding IsTaken
-  length_taken n rest searching old first value = absurd (nothing_due (Length n) rest (is_due searching old (Length n) rest first))
-  length_taken n rest (without_plan kind) old first value =
-      let d = one_due (a == 1 && true) (Done kind) (Length n) rest (is_due (without_plan kind) old (Length n) rest first) in
-      absurd (let same = d.same in let impossible : ⊥ = cc in impossible)
-  length_taken n rest (picking agent number plan) old first value =
-      let d = one_due (a == 1 && agent == b) (Pick number) (Length n) rest (is_due (picking agent number plan) old (Length n) rest first) in
-      absurd (let same = d.same in let impossible : ⊥ = cc in impossible)
-  length_taken n rest (walking from to sent earlier later) old first value =
-      let d = one_due (a == from && to == b) (Trace sent (length later)) (Length n) rest (is_due (walking from to sent earlier later) old (Length n) rest first) in
-      absurd (let same = d.same in let impossible : ⊥ = cc in impossible)
-  length_taken n rest (over teller plan) old first value =
-      let d = one_due (a == teller && true) (Length (length plan)) (Length n) rest (is_due (over teller plan) old (Length n) rest first) in
-      let same = d.same in
-      let long : length plan ≡ n = cc in
+  length_taken : (teller : ℕ) (plan : List TaskStep) → IsAt publics w (over teller plan) → IsTaken (Length (length plan))
+  length_taken teller plan old value =
       let p = old.verdict.proved in
-      let room : fits n r.trail ≡ true = ap (λ (k : ℕ). fits k r.trail) (sym long) ∙ fits_trail plan (old.agents b r there).trail in
+      let room = fits_trail plan (old.agents b r there).trail in
       let known_plan = knows old.first p.agent p.cost old.there p.verdict in
-      (without_messages (solved r n), not_bad (is_strange_length r n) StrangeLength (without_messages (solved r n)) (λ k. not (room k) || known_plan k))
+      let after = solved r (length plan) in
+      (without_messages after, not_bad (is_strange_length r (length plan)) StrangeLength (without_messages after) (λ k. not (room k) || known_plan k))
 
-  done_taken : (kind : EndKind) (rest : List Message) (stage : Stage) (old : IsAt publics w stage) → end_messages publics w a b ≡ Done kind ∷ rest → IsTaken (Done kind)
-  unfolding IsTaken
-  done_taken kind rest searching old first value = absurd (nothing_due (Done kind) rest (is_due searching old (Done kind) rest first))
-  done_taken kind rest (picking agent number plan) old first value =
-      let d = one_due (a == 1 && agent == b) (Pick number) (Done kind) rest (is_due (picking agent number plan) old (Done kind) rest first) in
-      absurd (let same = d.same in let impossible : ⊥ = cc in impossible)
-  done_taken kind rest (walking from to sent earlier later) old first value =
-      let d = one_due (a == from && to == b) (Trace sent (length later)) (Done kind) rest (is_due (walking from to sent earlier later) old (Done kind) rest first) in
-      absurd (let same = d.same in let impossible : ⊥ = cc in impossible)
-  done_taken kind rest (over teller plan) old first value =
-      let d = one_due (a == teller && true) (Length (length plan)) (Done kind) rest (is_due (over teller plan) old (Done kind) rest first) in
-      absurd (let same = d.same in let impossible : ⊥ = cc in impossible)
-  done_taken kind rest (without_plan told) old first value =
-      let d = one_due (a == 1 && true) (Done told) (Done kind) rest (is_due (without_plan told) old (Done kind) rest first) in
-      let from = and_parts (a == 1) true d.so in
+  done_taken : (kind : EndKind) → a ≡ 1 → IsTaken (Done kind)
+  done_taken kind a_is value =
       let after : AgentRecord = record r { ending = ending_of kind } in
-      (without_messages after, not_bad (not (a == 1)) StrangeDone (without_messages after) (λ k. not (from.0 k)))
+      (without_messages after, not_bad (not (a == 1)) StrangeDone (without_messages after) (λ k. not (eq-eqb a 1 a_is k)))
+
+  -- a message of the end that is under way is due
+  end_taken : (m : Message) (rest : List Message) → end_messages publics w a b ≡ m ∷ rest → IsTaken m
+  end_taken m rest first =
+      due_holds a b true rest (λ stage m. IsAt publics w stage → IsTaken m) (record {
+        done = λ kind a_is none old. done_taken kind a_is;
+        pick = λ agent number plan a_is b_is none. pick_taken agent number plan a_is b_is;
+        trace = λ from to sent earlier later a_is b_is none. trace_taken from to sent earlier later b_is;
+        length = λ teller plan a_is none. length_taken teller plan;
+      }) ends.stage m (sym (ends.is.mail a b r sender there ∙ ap (due ends.stage a b) going) ∙ first) ends.is
 
   -- ---- any message
 
@@ -328,7 +272,7 @@ module _ (publics : ℕ) (tasks : List AgentTask) (agree : Agree tasks) (limits 
 
     -- another one
     other_good : (m : Message) → IsSpelling r.task.agents r.task.publics m bytes → IsTaken m → IsGood
-    unfolding IsGood IsTaken
+    unfolding IsGood
     other_good m is taken =
         let t = taken value in
         (t.0, sym (took_spelled value r a bytes m few_facts is) ∙ t.1)
@@ -341,11 +285,11 @@ module _ (publics : ℕ) (tasks : List AgentTask) (agree : Agree tasks) (limits 
     by_kind (AState m) rest first is = state_good m is
     by_kind (Marker number) rest first is = other_good (Marker number) is (marker_taken number rest first)
     by_kind (Report found) rest first is = other_good (Report found) is (report_taken found rest first)
-    by_kind (Pick n) rest first is = other_good (Pick n) is (pick_taken n (filter is_of_end rest) ends.stage ends.is (end_first (Pick n) rest first refl))
+    by_kind (Pick n) rest first is = other_good (Pick n) is (end_taken (Pick n) (filter is_of_end rest) (end_first (Pick n) rest first refl))
     by_kind (Trace sent back) rest first is =
-        other_good (Trace sent back) is (trace_taken sent back (filter is_of_end rest) ends.stage ends.is (end_first (Trace sent back) rest first refl))
-    by_kind (Length n) rest first is = other_good (Length n) is (length_taken n (filter is_of_end rest) ends.stage ends.is (end_first (Length n) rest first refl))
-    by_kind (Done kind) rest first is = other_good (Done kind) is (done_taken kind (filter is_of_end rest) ends.stage ends.is (end_first (Done kind) rest first refl))
+        other_good (Trace sent back) is (end_taken (Trace sent back) (filter is_of_end rest) (end_first (Trace sent back) rest first refl))
+    by_kind (Length n) rest first is = other_good (Length n) is (end_taken (Length n) (filter is_of_end rest) (end_first (Length n) rest first refl))
+    by_kind (Done kind) rest first is = other_good (Done kind) is (end_taken (Done kind) (filter is_of_end rest) (end_first (Done kind) rest first refl))
 
     pub is_good : (s : Step) × (took value r a bytes ≡ Ok s)
     unfolding read IsGood

@@ -37,7 +37,7 @@ use Rattle.mp_team_verdicts.specs.Ending.Stage.{over, picking, searching, walkin
 use Rattle.mp_team_verdicts.proofs.Frames.{IsKnownWorld, ended_stays}
 use Rattle.mp_team_verdicts.proofs.InRuns.{EndsSoFar}
 use Rattle.mp_team_verdicts.proofs.Short.{path_entry}
-use Rattle.mp_team_verdicts.proofs.TakingEnds.{nothing_due, one_due}
+use Rattle.mp_team_verdicts.proofs.TakingEnds.{due_holds}
 use Rattle.mp_team_verdicts.proofs.Calm.{Reached}
 use Rattle.mp_team_verdicts.proofs.Hops.{few_messages}
 use Rattle.mp_team_verdicts.proofs.Nearing.{IsAsked, IsNear, IsPickedOut, asked_on, near_next, picked_on}
@@ -119,15 +119,13 @@ module _ (value : AgentTask → Numbers → Numbers → Option ℕ) (limit publi
     -- it goes on, where what waits is no last message
     module _ (not_last : IsLast m → ⊥) where
       goes_on : (stage : Stage) → IsAt publics v stage → due stage from to (is_going taker.0.ending) ≡ m ∷ [] → is_going taker.0.ending ≡ true
-      goes_on searching a is = absurd (nothing_due m [] is)
-      goes_on (without_plan kind) a is =
-          let d = one_due (from == 1 && is_going taker.0.ending) (Done kind) m [] is in
-          absurd (not_last (subst IsLast d.same tt))
-      goes_on (picking agent number plan) a is = (a.agents to taker.0 taker.1).walked.going
-      goes_on (walking sender receiver sent earlier later) a is = (a.agents to taker.0 taker.1).going
-      goes_on (over teller plan) a is =
-          let d = one_due (from == teller && is_going taker.0.ending) (Length (length plan)) m [] is in
-          absurd (not_last (subst IsLast d.same tt))
+      goes_on stage a is =
+          due_holds from to (is_going taker.0.ending) [] (λ stage m. (IsLast m → ⊥) → IsAt publics v stage → is_going taker.0.ending ≡ true) (record {
+            done = λ kind first none not_last a. absurd (not_last tt);
+            pick = λ agent number plan first is none not_last a. (a.agents to taker.0 taker.1).walked.going;
+            trace = λ sender receiver sent earlier later first is none not_last a. (a.agents to taker.0 taker.1).going;
+            length = λ teller plan first none not_last a. absurd (not_last tt);
+          }) stage m is not_last a
 
       pub never_left : ⊥
       never_left =

@@ -1,16 +1,17 @@
 -- The end of a search comes nearer: a message of it is taken, and what the agent does by it.
-use Rattle.std.proofs.Common.{◌≡◌, ◌≢◌, ℕ, suc, ◌+◌, ◌*◌, ◌≤◌, ◌^◌, Bool, true, ◌&&◌, List, [], ◌∷◌, ◌++◌, length, Option, Some, None, All, refl, sym, ap, subst, ◌∙◌, arith, ◌⊎◌, inl, inr}
-use Rattle.std.specs.Prelude.{◌==◌, IsSomeAnd, Ok, Err, if◌then◌else◌}
+use Rattle.std.proofs.Common.{◌≡◌, ◌≢◌, ℕ, suc, ◌+◌, ◌*◌, ◌≤◌, ◌^◌, Bool, true, List, [], ◌∷◌, ◌++◌, length, Option, Some, None, All, refl, sym, ap, subst, ◌∙◌, arith, ◌⊎◌, inl, inr}
+use Rattle.std.specs.Prelude.{IsSomeAnd, Ok, Err, if◌then◌else◌}
 use Rattle.std.specs.Option.{option_map_or}
-use Rattle.std.proofs.lemmas.Bool.{and_parts, eq-eqb, eqb-true}
+use Rattle.std.proofs.lemmas.Bool.{eq-eqb}
 use Rattle.std.proofs.lemmas.Option.{same_Some}
 use Rattle.mp_sets.specs.Numbers.{Numbers}
 use Rattle.mp_task.specs.Agree.{Agree}
 use Rattle.mp_task.specs.AgentTask.{AgentTask}
 use Rattle.mp_task.specs.Limits.{IsWithinLimits}
+use Rattle.mp_task.specs.Plan.{TaskStep}
 use Rattle.mp_messages.specs.declared.history.Event.{Event}
 use Rattle.mp_messages.specs.declared.message.Message.{Message}
-use Rattle.mp_messages.specs.declared.message.Message.TheVariants.{Pick, Trace, Length, Done}
+use Rattle.mp_messages.specs.declared.message.Message.TheVariants.{Pick, Trace}
 use Rattle.mp_store.specs.Sent.{sent_entry}
 use Rattle.mp_search.specs.Search.{SearchRecord}
 use Rattle.mp_trail.specs.declared.steps.Walked.{Walked}
@@ -24,16 +25,16 @@ use Rattle.mp_machine.specs.WalkingBack.{arrived, walked, walked_from_goal}
 use Rattle.mp_world.specs.Events.{agent_of}
 use Rattle.mp_world.specs.Steps.{IsStepOf}
 use Rattle.mp_world.specs.World.{World, agent_at}
+use Rattle.mp_world.proofs.LocalCases.{good_step}
 use Rattle.mp_team_snapshots.specs.Snapshots.{one_if_due}
 use Rattle.mp_team_snapshots.specs.Team.{IsTeamOf}
-use Rattle.mp_team_snapshots.proofs.Effects.{good_step}
 use Rattle.mp_team_snapshots.proofs.Protocol.{IsOf}
 use Rattle.mp_team_states.specs.Paths.{IsOver, IsPath, IsSentAt}
 use Rattle.mp_team_states.proofs.Messages.{path_over}
 use Rattle.mp_team_states.proofs.StepsSound.{records_sound}
 use Rattle.mp_team_states.proofs.WorldsGrow.{step_grows}
-use Rattle.mp_team_verdicts.specs.Ending.{HasEnded, IsAt, Stage, due, end_messages}
-use Rattle.mp_team_verdicts.specs.Ending.Stage.{over, picking, searching, walking, without_plan}
+use Rattle.mp_team_verdicts.specs.Ending.{HasEnded, IsAt, due, end_messages}
+use Rattle.mp_team_verdicts.specs.Ending.Stage.{picking}
 use Rattle.mp_team_verdicts.proofs.EndMessages.{ends_to, one_end}
 use Rattle.mp_team_verdicts.proofs.Frames.{IsKnownWorld, ended_stays}
 use Rattle.mp_team_verdicts.proofs.InRuns.{EndsSoFar}
@@ -41,7 +42,7 @@ use Rattle.mp_team_verdicts.proofs.Heard.{AreElsewhere, EndsElsewhere, walk_else
 use Rattle.mp_team_verdicts.proofs.Short.{sent_at_stays}
 use Rattle.mp_team_verdicts.proofs.EndSteps.{walked_keeps}
 use Rattle.mp_team_verdicts.proofs.TakenEnds.{sent_is}
-use Rattle.mp_team_verdicts.proofs.TakingEnds.{nothing_due, one_due}
+use Rattle.mp_team_verdicts.proofs.TakingEnds.{due_holds}
 use Rattle.mp_team_verdicts.proofs.Calm.{Reached}
 use Rattle.mp_team_verdicts.proofs.Hops.{few_messages, hop_over, over_stays}
 use Rattle.mp_team_verdicts.proofs.Reached.{known}
@@ -186,7 +187,13 @@ module _ (value : AgentTask → Numbers → Numbers → Option ℕ) (limit publi
     -- the agent that is picked begins at the goal entry that it noted
     picked_nears : (to rounds : ℕ) → IsPickedOut n publics w to → 17 * 2 ^ 46 + 2 ≤ suc rounds
         → TakesEnd value limit publics tasks agree limits most team w next event at at_next step 1 to → Near next rounds
-    picked_nears to rounds pick enough takes = by e.stage e.is due_now
+    picked_nears to rounds pick enough takes =
+        due_holds 1 to (is_going r.ending) [] (λ stage m. m ≡ Pick pick.number → IsAt publics w stage → Near next rounds) (record {
+          done = λ kind one none same a. absurd (let impossible : ⊥ = cc in impossible);
+          pick = λ agent number plan one is_to none same a. walks agent number plan is_to a;
+          trace = λ from receiver sent earlier later one is_to none same a. absurd (let impossible : ⊥ = cc in impossible);
+          length = λ teller plan one none same a. absurd (let impossible : ⊥ = cc in impossible);
+        }) e.stage (Pick pick.number) due_now refl e.is
       where
         e : EndsSoFar publics tasks w
         e = ends value limit publics tasks agree limits most team w at
@@ -209,20 +216,8 @@ module _ (value : AgentTask → Numbers → Numbers → Option ℕ) (limit publi
             one : IsOf n 1
             one = is_first value limit publics tasks agree limits most team w at
 
-        by : (stage : Stage) → IsAt publics w stage → due stage 1 to (is_going r.ending) ≡ Pick pick.number ∷ [] → Near next rounds
-        by searching a is = absurd (nothing_due (Pick pick.number) [] is)
-        by (without_plan kind) a is =
-            let d = one_due (1 == 1 && is_going r.ending) (Done kind) (Pick pick.number) [] is in
-            absurd (let same = d.same in let impossible : ⊥ = cc in impossible)
-        by (walking from receiver sent earlier later) a is =
-            let d = one_due (1 == from && receiver == to) (Trace sent (length later)) (Pick pick.number) [] is in
-            absurd (let same = d.same in let impossible : ⊥ = cc in impossible)
-        by (over teller plan) a is =
-            let d = one_due (1 == teller && is_going r.ending) (Length (length plan)) (Pick pick.number) [] is in
-            absurd (let same = d.same in let impossible : ⊥ = cc in impossible)
-        by (picking agent number plan) a is =
-            let d = one_due (1 == 1 && agent == to) (Pick number) (Pick pick.number) [] is in
-            let is_to : agent ≡ to = eqb-true agent to (and_parts (1 == 1) (agent == to) d.so).1 in
+        walks : (agent number : ℕ) (plan : List TaskStep) → agent ≡ to → IsAt publics w (picking agent number plan) → Near next rounds
+        walks agent number plan is_to a =
             let p = a.verdict.proved in
             let agent_is : p.agent ≡ to = a.verdict.agent_is ∙ is_to in
             let who : p.picked ≡ r = same_Some p.picked r (sym p.there ∙ ap (agent_at w) agent_is ∙ there) in

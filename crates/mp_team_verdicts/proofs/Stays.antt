@@ -1,8 +1,8 @@
 -- Each event leads the end of a search on.
-use Rattle.std.proofs.Common.{◌≡◌, ℕ, ◌+◌, ◌≤◌, Bool, true, false, List, [], ◌∷◌, length, Option, Some, None, All, refl, sym, ap, subst, ◌∙◌, arith, ◌⊎◌, inl, inr}
+use Rattle.std.proofs.Common.{◌≡◌, ◌≢◌, ℕ, ◌+◌, ◌≤◌, Bool, true, false, List, [], ◌∷◌, length, Option, Some, None, All, refl, sym, ap, subst, ◌∙◌, arith, inl, inr}
 use Rattle.std.specs.Prelude.{Ok, ◌==◌, filter, if◌then◌else◌}
 use Rattle.std.specs.List.{filter_map}
-use Rattle.std.proofs.lemmas.Bool.{and_parts, cases_eq, false≢true}
+use Rattle.std.proofs.lemmas.Bool.{and_parts, cases_eq, eq-eqb, false≢true}
 use Rattle.std.proofs.lemmas.Option.{none-some, same_Some}
 use Rattle.mp_sets.specs.Numbers.{Numbers}
 use Rattle.mp_task.specs.Agree.{Agree}
@@ -17,28 +17,27 @@ use Rattle.mp_messages.specs.Reading.{message_of}
 use Rattle.mp_search.specs.Expansion.{expanded}
 use Rattle.mp_snapshot.specs.declared.verdict.Verdict.{Verdict}
 use Rattle.mp_snapshot.specs.Notes.{Notes}
-use Rattle.mp_snapshot.specs.Rules.{after_report, after_state, is_counted, is_strange_marker, is_strange_report, verdict, with_state as counted_with}
-use Rattle.mp_machine.specs.declared.refusal.BadKind.TheVariants.{StrangeMarker, StrangeReport}
+use Rattle.mp_snapshot.specs.Rules.{after_report, after_state, begun, is_counted, is_under_way, verdict, with_marker, with_state as counted_with}
 use Rattle.mp_machine.specs.AgentRecord.{AgentRecord, given_verdict, is_going}
 use Rattle.mp_machine.specs.LocalStep.{may_start, with_search}
-use Rattle.mp_machine.specs.Outgoing.{Step}
-use Rattle.mp_machine.specs.Snapshots.{judged, marked, started}
+use Rattle.mp_machine.specs.Outgoing.{Step, without_messages}
+use Rattle.mp_machine.specs.Snapshots.{findings, goal_entry, judged, judged_or_reported, reported, started, with_notes}
 use Rattle.mp_machine.specs.Taking.{took_message, with_state}
 use Rattle.mp_machine.specs.Verdicts.{is_deciding}
-use Rattle.mp_machine.proofs.NotesLemmas.{state_changes_nothing}
+use Rattle.mp_machine.proofs.NotesLemmas.{report_fair, state_changes_nothing}
 use Rattle.mp_world.specs.Events.{agent_of, taken}
 use Rattle.mp_world.specs.Steps.{IsStepOf}
 use Rattle.mp_world.specs.World.{World, agent_at}
+use Rattle.mp_world.proofs.LocalCases.{message_holds, same_step}
 use Rattle.mp_team_snapshots.specs.Messages.{marker_of, markers}
 use Rattle.mp_team_snapshots.specs.Snapshots.{AreNotesOf, AreTwo}
 use Rattle.mp_team_snapshots.specs.Team.{HasRoom, IsTeamOf}
 use Rattle.mp_team_snapshots.proofs.Changes.{left, messages_before}
 use Rattle.mp_team_snapshots.proofs.Consequences.{verdict_is_over}
-use Rattle.mp_team_snapshots.proofs.Effects.{good_step, same_step}
 use Rattle.mp_team_snapshots.proofs.Protocol.{IsOf}
 use Rattle.mp_team_snapshots.proofs.TakingFirst.{apart, is_sender, taken_first}
 use Rattle.mp_team_snapshots.proofs.Worlds.{is_agent_of, team_numbers}
-use Rattle.mp_team_states.proofs.WorldsGrow.{state_taken, taking}
+use Rattle.mp_team_states.proofs.WorldsGrow.{taking}
 use Rattle.mp_team_verdicts.specs.Ending.{IsAt, Stage, end_messages, is_of_end}
 use Rattle.mp_team_verdicts.specs.Ending.Stage.{over, picking, searching, walking, without_plan}
 use Rattle.mp_team_verdicts.proofs.Calmly.{IsSameVerdict, calm_comes}
@@ -46,8 +45,8 @@ use Rattle.mp_team_verdicts.proofs.Frames.{IsKnownWorld, NotesItsGoal, agent_bef
 use Rattle.mp_team_verdicts.proofs.Goals.{place_of}
 use Rattle.mp_team_verdicts.proofs.Judging.{judged_comes}
 use Rattle.mp_team_verdicts.proofs.Proving.{end_decides}
-use Rattle.mp_team_verdicts.proofs.EndSteps.{IsCalm, IsJudged, counted_none, expansion_calm, marked_calm, marked_judged, report_judged, start_judged, state_calm, state_goal, state_snapshot}
-use Rattle.mp_team_verdicts.proofs.TakenEnds.{done_comes, length_comes, pick_comes, trace_comes}
+use Rattle.mp_team_verdicts.proofs.EndSteps.{IsCalm, IsJudged, counted_none, expansion_calm, gives_over, noted_calm, start_judged, state_calm, state_goal, state_snapshot, told_calm}
+use Rattle.mp_team_verdicts.proofs.TakenEnds.{end_comes}
 use Rattle.mp_team_verdicts.proofs.WalkOn.{ComesTo}
 
 -- ---- a state that is taken leaves the verdict
@@ -100,48 +99,31 @@ module _ (value : AgentTask → Numbers → Numbers → Option ℕ) (publics : �
       by (walking sender receiver sent earlier later) old never = absurd (never old.first old.there (ap is_deciding old.verdict.proved.verdict))
       by (over by_agent plan) old never = absurd (never old.first old.there (ap is_deciding old.verdict.proved.verdict))
 
-  expansion_comes : (agent : ℕ) (step : IsStepOf value w (Expand agent) next) → All (λ x. HasRoom x.message) step.step.out → (stage : Stage) → IsAt publics w stage
-      → ComesTo publics tasks step.step.out next
-  expansion_comes agent step room stage old =
-      let r = step.agent in
-      let made = expanded r.task (value r.task) r.search in
-      let same = same_step (with_search r made) step.step step.local in
-      calm_comes value publics tasks agree limits team w next known known_next (Expand agent) step room
-      (subst (IsCalm r) same (expansion_calm r made))
-      (λ first. subst (λ (s : Step). IsSameVerdict r s.after) same (record { verdict = refl; number = refl }))
-      (λ i j is_i is_j. ap (filter is_of_end) (sym (messages_before value publics tasks team w known.team (Expand agent) next step i j)))
-      stage old (λ deciding. subst (λ (s : Step). s.after.goal ≡ r.goal) same refl)
-
-  start_comes : (step : IsStepOf value w Start next) → All (λ x. HasRoom x.message) step.step.out → (stage : Stage) → IsAt publics w stage
-      → ComesTo publics tasks step.step.out next
-  start_comes step room stage old =
-      let r = step.agent in
-      let same = same_step (started r) step.step step.local in
-      judging Start step room (subst (IsJudged r) same (start_judged r (and_parts (is_going r.ending) (may_start r) step.may).1))
-      (λ i j is_i is_j. ap (filter is_of_end) (sym (messages_before value publics tasks team w known.team Start next step i j)))
-      stage old
-
   module _ (b a : ℕ) (step : IsStepOf value w (Take b a) next) (room : All (λ x. HasRoom x.message) step.step.out) (stage : Stage) (old : IsAt publics w stage) where
     abbrev Reading : Message → Type 0
     Reading m = message_of step.agent.task.agents step.agent.task.publics (taken w (Take b a)) ≡ Some m
 
-    me : step.agent.task.me ≡ b
-    me = me_before value publics tasks team w known.team (Take b a) next step b step.agent step.there
+    abbrev r : AgentRecord
+    r = step.agent
 
-    notes_me : step.agent.snapshot.me ≡ step.agent.task.me
-    notes_me = (place_of value publics tasks agree limits team w next known known_next (Take b a) step b step.agent step.there).1
+    abbrev Comes : Type 0
+    Comes = ComesTo publics tasks step.step.out next
 
-    notes : AreNotesOf (length w.agents) step.agent.task.me step.agent.snapshot
-    notes = known.in_runs.sound.notes step.agent (ap (agent_at w) me ∙ step.there)
+    me : r.task.me ≡ b
+    me = me_before value publics tasks team w known.team (Take b a) next step b r step.there
+
+    notes_me : r.snapshot.me ≡ r.task.me
+    notes_me = (place_of value publics tasks agree limits team w next known known_next (Take b a) step b r step.there).1
+
+    notes : AreNotesOf (length w.agents) r.task.me r.snapshot
+    notes = known.in_runs.sound.notes r (ap (agent_at w) me ∙ step.there)
 
     is_a : IsOf (length tasks) a
     is_a = is_sender value publics tasks team w known.team b a next step
 
     -- a state
-    state_comes : (m : State) → Reading (AState m) → took_message (value step.agent.task) step.agent a (AState m) ≡ Ok step.step → ComesTo publics tasks step.step.out next
-    state_comes m read took =
-        let r = step.agent in
-        let same = state_taken (value r.task) r a m step.step took in
+    state_comes : (m : State) → Reading (AState m) → without_messages (with_state (value r.task) r a m) ≡ step.step → Comes
+    state_comes m read same =
         let size = (team_numbers publics tasks team w known.team).size in
         let few = team.agents in
         let agents = notes.agents in
@@ -152,15 +134,14 @@ module _ (value : AgentTask → Numbers → Numbers → Option ℕ) (publics : �
         ap verdict (state_snapshot (value r.task) r a m) ∙ state_verdict r.snapshot a (m.g + m.h) notes.marked (omega arith) low (omega arith) in
         let calm = state_calm (value r.task) r a m in
         calm_comes value publics tasks agree limits team w next known known_next (Take b a) step room
-        (subst (IsCalm r) same calm)
         (λ first. subst (λ (s : Step). IsSameVerdict r s.after) same (record {
           verdict = other_verdict r (with_state (value r.task) r a m) calm.task verdict_same;
           number = ap (λ (s : Notes). s.number) (state_snapshot (value r.task) r a m) ∙ counted_number r.snapshot a (m.g + m.h);
         }))
-        (ends_left value publics tasks team w known.team b a next step (AState m) read refl)
         stage old
         (λ deciding. subst (λ (s : Step). s.after.goal ≡ r.goal) same
         (state_goal (value r.task) r a m (place_of value publics tasks agree limits team w next known known_next (Take b a) step b r step.there).0).goal)
+        (subst (IsCalm r) same calm) (ends_left value publics tasks team w known.team b a next step (AState m) read refl)
 
     -- no marker is under way once a verdict is given
     no_marker : (number : ℕ) → Reading (Marker number) → (first : AgentRecord) → agent_at w 1 ≡ Some first → is_deciding (given_verdict first) ≡ true → ⊥
@@ -172,7 +153,7 @@ module _ (value : AgentTask → Numbers → Numbers → Option ℕ) (publics : �
         sender_me : sender.0.task.me ≡ a
         sender_me = me_before value publics tasks team w known.team (Take b a) next step a sender.0 sender.1
 
-        two : AreTwo w sender.0 step.agent
+        two : AreTwo w sender.0 r
         two = record {
           one = ap (agent_at w) sender_me ∙ sender.1;
           other = ap (agent_at w) me ∙ step.there;
@@ -185,51 +166,74 @@ module _ (value : AgentTask → Numbers → Numbers → Option ℕ) (publics : �
         by : (o : Option Verdict) → given_verdict first ≡ o → is_deciding o ≡ true → ⊥
         by None given test = false≢true test
         by (Some v) given test =
-            let none = (verdict_is_over publics tasks team w known.team known.in_runs.sound first v there given).no_marker sender.0 step.agent two in
+            let none = (verdict_is_over publics tasks team w known.team known.in_runs.sound first v there given).no_marker sender.0 r two in
             let here : markers publics w a b ≡ [] = (λ k. markers publics w (sym sender_me k) (sym me k)) ∙ none in
             no_item number (filter_map marker_of (left value publics tasks team w known.team (Take b a) next step a b))
             (sym (ap (filter_map marker_of) (taken_first value publics tasks team w known.team b a next step (Marker number) read)) ∙ here)
 
-    marker_comes : (number : ℕ) → Reading (Marker number) → took_message (value step.agent.task) step.agent a (Marker number) ≡ Ok step.step → ComesTo publics tasks step.step.out next
-    marker_comes number read took = by (cases_eq step.agent.task.me 1)
-      where
-        r : AgentRecord
-        r = step.agent
+    -- agent 1 gives its verdict by other notes, while its snapshot is under way
+    gives : (m : Message) → is_of_end m ≡ false → Reading m → (new : Notes) → r.snapshot.me ≡ 1 → is_under_way r.snapshot ≡ true
+        → judged (record r { snapshot = new }) ≡ step.step → Comes
+    gives m other read new first on same =
+        judging (Take b a) step room (gives_over r new step.step first (sym notes_me ∙ first) on same)
+        (ends_left value publics tasks team w known.team b a next step m read other) stage old
 
-        good : (is_strange_marker step.agent.snapshot a number ≡ false) × (marked step.agent a number ≡ step.step)
-        good = good_step (is_strange_marker step.agent.snapshot a number) StrangeMarker (marked step.agent a number) step.step took
+    -- another agent does nothing for the end
+    calm_marker : (number : ℕ) → Reading (Marker number) → r.task.me ≢ 1 → IsCalm r step.step → Comes
+    calm_marker number read other calm =
+        calm_comes value publics tasks agree limits team w next known known_next (Take b a) step room (λ first. absurd (other (me ∙ first)))
+        stage old (λ deciding. absurd (no_marker number read old.first old.there deciding)) calm
+        (ends_left value publics tasks team w known.team b a next step (Marker number) read refl)
 
-        by : (step.agent.task.me ≡ 1) ⊎ (step.agent.task.me ≡ 1 → ⊥) → ComesTo publics tasks step.step.out next
-        by (inl first) =
-            judging (Take b a) step room (subst (IsJudged step.agent) good.1 (marked_judged step.agent a number first notes_me good.0))
-            (ends_left value publics tasks team w known.team b a next step (Marker number) read refl) stage old
-        by (inr other) =
-            calm_comes value publics tasks agree limits team w next known known_next (Take b a) step room
-            (subst (IsCalm step.agent) good.1 (marked_calm step.agent a number other))
-            (λ first. absurd (other (me ∙ first)))
-            (ends_left value publics tasks team w known.team b a next step (Marker number) read refl)
-            stage old (λ deciding. absurd (no_marker number read old.first old.there deciding))
+    abbrev Takes : Message → Type 0
+    Takes m = took_message (value r.task) r a m ≡ Ok step.step
 
-    message_comes : (m : Message) → Reading m → took_message (value step.agent.task) step.agent a m ≡ Ok step.step → ComesTo publics tasks step.step.out next
-    message_comes (AState m) read took = state_comes m read took
-    message_comes (Marker number) read took = marker_comes number read took
-    message_comes (Report found) read took =
-        let r = step.agent in
-        let good = good_step (is_strange_report r.snapshot a found) StrangeReport (judged (record r { snapshot = after_report r.snapshot a found })) step.step took in
-        judging (Take b a) step room (subst (IsJudged r) good.1 (report_judged r a found notes_me good.0))
-        (ends_left value publics tasks team w known.team b a next step (Report found) read refl) stage old
-    message_comes (Pick number) read took = pick_comes value publics tasks agree limits team w next known known_next b a step room stage old number read took
-    message_comes (Trace sent back) read took = trace_comes value publics tasks agree limits team w next known known_next b a step room stage old sent back read took
-    message_comes (Length plan) read took = length_comes value publics tasks agree limits team w next known known_next b a step room stage old plan read took
-    message_comes (Done kind) read took = done_comes value publics tasks agree limits team w next known known_next b a step room stage old kind read took
+    end_taken : (m : Message) → is_of_end m ≡ true → Reading m → Takes m → Comes
+    end_taken m is_end read took = end_comes value publics tasks agree limits team w next known known_next b a step room stage m is_end old read took
 
-    take_comes : ComesTo publics tasks step.step.out next
+    take_comes : Comes
     take_comes =
-        let t = taking (value step.agent.task) step.agent a (taken w (Take b a)) step.step step.local in
-        message_comes t.message t.reads t.took
+        let t = taking (value r.task) r a (taken w (Take b a)) step.step step.local in
+        message_holds (value r.task) r a (λ m s. s ≡ step.step → Reading m → Takes m → Comes) (record {
+          state = λ m given right same read took. state_comes m read same;
+          on = λ number goes same read took.
+              let notes = with_marker r.snapshot a in
+              let new : AgentRecord = record r { snapshot = notes } in
+              elim (cases_eq r.task.me 1) [
+                | inl first ↦
+                    gives (Marker number) refl read notes (notes_me ∙ first) goes.on
+                    (sym (λ j. if eq-eqb r.task.me 1 first j then judged new else reported new) ∙ same)
+                | inr other ↦ calm_marker number read other (subst (IsCalm r) same (noted_calm r notes r.noted r.goal other))
+              ];
+          begins = λ number begins same read took.
+              let new = with_marker (begun r.snapshot number (findings r)) a in
+              let other = λ (first : r.task.me ≡ 1). begins.other (notes_me ∙ first) in
+              let calm = noted_calm r new (length r.search.kept.entries) (goal_entry r.search.kept) other in
+              calm_marker number read other (subst (IsCalm r) same (told_calm r number (judged_or_reported (with_notes new r)) calm));
+          report = λ found good same read took.
+              let fair = report_fair r.snapshot a found good in
+              gives (Report found) refl read (after_report r.snapshot a found) fair.0 fair.1 same;
+          pick = λ number good same. end_taken (Pick number) refl;
+          trace = λ sent back entry there good same. end_taken (Trace sent back) refl;
+          length = λ plan good same. end_taken (Length plan) refl;
+          done = λ kind first same. end_taken (Done kind) refl;
+        }) t.message step.step t.took refl t.reads t.took
 
   pub event_comes : (event : Event) (step : IsStepOf value w event next) → All (λ x. HasRoom x.message) step.step.out → (stage : Stage) → IsAt publics w stage
       → ComesTo publics tasks step.step.out next
-  event_comes (Expand agent) step room stage old = expansion_comes agent step room stage old
+  event_comes (Expand agent) step room stage old =
+      let r = step.agent in
+      let made = expanded r.task (value r.task) r.search in
+      let same = same_step (with_search r made) step.step step.local in
+      calm_comes value publics tasks agree limits team w next known known_next (Expand agent) step room
+      (λ first. subst (λ (s : Step). IsSameVerdict r s.after) same (record { verdict = refl; number = refl }))
+      stage old (λ deciding. subst (λ (s : Step). s.after.goal ≡ r.goal) same refl)
+      (subst (IsCalm r) same (expansion_calm r made))
+      (λ i j is_i is_j. ap (filter is_of_end) (sym (messages_before value publics tasks team w known.team (Expand agent) next step i j)))
   event_comes (Take b a) step room stage old = take_comes b a step room stage old
-  event_comes Start step room stage old = start_comes step room stage old
+  event_comes Start step room stage old =
+      let r = step.agent in
+      let same = same_step (started r) step.step step.local in
+      judging Start step room (subst (IsJudged r) same (start_judged r (and_parts (is_going r.ending) (may_start r) step.may).1))
+      (λ i j is_i is_j. ap (filter is_of_end) (sym (messages_before value publics tasks team w known.team Start next step i j)))
+      stage old

@@ -1,36 +1,30 @@
 -- No report is under way to any agent but agent 1.
-use Rattle.std.proofs.Common.{◌≡◌, ◌≢◌, ℕ, Bool, true, false, eqb, ◌+◌, List, [], ◌∷◌, ◌++◌, length, Option, Some, None, refl, sym, ap, subst, ◌∙◌, ◌⊎◌, inl, inr}
-use Rattle.std.specs.Prelude.{Ok, ◌==◌, if◌then◌else◌}
+use Rattle.std.proofs.Common.{◌≡◌, ◌≢◌, ℕ, Bool, true, false, eqb, List, [], ◌∷◌, ◌++◌, length, Option, Some, None, refl, sym, ap, subst, ◌∙◌, ◌⊎◌, inl, inr}
+use Rattle.std.specs.Prelude.{Ok, ◌==◌}
 use Rattle.std.specs.List.{filter_map}
 use Rattle.std.proofs.lemmas.Bool.{eqb-false, eqb-true}
-use Rattle.std.proofs.lemmas.Option.{same_Some}
 use Rattle.mp_sets.specs.Numbers.{Numbers}
 use Rattle.mp_task.specs.AgentTask.{AgentTask}
 use Rattle.mp_messages.specs.declared.history.Event.{Event}
 use Rattle.mp_messages.specs.declared.history.Event.TheVariants.{Expand, Take, Start}
 use Rattle.mp_messages.specs.declared.message.Findings.{Findings}
 use Rattle.mp_messages.specs.declared.message.Message.{Message}
-use Rattle.mp_messages.specs.declared.message.Message.TheVariants.{State as AState, Marker, Report, Pick, Trace, Length, Done}
+use Rattle.mp_messages.specs.declared.message.Message.TheVariants.{Marker, Report, Pick, Trace, Length, Done}
 use Rattle.mp_search.specs.Expansion.{expanded}
-use Rattle.mp_snapshot.specs.Notes.{Notes}
-use Rattle.mp_snapshot.specs.Rules.{after_marker, begun, is_strange_marker, is_under_way, is_whole, own}
+use Rattle.mp_snapshot.specs.Rules.{own}
 use Rattle.mp_machine.specs.declared.event.Local.{Local}
-use Rattle.mp_machine.specs.declared.event.Local.TheVariants as locals
-use Rattle.mp_machine.specs.declared.refusal.BadKind.TheVariants.{StrangeMarker}
 use Rattle.mp_machine.specs.AgentRecord.{AgentRecord}
-use Rattle.mp_machine.specs.LocalStep.{local, with_search}
-use Rattle.mp_machine.specs.Outgoing.{Outgoing, Step, after_sending, others, to_each, to_one, to_others, without_messages}
-use Rattle.mp_machine.specs.Snapshots.{findings, judged, judged_or_reported, marked, reported, started, with_notes}
-use Rattle.mp_machine.specs.Taking.{took_message}
+use Rattle.mp_machine.specs.LocalStep.{local}
+use Rattle.mp_machine.specs.Outgoing.{Outgoing, Step, others, to_each, to_one, to_others}
 use Rattle.mp_world.specs.Events.{agent_of, local_of, taken}
 use Rattle.mp_world.specs.Steps.{IsStepOf}
 use Rattle.mp_world.specs.World.{IsTeamWorld, World}
+use Rattle.mp_world.proofs.LocalCases.{StepCases, each_local}
 use Rattle.mp_team_snapshots.specs.Messages.{report_of, reports}
 use Rattle.mp_team_snapshots.specs.Team.{IsTeamOf, SendsFitting}
 use Rattle.mp_team_snapshots.proofs.Changes.{left, messages_before, reports_from_it, reports_from_others}
-use Rattle.mp_team_snapshots.proofs.Effects.{Effect, good_step, same_step, took_effect}
 use Rattle.mp_team_snapshots.proofs.Protocol.{IsOf, pair}
-use Rattle.mp_team_snapshots.proofs.Quiet.{expansion_quiet, judged_quiet}
+use Rattle.mp_team_snapshots.proofs.Quiet.{expansion_quiet}
 use Rattle.mp_team_snapshots.proofs.Sendings.{reports_to, reports_to-append}
 use Rattle.mp_team_snapshots.proofs.TakingFirst.{left_others, taken_first}
 use Rattle.mp_team_states.proofs.WorldsGrow.{IsTaking, taking}
@@ -46,65 +40,41 @@ one_report found j other = by (1 == j) refl
     by true test = absurd (other (sym (eqb-true 1 j test)))
     by false test = rw test refl
 
-each_marker : (number : ℕ) (agents : List ℕ) (j : ℕ) → reports_to j (to_each agents (Marker number)) ≡ []
-each_marker number [] j = refl
-each_marker number (agent ∷ agents) j = by (agent == j) refl (each_marker number agents j)
+no_report : (m : Message) → report_of m ≡ None → (agents : List ℕ) (j : ℕ) → reports_to j (to_each agents m) ≡ []
+no_report m none [] j = refl
+no_report m none (agent ∷ agents) j = by (agent == j) refl (no_report m none agents j)
   where
-    by : (b : Bool) → (agent == j) ≡ b → reports_to j (to_each agents (Marker number)) ≡ [] → reports_to j (to_each (agent ∷ agents) (Marker number)) ≡ []
-    by true test rest = rw test rest
+    by : (b : Bool) → (agent == j) ≡ b → reports_to j (to_each agents m) ≡ [] → reports_to j (to_each (agent ∷ agents) m) ≡ []
+    by true test rest = rw (test, none) rest
     by false test rest = rw test rest
 
-behind_markers : (number : ℕ) (agents : List ℕ) (out : List Outgoing) → TellsFirst out → TellsFirst (to_each agents (Marker number) ++ out)
-behind_markers number agents out tells j other =
-    reports_to-append j (to_each agents (Marker number)) out ∙ ap (λ (rs : List Findings). rs ++ reports_to j out) (each_marker number agents j) ∙ tells j other
+abbrev Tells : AgentRecord → Step → Type 0
+Tells r s = TellsFirst s.out
 
-either_tells : (r : AgentRecord) → TellsFirst (judged_or_reported r).out
-either_tells r j other = by (r.task.me == 1)
-  where
-    told : (b : Bool) → reports_to j (if b then (record { out = to_one 1 (Report (own r.snapshot)); after = r }) else without_messages r).out ≡ []
-    told true = one_report (own r.snapshot) j other
-    told false = refl
+telling : StepCases Tells
+telling = record {
+  acts = λ r. record {
+    silent = λ j other. refl;
+    root = λ entry back length is j other. no_report (Length length) refl (others r.task.me r.task.agents) j;
+    hop = λ entry back agent sent more is j other. no_report (Trace sent more) refl (agent ∷ []) j;
+    pick = λ agent cost given away j other. no_report (Pick r.snapshot.number) refl (agent ∷ []) j;
+    ended = λ v kind given j other. no_report (Done kind) refl (others r.task.me r.task.agents) j;
+  };
+  report = λ r. one_report (own r.snapshot);
+  notes = λ r new s tells. tells;
+  begins = λ r new number s tells j other.
+      reports_to-append j (to_others r.task (Marker number)) s.out
+      ∙ ap (λ (rs : List Findings). rs ++ reports_to j s.out) (no_report (Marker number) refl (others r.task.me r.task.agents) j)
+      ∙ tells j other;
+  picked = λ r s tells. tells;
+  told = λ r ending share j other. refl;
+}
 
-    by : (b : Bool) → reports_to j (if b then judged r else reported r).out ≡ []
-    by true = (judged_quiet r).silent.reports j
-    by false = told (is_whole r.snapshot)
-
-marked_tells : (r : AgentRecord) (from number : ℕ) → TellsFirst (marked r from number).out
-marked_tells r from number j other = by (is_under_way r.snapshot)
-  where
-    notes : Notes
-    notes = after_marker r.snapshot from number (findings r)
-
-    by : (b : Bool) → reports_to j (if b then judged_or_reported (record r { snapshot = notes }) else after_sending (to_others r.task (Marker number)) (judged_or_reported (with_notes notes r))).out ≡ []
-    by true = either_tells (record r { snapshot = notes }) j other
-    by false =
-        behind_markers number (others r.task.me r.task.agents) (judged_or_reported (with_notes notes r)).out (either_tells (with_notes notes r)) j other
-
-module _ (value : Numbers → Numbers → Option ℕ) (r : AgentRecord) (s : Step) where
-  silent_tells : (from : ℕ) (m : Message) → Effect r from m s → took_message value r from m ≡ Ok s → TellsFirst s.out
-  silent_tells from (AState m) effect is j other = effect.silent.reports j
-  silent_tells from (Marker number) effect is j other =
-      let good = good_step (is_strange_marker r.snapshot from number) StrangeMarker (marked r from number) s is in
-      subst (λ (s : Step). reports_to j s.out ≡ []) good.1 (marked_tells r from number j other)
-  silent_tells from (Report found) effect is j other = effect.silent.reports j
-  silent_tells from (Pick number) effect is j other = effect.silent.reports j
-  silent_tells from (Trace sent back) effect is j other = effect.silent.reports j
-  silent_tells from (Length plan) effect is j other = effect.silent.reports j
-  silent_tells from (Done kind) effect is j other = effect.silent.reports j
-
-  local_tells : (event : Local) (bytes : List ℕ) → local value r event bytes ≡ Ok s → TellsFirst s.out
-  local_tells locals.Expand bytes is j other =
-      let made = expanded r.task value r.search in
-      subst (λ (s : Step). reports_to j s.out ≡ []) (same_step (with_search r made) s is) ((expansion_quiet r made).silent.reports j)
-  local_tells (locals.Take from) bytes is j other =
-      let it = took_effect value r from bytes s is in
-      let t = taking value r from bytes s is in
-      let same : it.message ≡ t.message = same_Some it.message t.message (sym it.read ∙ t.reads) in
-      silent_tells from t.message (subst (λ (m : Message). Effect r from m s) same it.effect) t.took j other
-  local_tells locals.Start bytes is j other =
-      let after = with_notes (begun r.snapshot (r.snapshot.number + 1) (findings r)) r in
-      subst (λ (s : Step). reports_to j s.out ≡ []) (same_step (started r) s is)
-      (behind_markers (r.snapshot.number + 1) (others r.task.me r.task.agents) (judged after).out (λ j other. (judged_quiet after).silent.reports j) j other)
+local_tells : (value : Numbers → Numbers → Option ℕ) (r : AgentRecord) (s : Step) (event : Local) (bytes : List ℕ)
+    → local value r event bytes ≡ Ok s → TellsFirst s.out
+local_tells value r s event bytes is =
+    each_local Tells telling value r event bytes s (λ j other. (expansion_quiet r (expanded r.task value r.search)).silent.reports j)
+    (λ from x j other. refl) is
 
 -- ---- in worlds
 

@@ -10,7 +10,9 @@ use Rattle.mp_task.specs.AgentTask.{AgentTask}
 use Rattle.mp_task.specs.Limits.{IsWithinLimits}
 use Rattle.mp_task.specs.Plan.{TaskStep}
 use Rattle.mp_messages.specs.declared.history.Event.TheVariants.{Take}
+use Rattle.mp_messages.specs.declared.message.EndKind.{EndKind}
 use Rattle.mp_messages.specs.declared.message.Message.{Message}
+use Rattle.mp_messages.specs.declared.message.Message.TheVariants.{Done, Length, Pick, Trace}
 use Rattle.mp_messages.specs.Reading.{message_of}
 use Rattle.mp_snapshot.specs.Notes.{Notes}
 use Rattle.mp_snapshot.specs.Rules.{verdict}
@@ -32,6 +34,7 @@ use Rattle.mp_team_states.specs.Paths.{IsPath}
 use Rattle.mp_team_states.proofs.Reached.{path_stays}
 use Rattle.mp_team_states.proofs.WorldsGrow.{step_grows}
 use Rattle.mp_team_verdicts.specs.Ending.{HasWalked, IsAt, IsProved, Stage, due, end_messages, is_of_end, notes}
+use Rattle.mp_team_verdicts.specs.Ending.Stage.{over, picking, searching, walking, without_plan}
 use Rattle.mp_team_verdicts.proofs.Calmly.{IsSameVerdict, first_same}
 use Rattle.mp_team_verdicts.proofs.EndMessages.{IsNoEnd, ends_to}
 use Rattle.mp_team_verdicts.proofs.Fitting.{AllFit, HasEndRoom, ends_next}
@@ -53,6 +56,33 @@ one_due false m taken_one rest is = absurd (let impossible : ⊥ = cc in impossi
 pub nothing_due : (m : Message) (rest : List Message) → [] ≡ m ∷ rest → ⊥
 nothing_due m rest is = cc
 
+-- The message that is due from one agent to another one, by stages. No other message is under way behind it.
+pub record DueCases (a b : ℕ) (rest : List Message) (Q : Stage → Message → Type 0) : Type 0 where
+  pub done : (kind : EndKind) → a ≡ 1 → rest ≡ [] → Q (without_plan kind) (Done kind)
+  pub pick : (agent number : ℕ) (plan : List TaskStep) → a ≡ 1 → agent ≡ b → rest ≡ [] → Q (picking agent number plan) (Pick number)
+  pub trace : (sender receiver sent : ℕ) (earlier later : List TaskStep) → a ≡ sender → receiver ≡ b → rest ≡ []
+      → Q (walking sender receiver sent earlier later) (Trace sent (length later))
+  pub length : (teller : ℕ) (plan : List TaskStep) → a ≡ teller → rest ≡ [] → Q (over teller plan) (Length (length plan))
+
+module _ (a b : ℕ) (going : Bool) (rest : List Message) (Q : Stage → Message → Type 0) (cases : DueCases a b rest Q) where
+  pub due_holds : (stage : Stage) (m : Message) → due stage a b going ≡ m ∷ rest → Q stage m
+  due_holds searching m is = absurd (nothing_due m rest is)
+  due_holds (without_plan kind) m is =
+      let d = one_due (a == 1 && going) (Done kind) m rest is in
+      subst (Q (without_plan kind)) d.same (cases.done kind (eqb-true a 1 (and_parts (a == 1) going d.so).0) d.none)
+  due_holds (picking agent number plan) m is =
+      let d = one_due (a == 1 && agent == b) (Pick number) m rest is in
+      let parts = and_parts (a == 1) (agent == b) d.so in
+      subst (Q (picking agent number plan)) d.same (cases.pick agent number plan (eqb-true a 1 parts.0) (eqb-true agent b parts.1) d.none)
+  due_holds (walking sender receiver sent earlier later) m is =
+      let d = one_due (a == sender && receiver == b) (Trace sent (length later)) m rest is in
+      let parts = and_parts (a == sender) (receiver == b) d.so in
+      subst (Q (walking sender receiver sent earlier later)) d.same
+      (cases.trace sender receiver sent earlier later (eqb-true a sender parts.0) (eqb-true receiver b parts.1) d.none)
+  due_holds (over teller plan) m is =
+      let d = one_due (a == teller && going) (Length (length plan)) m rest is in
+      subst (Q (over teller plan)) d.same (cases.length teller plan (eqb-true a teller (and_parts (a == teller) going d.so).0) d.none)
+
 -- nothing is due elsewhere
 elsewhere : (sender receiver i j : ℕ) → (i ≢ sender) ⊎ (j ≢ receiver) → (i == sender && receiver == j) ≡ false
 elsewhere sender receiver i j (inl other) =
@@ -70,7 +100,7 @@ elsewhere sender receiver i j (inr other) =
 module _ (value : AgentTask → Numbers → Numbers → Option ℕ) (publics : ℕ) (tasks : List AgentTask) (agree : Agree tasks) (limits : All IsWithinLimits tasks)
     (team : IsTeamOf publics tasks) (w next : World) (known : IsKnownWorld publics tasks w) (known_next : IsKnownWorld publics tasks next) (b a : ℕ)
     (step : IsStepOf value w (Take b a) next) (room : All (λ x. HasRoom x.message) step.step.out) (stage : Stage) (old : IsAt publics w stage) where
-  abbrev pub rest : ℕ → ℕ → List Message
+  abbrev rest : ℕ → ℕ → List Message
   rest i j = filter is_of_end (left value publics tasks team w known.team (Take b a) next step i j)
 
   abbrev Reads : Message → Type 0
