@@ -17,7 +17,7 @@ use std::alloc::Global;
 
 /// The heuristic LM-cut (Helmert and Domshlak 2009): what the cuts of its rounds cost together, each round at the costs
 /// that the one before has left. None where a goal cannot be made true. It keeps its arrays from call to call, so that
-/// a value takes memory only where a queue or a list grows, and the values that were asked for last.
+/// a value takes memory only where a queue or a list grows, and the values that were asked for.
 pub struct Cut {
     problem: Relaxed,
     costs: Vec<u64>,
@@ -30,7 +30,7 @@ pub struct Cut {
     ghost added: { AreAdders problem.operators problem.facts adders.items },
     ghost counted: { search.operators ≡ length problem.operators },
     ghost sized: { length search.numbers ≡ problem.facts },
-    ghost roomy: { length memo.places.items ≡ 8192 },
+    ghost roomy: { length memo.places.items ≡ 16384 },
     ghost right: { All (IsRight (lmcut_in (repriced costs.items problem))) memo.slots.items } by { Prim.hlevel props },
 }
 
@@ -102,14 +102,14 @@ fn recall_or_estimate(
     requires adders { AreAdders problem.old.operators problem.old.facts adders.now }
     requires publics { publics.now.size ≡ problem.old.publics }
     requires privates { problem.old.publics + privates.now.size ≡ problem.old.facts }
-    requires roomy { vec_len memo.old.places ≡ 8192 }
+    requires roomy { vec_len memo.old.places ≡ 16384 }
     requires right { All (IsRight (lmcut_in (repriced costs.now problem.old))) memo.old.slots.items }
     ensures found { IfOk result (λ found. found
         ≡ lmcut_in (repriced costs.now problem.old) publics.now.members privates.now.members) }
     ensures kept { costless problem.new ≡ costless problem.old }
     ensures counted { search.new.operators ≡ search.old.operators }
     ensures sized { length search.new.numbers ≡ length search.old.numbers }
-    ensures roomy { vec_len memo.new.places ≡ 8192 }
+    ensures roomy { vec_len memo.new.places ≡ 16384 }
     ensures right { All (IsRight (lmcut_in (repriced costs.now problem.old))) memo.new.slots.items }
 {
     let place = place_of(publics, privates, memo.places.len());

@@ -111,6 +111,7 @@ impl Places {
     }
 
     /// Takes out an entry of the least number.
+    #[inline(always)]
     pub(crate) fn pop(&mut self) -> Option<(u64, u32)>
         ensures entry { IfSome result (λ e. IsPermutation self.old (key e.0 e.1 ∷ self.new)) }
         ensures least { IfSome result (λ e. AreFrom e.0 self.old) }
