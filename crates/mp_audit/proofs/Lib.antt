@@ -24,12 +24,17 @@ pub mod NotedLemmas
 pub mod PassingLemmas
 -- the first of what items give, one after the other
 pub mod FirstLemmas
+-- lists one behind another, and entries in them
+pub mod FlatLemmas
+pub mod FlatBoundLemmas
 -- lists of facts that fit the tasks
 pub mod FitLemmas
 -- sizes of the sets of joint states
 pub mod SizeLemmas
 -- joint states as sets that have sizes
 pub mod StateLemmas
+-- lists that are written over from their front
+pub mod FillLemmas
 -- whether the facts of lists are the members of sets
 pub mod SameLemmas
 -- entries found by the places of their states

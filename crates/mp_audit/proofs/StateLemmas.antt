@@ -3,13 +3,12 @@ use Rattle.std.proofs.Common.{◌≡◌, ℕ, ◌-◌, List, [], ◌∷◌, map,
 use Rattle.std.specs.Prelude.{slice_set}
 use Rattle.mp_sets.specs.Numbers.{Numbers, SizedSet}
 use Rattle.mp_task.specs.AgentTask.{AgentTask}
-use Rattle.mp_task.specs.Plan.{JointState}
 use Rattle.mp_reach.specs.LeadsOn.{Known}
 use Rattle.mp_audit.specs.declared.certificate.Bound.{Bound}
 use Rattle.mp_audit.specs.declared.state.JointSets.{JointSets}
 use Rattle.mp_audit.specs.Audited.{known_of, set_of}
 use Rattle.mp_audit.specs.Fits.{PrivatesFit}
-use Rattle.mp_audit.specs.States.{joint_of, known_by, members_of, sized, sized_sets, sizes_of, state_for, HasSizes, IsBeside}
+use Rattle.mp_audit.specs.States.{known_by, members_of, sized, sized_sets, sizes_of, state_for, HasSizes, IsBeside}
 
 -- sets of the same sizes with the same members are the same
 same_sized : (xs ys : List SizedSet) → sizes_of xs ≡ sizes_of ys → members_of xs ≡ members_of ys → xs ≡ ys
@@ -22,34 +21,21 @@ same_sized (x ∷ xs) (y ∷ ys) sizes members =
     let later = same_sized xs ys (cc) (cc) in
     λ j. record { size = size j; members = set j } ∷ later j
 
--- two states of one team with the same facts have the same sets
-same_publics : (tasks : List AgentTask) (x y : JointSets) → HasSizes tasks x → HasSizes tasks y → joint_of x ≡ joint_of y → x.publics ≡ y.publics
-same_publics tasks x y x_sizes y_sizes e =
-    let size = x_sizes.publics ∙ sym y_sizes.publics in
-    let members : x.publics.members ≡ y.publics.members = ap (λ (s : JointState). s.publics) e in
-    λ j. record { size = size j; members = members j }
+-- a copy of a state differs from it in nothing
+pub beside_copy : (t : AgentTask) (x y : JointSets) → y.publics ≡ x.publics → y.privates.items ≡ x.privates.items → IsBeside t x y
+beside_copy t x y publics privates = record {
+  publics = ap (λ (s : SizedSet). s.size) publics;
+  privates = ap sizes_of privates;
+  others = λ s. ap (λ (xs : List SizedSet). slice_set xs (t.me - 1) s) privates;
+}
 
-same_privates : (tasks : List AgentTask) (x y : JointSets) → HasSizes tasks x → HasSizes tasks y → joint_of x ≡ joint_of y → x.privates.items ≡ y.privates.items
-same_privates tasks x y x_sizes y_sizes e =
-    same_sized x.privates.items y.privates.items (x_sizes.privates ∙ sym y_sizes.privates) (ap (λ (s : JointState). s.privates) e)
-
--- so either differs from the other in nothing
-pub beside_same : (tasks : List AgentTask) (t : AgentTask) (x y : JointSets) → HasSizes tasks x → HasSizes tasks y → joint_of x ≡ joint_of y → IsBeside t x y
-beside_same tasks t x y x_sizes y_sizes e =
-    let sets = same_privates tasks x y x_sizes y_sizes e in
-    record {
-      publics = y_sizes.publics ∙ sym x_sizes.publics;
-      privates = y_sizes.privates ∙ sym x_sizes.privates;
-      others = λ s. ap (λ (xs : List SizedSet). slice_set xs (t.me - 1) s) (sym sets);
-    }
-
-sized_members : (tasks : List AgentTask) (lists : List (List ℕ)) → PrivatesFit tasks lists → members_of (sized_sets tasks lists) ≡ map set_of lists
+pub sized_members : (tasks : List AgentTask) (lists : List (List ℕ)) → PrivatesFit tasks lists → members_of (sized_sets tasks lists) ≡ map set_of lists
 sized_members [] [] fits = refl
 sized_members [] (list ∷ lists) fits = absurd fits
 sized_members (t ∷ ts) [] fits = absurd fits
 sized_members (t ∷ ts) (list ∷ lists) fits = ap (λ (later : List Numbers). set_of list ∷ later) (sized_members ts lists fits.1)
 
-sized_sizes : (tasks : List AgentTask) (lists : List (List ℕ)) → PrivatesFit tasks lists → sizes_of (sized_sets tasks lists) ≡ map (λ t. t.privates) tasks
+pub sized_sizes : (tasks : List AgentTask) (lists : List (List ℕ)) → PrivatesFit tasks lists → sizes_of (sized_sets tasks lists) ≡ map (λ t. t.privates) tasks
 sized_sizes [] [] fits = refl
 sized_sizes [] (list ∷ lists) fits = absurd fits
 sized_sizes (t ∷ ts) [] fits = absurd fits

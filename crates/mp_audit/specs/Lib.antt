@@ -1,5 +1,9 @@
 -- what a certificate says, and when it shows that no plan is cheaper
 pub mod Audited
+-- lists and entries one behind another
+pub mod Flat
+-- certificates whose entries take little memory
+pub mod FlatCertificates
 -- which certificates may be audited
 pub mod Fits
 -- what an audit finds

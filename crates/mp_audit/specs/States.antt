@@ -1,5 +1,6 @@
 -- Joint states as sets that have sizes.
 use Rattle.std.specs.Prelude.{◌≡◌, ℕ, ◌-◌, List, [], ◌∷◌, Some, map, slice_get, slice_set, option_map}
+use Rattle.std.specs.FinSet as set
 use Rattle.mp_sets.specs.Numbers.{Numbers, SizedSet, after}
 use Rattle.mp_task.specs.AgentTask.{AgentTask}
 use Rattle.mp_task.specs.declared.act.Act.{Act}
@@ -35,6 +36,15 @@ pub record HasSizes (tasks : List AgentTask) (x : JointSets) : Type 0 where
 pub record HasSizesOf (t : AgentTask) (x : JointSets) : Type 0 where
   pub publics : x.publics.size ≡ t.publics
   pub mine : option_map (λ s. s.size) (slice_get x.privates.items (t.me - 1)) ≡ Some t.privates
+
+-- no private fact of a task's agent
+abbrev pub no_privates : AgentTask → SizedSet
+no_privates t = record { size = t.privates; members = set.empty }
+
+-- no fact is true in it
+pub record HasNoFacts (tasks : List AgentTask) (x : JointSets) : Type 0 where
+  pub publics : x.publics ≡ record { size = publics_of tasks; members = set.empty }
+  pub privates : x.privates.items ≡ map no_privates tasks
 
 -- the sets of lists of private facts, with the sizes that the tasks say
 abbrev pub sized_sets : List AgentTask → List (List ℕ) → List SizedSet

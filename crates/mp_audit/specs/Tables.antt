@@ -1,5 +1,6 @@
 -- What is worked out of a certificate before its entries are audited one by one.
-use Rattle.std.specs.Prelude.{◌≡◌, ℕ, List, [], Some, All, IfSome, length, slice_get}
+use Rattle.std.specs.Prelude.{◌≡◌, ℕ, List, [], Some, All, IfSome, length, map, slice_get}
+use Rattle.mp_sets.specs.Numbers.{SizedSet}
 use Rattle.mp_task.specs.AgentTask.{AgentTask}
 use Rattle.mp_task.specs.Agree.{Agree}
 use Rattle.mp_applicable.specs.Far.{IsFarIndexOf}
@@ -14,6 +15,7 @@ use Rattle.mp_audit.specs.declared.verdict.AuditVerdict.TheVariants.{Double}
 use Rattle.mp_audit.specs.Chains.{AreChained}
 use Rattle.mp_audit.specs.Failures.{doubles}
 use Rattle.mp_audit.specs.Fits.{BoundFits}
+use Rattle.mp_audit.specs.States.{sizes_of}
 
 -- all entries are chained
 pub record AreAllChained (tasks : List AgentTask) (bounds : List Bound) (chains : Chains) : Type 0 where
@@ -35,10 +37,14 @@ pub record AreFindersOf (tasks : List AgentTask) (finders : List Finder) : Type 
   pub as_many : length finders ≡ length tasks
   pub each : (k : ℕ) → IfSome (slice_get finders k) (λ finder. (t : AgentTask) → slice_get tasks k ≡ Some t → IsFinderOf t finder)
 
+-- sets of numbers of actions, one for each task
+abbrev pub AreActionSets : List AgentTask → List SizedSet → Type 0
+AreActionSets tasks sets = sizes_of sets ≡ map (λ t. length t.acts) tasks
+
 -- all that is needed to audit entries one by one
 pub record IsReady (known : AuditData) : Type 0 where
   pub agree : Agree known.tasks.now
-  pub fits : All (BoundFits known.tasks.now) known.bounds.now
-  pub all : AreAllChained known.tasks.now known.bounds.now known.chains
-  pub once : doubles known.bounds.now ≡ []
+  pub fits : All (BoundFits known.tasks.now) known.bounds.now.entries
+  pub all : AreAllChained known.tasks.now known.bounds.now.entries known.chains
+  pub once : doubles known.bounds.now.entries ≡ []
   pub finders : AreFindersOf known.tasks.now known.finders.items

@@ -7,12 +7,15 @@ ghost use Rattle.mp_audit.specs.declared.verdict.AuditVerdict.TheVariants as ver
 ghost use Rattle.mp_audit.specs.Audited.{bound_of};
 ghost use Rattle.mp_audit.specs.Failures.{all_entry_failures, doubles, failure_if, low_starts, verdict_on};
 ghost use Rattle.mp_audit.specs.Fits.{BoundFits, CertificateFits};
+ghost use Rattle.mp_audit.specs.FlatCertificates.{certificate_of};
 ghost use Rattle.mp_audit.specs.States.{known_by, HasSizes};
 ghost use Rattle.mp_audit.specs.Tables.{AreAllChained, IsReady};
 
-use crate::certificate::{Bound, Certificate};
+use crate::certificate::Certificate;
 use crate::chains::Chains;
 use crate::entries::first_failing_entry;
+use crate::flat_bounds::{FlatBounds, FlatCertificate};
+use crate::flat_certificate::flat_of;
 use crate::lookup::{AuditData, bound_in, finders};
 use crate::state::{JointSets, start_state};
 use crate::table::{Table, table_of};
@@ -31,7 +34,7 @@ fn low_start(
     requires ready { IsReady known.now }
     requires sizes { HasSizes known.now.tasks.now start.now }
     ensures { result ≡ slice_get (failure_if
-        (nat_lt (bound_of known.now.bounds.now (known_by task.now.me start.now)) cost)
+        (nat_lt (bound_of known.now.bounds.now.entries (known_by task.now.me start.now)) cost)
         (verdicts.Start task.now.me)) 0 }
 {
     if bound_in(known, task.me, start) < cost {
@@ -48,7 +51,7 @@ fn first_low_start(
     cost: u64,
 ) -> Result<Option<AuditVerdict>, OutOfMemory>
     requires { IsReady known.now }
-    ensures { IfOk result (λ first. first ≡ slice_get (low_starts known.now.tasks.now known.now.bounds.now cost) 0) }
+    ensures { IfOk result (λ first. first ≡ slice_get (low_starts known.now.tasks.now known.now.bounds.now.entries cost) 0) }
 {
     let tasks = known.tasks;
     let start = start_state(alloc, tasks)?;
@@ -67,8 +70,8 @@ fn first_failure(
     cost: u64,
 ) -> Result<Option<AuditVerdict>, OutOfMemory>
     requires { IsReady known.now }
-    ensures { IfOk result (λ first. first ≡ slice_get (low_starts known.now.tasks.now known.now.bounds.now cost
-        ++ all_entry_failures known.now.tasks.now known.now.bounds.now) 0) }
+    ensures { IfOk result (λ first. first ≡ slice_get (low_starts known.now.tasks.now known.now.bounds.now.entries cost
+        ++ all_entry_failures known.now.tasks.now known.now.bounds.now.entries) 0) }
 {
     if let Some(failure) = first_low_start(alloc, known, cost)? {
         return Ok(Some(failure));
@@ -91,15 +94,15 @@ fn verdict_by(first: Option<AuditVerdict>) -> AuditVerdict
 fn audit_once(
     alloc: Global,
     tasks: &[Task],
-    bounds: &[Bound],
+    bounds: &FlatBounds,
     cost: u64,
     chains: Chains,
 ) -> Result<AuditVerdict, OutOfMemory>
     requires agree { Agree tasks.now }
-    requires fits { All (BoundFits tasks.now) bounds.now }
-    requires all { AreAllChained tasks.now bounds.now chains }
-    requires once { doubles bounds.now ≡ [] }
-    ensures { IfOk result (λ v. v ≡ verdict_on tasks.now (record { cost = cost; bounds = bounds.now })) }
+    requires fits { All (BoundFits tasks.now) bounds.now.entries }
+    requires all { AreAllChained tasks.now bounds.now.entries chains }
+    requires once { doubles bounds.now.entries ≡ [] }
+    ensures { IfOk result (λ v. v ≡ verdict_on tasks.now (record { cost = cost; bounds = bounds.now.entries })) }
 {
     let finders = finders(alloc, tasks)?;
     let known = AuditData {
@@ -116,17 +119,30 @@ fn audit_once(
 fn audit_bounds(
     alloc: Global,
     tasks: &[Task],
-    bounds: &[Bound],
+    bounds: &FlatBounds,
     cost: u64,
 ) -> Result<AuditVerdict, OutOfMemory>
     requires agree { Agree tasks.now }
-    requires fits { All (BoundFits tasks.now) bounds.now }
-    ensures { IfOk result (λ v. v ≡ verdict_on tasks.now (record { cost = cost; bounds = bounds.now })) }
+    requires fits { All (BoundFits tasks.now) bounds.now.entries }
+    ensures { IfOk result (λ v. v ≡ verdict_on tasks.now (record { cost = cost; bounds = bounds.now.entries })) }
 {
     match table_of(alloc, tasks, bounds)? {
         Table::Once(chains) => audit_once(alloc, tasks, bounds, cost, chains),
         Table::Double(entry) => Ok(AuditVerdict::Double(entry)),
     }
+}
+
+/// As `audit`, of a certificate whose entries take little memory.
+pub fn audit_flat(
+    alloc: Global,
+    tasks: &[Task],
+    certificate: &FlatCertificate,
+) -> Result<AuditVerdict, OutOfMemory>
+    requires agree { Agree tasks.now }
+    requires fits { CertificateFits tasks.now (certificate_of certificate.now) }
+    ensures { IfOk result (λ v. v ≡ verdict_on tasks.now (certificate_of certificate.now)) }
+{
+    audit_bounds(alloc, tasks, &certificate.bounds, certificate.cost)
 }
 
 /// What an audit finds of a certificate: the first of its failures, or that it holds where there is none. The tasks are
@@ -143,10 +159,6 @@ pub fn audit(
     requires fits { CertificateFits tasks.now certificate.now }
     ensures { IfOk result (λ v. v ≡ verdict_on tasks.now certificate.now) }
 {
-    audit_bounds(
-        alloc,
-        tasks,
-        certificate.bounds.as_slice(),
-        certificate.cost,
-    )
+    let flat = flat_of(alloc, tasks, certificate)?;
+    audit_flat(alloc, tasks, &flat)
 }

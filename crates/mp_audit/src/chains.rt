@@ -7,10 +7,10 @@ ghost use Rattle.mp_audit.specs.Chains.{place_in, AreChained, IsFound};
 ghost use Rattle.mp_audit.specs.Fits.{BoundFits};
 ghost use Rattle.mp_audit.specs.States.{known_by, sized, state_for, HasSizes};
 
-use crate::certificate::Bound;
+use crate::flat_bounds::FlatBounds;
 use crate::same_state::is_entry_of;
 use crate::state::JointSets;
-use mp_list::OutOfMemory;
+use mp_list::{OutOfMemory, to_u32};
 use mp_sets::{Agent, Bits};
 use mp_task::Task;
 use std::alloc::Global;
@@ -20,9 +20,9 @@ use std::hash::{FoldHasher, Hash, Hasher};
 #[derive(Drop)]
 pub(crate) struct Chains {
     /// For each place the number of its last entry, counted from 1, or 0 where it has none.
-    last: Vec<usize>,
+    last: Vec<u32>,
     /// For each entry the number of the one before it in its place, counted from 1, or 0 where it is the first there.
-    before: Vec<usize>,
+    before: Vec<u32>,
 }
 
 /// The place of a state in the search of an agent among so many: that of their hash.
@@ -40,7 +40,7 @@ fn place_of(agent: Agent, state: &JointSets, places: usize) -> usize
 }
 
 /// The number in a place.
-fn number_at(numbers: &[usize], place: usize) -> usize
+fn number_at(numbers: &[u32], place: usize) -> u32
     requires { place < length numbers.now }
     ensures { result ≡ slice_index numbers.now place }
 {
@@ -48,7 +48,7 @@ fn number_at(numbers: &[usize], place: usize) -> usize
 }
 
 /// Puts a number in a place.
-fn put(numbers: &mut Vec<usize>, place: usize, number: usize)
+fn put(numbers: &mut Vec<u32>, place: usize, number: u32)
     requires { place < vec_len numbers.old }
     ensures { numbers.new.items ≡ slice_set numbers.old.items place number }
 {
@@ -56,10 +56,10 @@ fn put(numbers: &mut Vec<usize>, place: usize, number: usize)
 }
 
 /// So many zeros. Refuses only for want of memory.
-fn zeros(alloc: Global, count: usize) -> Result<Vec<usize>, OutOfMemory>
+fn zeros(alloc: Global, count: usize) -> Result<Vec<u32>, OutOfMemory>
     ensures { IfOk result (λ numbers. numbers.items ≡ replicate count 0) }
 {
-    let numbers = vec![in alloc; 0usize; count]?;
+    let numbers = vec![in alloc; 0u32; count]?;
     Ok(numbers)
 }
 
@@ -78,15 +78,15 @@ pub(crate) fn no_chains(alloc: Global, entries: usize) -> Result<Chains, OutOfMe
 /// The entry that has a joint state in the search of an agent, by its place among the entries.
 pub(crate) fn find(
     tasks: &[Task],
-    bounds: &[Bound],
+    bounds: &FlatBounds,
     chains: &Chains,
     agent: Agent,
     state: &JointSets,
 ) -> Option<usize>
-    requires fits { All (BoundFits tasks.now) bounds.now }
-    requires chained { AreChained tasks.now bounds.now chains.now }
+    requires fits { All (BoundFits tasks.now) bounds.now.entries }
+    requires chained { AreChained tasks.now bounds.now.entries chains.now }
     requires sizes { HasSizes tasks.now state.now }
-    ensures { IsFound bounds.now (length chains.now.before.items) (known_by agent state.now) result }
+    ensures { IsFound bounds.now.entries (length chains.now.before.items) (known_by agent state.now) result }
 {
     let _ = tasks;
     let last = chains.last.as_slice();
@@ -94,8 +94,9 @@ pub(crate) fn find(
     let place = place_of(agent, state, last.len());
     let mut number = number_at(last, place);
     while number > 0 {
-        let at = number - 1;
-        if is_entry_of(&bounds[at], agent, state) {
+        let at = number as usize - 1;
+        let bound = bounds.entry(at);
+        if is_entry_of(&bound, agent, state) {
             return Some(at);
         }
         let earlier = number_at(before, at);
@@ -119,7 +120,7 @@ pub(crate) fn add(chains: &mut Chains, agent: Agent, state: &JointSets) -> Resul
     let place = place_of(agent, state, last.len());
     let earlier = number_at(last, place);
     chains.before.push(earlier)?;
-    let number = chains.before.len();
+    let number = to_u32(chains.before.len())?;
     put(&mut chains.last, place, number);
     Ok(())
 }

@@ -7,16 +7,16 @@ ghost use Rattle.mp_applicable.specs.Applicable.{is_applicable};
 ghost use Rattle.mp_applicable.specs.Far.{IsFarIndexOf};
 ghost use Rattle.mp_task.specs.declared.act.Act.{Act as ActParts};
 ghost use Rattle.mp_task.specs.Plan.{private_of};
+ghost use Rattle.mp_audit.specs.declared.certificate.Bound.{Bound as BoundParts};
 ghost use Rattle.mp_audit.specs.Audited.{state_of};
 ghost use Rattle.mp_audit.specs.Failures.{all_entry_failures, cheap_acts, cheap_steps, entry_failures};
-ghost use Rattle.mp_audit.specs.Fits.{BoundFits};
-ghost use Rattle.mp_audit.specs.States.{joint_of, HasSizes, HasSizesOf, IsBeside};
-ghost use Rattle.mp_audit.specs.Tables.{IsFinderOf, IsReady};
+ghost use Rattle.mp_audit.specs.States.{joint_of, HasNoFacts, HasSizes, HasSizesOf, IsBeside};
+ghost use Rattle.mp_audit.specs.Tables.{AreActionSets, IsFinderOf, IsReady};
 
-use crate::certificate::Bound;
+use crate::flat_bounds::FlatBound;
 use crate::leading::cheap_step;
 use crate::lookup::{AuditData, Finder};
-use crate::state::{JointSets, entry_state};
+use crate::state::{JointSets, copy_state, no_facts, set_to};
 use crate::successor::{has_goals, own};
 use crate::verdict::AuditVerdict;
 use mp_applicable::FarIndex;
@@ -25,24 +25,18 @@ use mp_sets::{Agent, Bits};
 use mp_task::{Act, Task};
 use std::alloc::Global;
 
-/// The own actions that may be applied in a joint state.
-fn found_actions(
-    alloc: Global,
-    task: &Task,
-    finder: &Finder,
-    state: &JointSets,
-) -> Result<Bits, OutOfMemory>
+/// Makes a set the numbers of the own actions that may be applied in a joint state.
+fn find_actions(task: &Task, finder: &Finder, state: &JointSets, found: &mut Bits)
     requires finder { IsFinderOf task.now finder.now }
     requires sizes { HasSizesOf task.now state.now }
-    ensures size { IfOk result (λ found. found.size ≡ length task.now.acts) }
-    ensures numbers { IfOk result (λ found. (k : ℕ) → set.contains found.members k
-        ≡ is_applicable task.now.acts state.now.publics.members (private_of (joint_of state.now) task.now.me) k) }
+    requires size { found.old.size ≡ length task.now.acts }
+    ensures size { found.new.size ≡ length task.now.acts }
+    ensures numbers { (k : ℕ) → set.contains found.new.members k
+        ≡ is_applicable task.now.acts state.now.publics.members (private_of (joint_of state.now) task.now.me) k }
 {
-    let mut found = Bits::new(alloc, task.acts.len() as u32)?;
     finder
         .actions
-        .find(task, &state.publics, own(task, state), &mut found);
-    Ok(found)
+        .find(task, &state.publics, own(task, state), found);
 }
 
 /// The action of a number.
@@ -60,7 +54,7 @@ fn cheap_action(
     task: &Task,
     far: &FarIndex,
     entry: u64,
-    bound: &Bound,
+    bound: &FlatBound<'_>,
     state: &JointSets,
     action: u32,
     reached: &mut JointSets,
@@ -75,7 +69,7 @@ fn cheap_action(
         (private_of (joint_of state.now) task.now.me) action ≡ true }
     requires beside { IsBeside task.now state.now reached.old }
     ensures first { (act : ActParts) → slice_get task.now.acts action ≡ Some act → result ≡ slice_get
-        (cheap_steps known.now.tasks.now known.now.bounds.now entry bound.now task.now action act) 0 }
+        (cheap_steps known.now.tasks.now known.now.bounds.now.entries entry bound.now task.now action act) 0 }
     ensures beside { IsBeside task.now state.now reached.new }
 {
     let act = action_of(task, action);
@@ -88,7 +82,7 @@ fn cheap_actions(
     task: &Task,
     far: &FarIndex,
     entry: u64,
-    bound: &Bound,
+    bound: &FlatBound<'_>,
     state: &JointSets,
     found: &Bits,
     reached: &mut JointSets,
@@ -102,8 +96,9 @@ fn cheap_actions(
     requires numbers { (k : ℕ) → set.contains found.now.members k
         ≡ is_applicable task.now.acts state.now.publics.members (private_of (joint_of state.now) task.now.me) k }
     requires beside { IsBeside task.now state.now reached.old }
-    ensures { result ≡ slice_get
-        (cheap_acts known.now.tasks.now known.now.bounds.now entry bound.now task.now) 0 }
+    ensures first { result ≡ slice_get
+        (cheap_acts known.now.tasks.now known.now.bounds.now.entries entry bound.now task.now) 0 }
+    ensures beside { IsBeside task.now state.now reached.new }
 {
     let mut from = 0;
     while let Some(action) = found.least_from(from) {
@@ -117,59 +112,77 @@ fn cheap_actions(
     None
 }
 
-/// The first failure of the actions of an entry's agent.
+/// The first failure of the actions of an entry's agent. The actions that are found, and the states after them, are
+/// written into the last two.
 fn agent_failure(
-    alloc: Global,
     known: &AuditData<'_>,
     task: &Task,
     finder: &Finder,
     entry: u64,
-    bound: &Bound,
+    bound: &FlatBound<'_>,
     state: &JointSets,
-) -> Result<Option<AuditVerdict>, OutOfMemory>
+    found: &mut Bits,
+    reached: &mut JointSets,
+) -> Option<AuditVerdict>
     requires ready { IsReady known.now }
     requires finder { IsFinderOf task.now finder.now }
     requires team { Contains known.now.tasks.now task.now }
-    requires fits { BoundFits known.now.tasks.now bound.now }
     requires state { joint_of state.now ≡ state_of bound.now }
     requires sizes { HasSizes known.now.tasks.now state.now }
-    ensures { IfOk result (λ first. first ≡ slice_get
-        (cheap_acts known.now.tasks.now known.now.bounds.now entry bound.now task.now) 0) }
+    requires actions { found.old.size ≡ length task.now.acts }
+    requires reached { HasSizes known.now.tasks.now reached.old }
+    ensures first { result ≡ slice_get
+        (cheap_acts known.now.tasks.now known.now.bounds.now.entries entry bound.now task.now) 0 }
+    ensures actions { found.new.size ≡ length task.now.acts }
+    ensures reached { HasSizes known.now.tasks.now reached.new }
 {
-    let found = found_actions(alloc, task, finder, state)?;
-    let mut reached = entry_state(alloc, known.tasks, bound)?;
-    Ok(cheap_actions(
+    find_actions(task, finder, state, found);
+    copy_state(reached, state);
+    cheap_actions(
         known,
         task,
         &finder.far,
         entry,
         bound,
         state,
-        &found,
-        &mut reached,
-    ))
+        found,
+        reached,
+    )
 }
 
 /// The first failure of the actions of an entry's agent, whose task stands in its place.
 fn task_failure(
-    alloc: Global,
     known: &AuditData<'_>,
     task: &Task,
     place: usize,
     entry: u64,
-    bound: &Bound,
+    bound: &FlatBound<'_>,
     state: &JointSets,
-) -> Result<Option<AuditVerdict>, OutOfMemory>
+    found: &mut Vec<Bits>,
+    reached: &mut JointSets,
+) -> Option<AuditVerdict>
     requires ready { IsReady known.now }
     requires task { slice_get known.now.tasks.now place ≡ Some task.now }
-    requires fits { BoundFits known.now.tasks.now bound.now }
     requires state { joint_of state.now ≡ state_of bound.now }
     requires sizes { HasSizes known.now.tasks.now state.now }
-    ensures { IfOk result (λ first. first ≡ slice_get
-        (cheap_acts known.now.tasks.now known.now.bounds.now entry bound.now task.now) 0) }
+    requires actions { AreActionSets known.now.tasks.now found.old.items }
+    requires reached { HasSizes known.now.tasks.now reached.old }
+    ensures first { result ≡ slice_get
+        (cheap_acts known.now.tasks.now known.now.bounds.now.entries entry bound.now task.now) 0 }
+    ensures actions { AreActionSets known.now.tasks.now found.new.items }
+    ensures reached { HasSizes known.now.tasks.now reached.new }
 {
     let finders = known.finders.as_slice();
-    agent_failure(alloc, known, task, &finders[place], entry, bound, state)
+    agent_failure(
+        known,
+        task,
+        &finders[place],
+        entry,
+        bound,
+        state,
+        &mut found[place],
+        reached,
+    )
 }
 
 /// The task in a place.
@@ -189,28 +202,78 @@ fn place_of(agent: Agent) -> usize
 
 /// The first failure of an entry.
 fn entry_failure(
-    alloc: Global,
     known: &AuditData<'_>,
     entry: u64,
-    bound: &Bound,
+    bound: &FlatBound<'_>,
     state: &JointSets,
-) -> Result<Option<AuditVerdict>, OutOfMemory>
+    found: &mut Vec<Bits>,
+    reached: &mut JointSets,
+) -> Option<AuditVerdict>
     requires ready { IsReady known.now }
-    requires fits { BoundFits known.now.tasks.now bound.now }
     requires state { joint_of state.now ≡ state_of bound.now }
     requires sizes { HasSizes known.now.tasks.now state.now }
-    ensures { IfOk result (λ first. first ≡ slice_get
-        (entry_failures known.now.tasks.now known.now.bounds.now entry bound.now) 0) }
+    requires actions { AreActionSets known.now.tasks.now found.old.items }
+    requires reached { HasSizes known.now.tasks.now reached.old }
+    ensures first { result ≡ slice_get
+        (entry_failures known.now.tasks.now known.now.bounds.now.entries entry bound.now) 0 }
+    ensures actions { AreActionSets known.now.tasks.now found.new.items }
+    ensures reached { HasSizes known.now.tasks.now reached.new }
 {
     if has_goals(known.tasks, state) {
-        return Ok(Some(AuditVerdict::Goal(entry)));
+        return Some(AuditVerdict::Goal(entry));
     }
-    let place = place_of(bound.agent);
+    let place = place_of(bound.agent());
     let Some(task) = task_at(known.tasks, place) else {
-        return Ok(None);
+        return None;
     };
-    let first = task_failure(alloc, known, task, place, entry, bound, state)?;
-    Ok(first)
+    task_failure(known, task, place, entry, bound, state, found, reached)
+}
+
+/// The first failure of the entry in a place.
+fn failure_at(
+    known: &AuditData<'_>,
+    entry: u64,
+    place: usize,
+    none: &JointSets,
+    state: &mut JointSets,
+    found: &mut Vec<Bits>,
+    reached: &mut JointSets,
+) -> Option<AuditVerdict>
+    requires ready { IsReady known.now }
+    requires inside { place < length known.now.bounds.now.entries }
+    requires number { entry ≡ place + 1 }
+    requires none { HasNoFacts known.now.tasks.now none.now }
+    requires state { HasSizes known.now.tasks.now state.old }
+    requires actions { AreActionSets known.now.tasks.now found.old.items }
+    requires reached { HasSizes known.now.tasks.now reached.old }
+    ensures first { (b : BoundParts) → slice_get known.now.bounds.now.entries place ≡ Some b → result ≡ slice_get
+        (entry_failures known.now.tasks.now known.now.bounds.now.entries entry b) 0 }
+    ensures state { HasSizes known.now.tasks.now state.new }
+    ensures actions { AreActionSets known.now.tasks.now found.new.items }
+    ensures reached { HasSizes known.now.tasks.now reached.new }
+{
+    let bound = known.bounds.entry(place);
+    set_to(known.tasks, &bound, none, state);
+    entry_failure(known, entry, &bound, state, found, reached)
+}
+
+/// An empty set of numbers of a task's actions.
+fn no_actions(alloc: Global, task: &Task) -> Result<Bits, OutOfMemory>
+    ensures { IfOk result (λ made. made.size ≡ length task.now.acts) }
+{
+    Bits::new(alloc, task.acts.len() as u32)
+}
+
+/// One for each task.
+fn none_found(alloc: Global, tasks: &[Task]) -> Result<Vec<Bits>, OutOfMemory>
+    ensures { IfOk result (λ found. AreActionSets tasks.now found.items) }
+{
+    let mut found = Vec::with_capacity(alloc, tasks.len())?;
+    for task in tasks {
+        let none = no_actions(alloc, task)?;
+        found.push(none)?;
+    }
+    Ok(found)
 }
 
 /// The first failure of those of all entries. Refuses only for want of memory.
@@ -220,13 +283,23 @@ pub(crate) fn first_failing_entry(
 ) -> Result<Option<AuditVerdict>, OutOfMemory>
     requires { IsReady known.now }
     ensures { IfOk result (λ first. first ≡ slice_get
-        (all_entry_failures known.now.tasks.now known.now.bounds.now) 0) }
+        (all_entry_failures known.now.tasks.now known.now.bounds.now.entries) 0) }
 {
-    let bounds = known.bounds;
-    for (place, bound) in bounds.iter().enumerate() {
+    let none = no_facts(alloc, known.tasks)?;
+    let mut state = no_facts(alloc, known.tasks)?;
+    let mut reached = no_facts(alloc, known.tasks)?;
+    let mut found = none_found(alloc, known.tasks)?;
+    for place in 0..known.bounds.len() {
         let entry = place as u64 + 1;
-        let state = entry_state(alloc, known.tasks, bound)?;
-        if let Some(failure) = entry_failure(alloc, known, entry, bound, &state)? {
+        if let Some(failure) = failure_at(
+            known,
+            entry,
+            place,
+            &none,
+            &mut state,
+            &mut found,
+            &mut reached,
+        ) {
             return Ok(Some(failure));
         }
     }

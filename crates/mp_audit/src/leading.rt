@@ -10,7 +10,7 @@ ghost use Rattle.mp_audit.specs.Failures.{cheap_in, cheap_in_other, cheap_leads,
 ghost use Rattle.mp_audit.specs.States.{joint_of, HasSizes, HasSizesOf, IsBeside};
 ghost use Rattle.mp_audit.specs.Tables.{IsReady};
 
-use crate::certificate::Bound;
+use crate::flat_bounds::FlatBound;
 use crate::lookup::{AuditData, bound_in};
 use crate::state::JointSets;
 use crate::successor::{is_met, is_visible, reach};
@@ -23,7 +23,7 @@ use mp_task::{Act, Task};
 fn cheap_in(
     known: &AuditData<'_>,
     entry: u64,
-    bound: &Bound,
+    bound: &FlatBound<'_>,
     action: u32,
     act: &Act,
     reached: &JointSets,
@@ -33,9 +33,9 @@ fn cheap_in(
     requires sizes { HasSizes known.now.tasks.now reached.now }
     requires cost { act.now.cost ≤ 16000000 }
     ensures { result
-        ≡ slice_get (cheap_in known.now.bounds.now entry bound.now action act.now (joint_of reached.now) agent) 0 }
+        ≡ slice_get (cheap_in known.now.bounds.now.entries entry bound.now action act.now (joint_of reached.now) agent) 0 }
 {
-    if bound_in(known, agent, reached) + act.cost < bound.bound {
+    if bound_in(known, agent, reached) + act.cost < bound.bound() {
         Some(AuditVerdict::Step {
             entry,
             action,
@@ -50,7 +50,7 @@ fn cheap_in(
 fn cheap_in_task(
     known: &AuditData<'_>,
     entry: u64,
-    bound: &Bound,
+    bound: &FlatBound<'_>,
     action: u32,
     act: &Act,
     reached: &JointSets,
@@ -60,7 +60,7 @@ fn cheap_in_task(
     requires sizes { HasSizes known.now.tasks.now reached.now }
     requires cost { act.now.cost ≤ 16000000 }
     ensures { result ≡ slice_get
-        (cheap_in known.now.bounds.now entry bound.now action act.now (joint_of reached.now) task.now.me) 0 }
+        (cheap_in known.now.bounds.now.entries entry bound.now action act.now (joint_of reached.now) task.now.me) 0 }
 {
     cheap_in(known, entry, bound, action, act, reached, task.me)
 }
@@ -83,7 +83,7 @@ fn cheap_in_other(
     task: &Task,
     far: &FarIndex,
     entry: u64,
-    bound: &Bound,
+    bound: &FlatBound<'_>,
     action: u32,
     act: &Act,
     reached: &JointSets,
@@ -96,7 +96,7 @@ fn cheap_in_other(
     requires sizes { HasSizes known.now.tasks.now reached.now }
     requires cost { act.now.cost ≤ 16000000 }
     ensures { result ≡ slice_get
-        (cheap_in_other known.now.bounds.now entry bound.now task.now action act.now (joint_of reached.now) other.now) 0 }
+        (cheap_in_other known.now.bounds.now.entries entry bound.now task.now action act.now (joint_of reached.now) other.now) 0 }
 {
     if concerns(task, far, other, reached) {
         cheap_in_task(known, entry, bound, action, act, reached, other)
@@ -111,7 +111,7 @@ fn cheap_in_others(
     task: &Task,
     far: &FarIndex,
     entry: u64,
-    bound: &Bound,
+    bound: &FlatBound<'_>,
     action: u32,
     act: &Act,
     reached: &JointSets,
@@ -122,7 +122,7 @@ fn cheap_in_others(
     requires sizes { HasSizes known.now.tasks.now reached.now }
     requires cost { act.now.cost ≤ 16000000 }
     ensures { result ≡ slice_get (flat_map
-        (cheap_in_other known.now.bounds.now entry bound.now task.now action act.now (joint_of reached.now))
+        (cheap_in_other known.now.bounds.now.entries entry bound.now task.now action act.now (joint_of reached.now))
         known.now.tasks.now) 0 }
 {
     let tasks = known.tasks;
@@ -142,7 +142,7 @@ fn cheap_lead(
     task: &Task,
     far: &FarIndex,
     entry: u64,
-    bound: &Bound,
+    bound: &FlatBound<'_>,
     state: &JointSets,
     action: u32,
     act: &Act,
@@ -156,7 +156,7 @@ fn cheap_lead(
     requires state { joint_of state.now ≡ state_of bound.now }
     requires sizes { HasSizes known.now.tasks.now state.now }
     requires reached { HasSizes known.now.tasks.now reached.now }
-    ensures { result ≡ slice_get (cheap_leads known.now.tasks.now known.now.bounds.now entry bound.now
+    ensures { result ≡ slice_get (cheap_leads known.now.tasks.now known.now.bounds.now.entries entry bound.now
         task.now action act.now (joint_of reached.now)) 0 }
 {
     if let Some(failure) = cheap_in_task(known, entry, bound, action, act, reached, task) {
@@ -184,7 +184,7 @@ pub(crate) fn cheap_step(
     task: &Task,
     far: &FarIndex,
     entry: u64,
-    bound: &Bound,
+    bound: &FlatBound<'_>,
     state: &JointSets,
     action: u32,
     act: &Act,
@@ -200,7 +200,7 @@ pub(crate) fn cheap_step(
         (private_of (joint_of state.now) task.now.me) ≡ true }
     requires beside { IsBeside task.now state.now reached.old }
     ensures first { result ≡ slice_get
-        (cheap_steps known.now.tasks.now known.now.bounds.now entry bound.now task.now action act.now) 0 }
+        (cheap_steps known.now.tasks.now known.now.bounds.now.entries entry bound.now task.now action act.now) 0 }
     ensures beside { IsBeside task.now state.now reached.new }
 {
     keeps_limits(task, action, act);

@@ -5,8 +5,8 @@ ghost use Rattle.mp_audit.specs.Audited.{bound_of};
 ghost use Rattle.mp_audit.specs.States.{known_by, HasSizes};
 ghost use Rattle.mp_audit.specs.Tables.{AreFindersOf, IsFinderOf, IsReady};
 
-use crate::certificate::Bound;
 use crate::chains::{Chains, find};
+use crate::flat_bounds::FlatBounds;
 use crate::state::JointSets;
 use mp_applicable::{ActionIndex, FarIndex};
 use mp_list::OutOfMemory;
@@ -28,7 +28,7 @@ pub(crate) struct AuditData<'a> {
     /// The tasks of the team.
     pub(crate) tasks: &'a [Task],
     /// The entries.
-    pub(crate) bounds: &'a [Bound],
+    pub(crate) bounds: &'a FlatBounds,
     /// The entries by their states.
     pub(crate) chains: Chains,
     /// One for each task.
@@ -68,18 +68,18 @@ pub(crate) fn finders(alloc: Global, tasks: &[Task]) -> Result<Vec<Finder>, OutO
 }
 
 /// The bound of the entry in a place.
-fn bound_of_entry(bounds: &[Bound], place: usize) -> u64
-    requires { place < length bounds.now }
-    ensures { option_map (λ b. b.bound) (slice_get bounds.now place) ≡ Some result }
+fn bound_of_entry(bounds: &FlatBounds, place: usize) -> u64
+    requires { place < length bounds.now.entries }
+    ensures { option_map (λ b. b.bound) (slice_get bounds.now.entries place) ≡ Some result }
 {
-    bounds[place].bound
+    bounds.entry(place).bound()
 }
 
 /// The bound of a joint state in the search of an agent.
 pub(crate) fn bound_in(known: &AuditData<'_>, agent: Agent, state: &JointSets) -> u64
     requires ready { IsReady known.now }
     requires sizes { HasSizes known.now.tasks.now state.now }
-    ensures bound { result ≡ bound_of known.now.bounds.now (known_by agent state.now) }
+    ensures bound { result ≡ bound_of known.now.bounds.now.entries (known_by agent state.now) }
     ensures small { result ≤ 2 ^ 60 }
 {
     match find(known.tasks, known.bounds, &known.chains, agent, state) {

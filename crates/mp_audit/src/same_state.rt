@@ -3,14 +3,15 @@
 ghost use Rattle.std.specs.Prelude.{◌≡◌, ◌+◌, ◌<◌, ◌^◌, false, true, map, slice_get};
 ghost use Rattle.std.specs.Bool.{Decides};
 ghost use Rattle.std.specs.Cmp.Lexicographic.{pointwise};
+ghost use Rattle.std.specs.List.Sorted.{IsStrictlyIncreasing};
 ghost use Rattle.std.specs.Option.{option_copied, option_map_or};
 ghost use Rattle.mp_sets.specs.Numbers.{same, HasNoneFrom, IsLeastFrom};
 ghost use Rattle.mp_audit.specs.Audited.{known_of, same_known, set_of};
 ghost use Rattle.mp_audit.specs.States.{known_by, members_of};
 
-use crate::certificate::Bound;
+use crate::flat_bounds::FlatBound;
 use crate::state::JointSets;
-use mp_sets::{Agent, Bits, FactList};
+use mp_sets::{Agent, Bits};
 
 /// Whether a fact is the least member of a set from a number on.
 fn is_least(set: &Bits, from: u32, fact: u32) -> bool
@@ -33,11 +34,11 @@ fn has_none(set: &Bits, from: u32) -> bool
     }
 }
 
-/// Whether the facts of a list are the members of a set.
-fn is_set(list: &FactList, set: &Bits) -> bool
-    ensures { result ≡ same (set_of list.now) set.now.members }
+/// Whether facts that rise are the members of a set.
+fn is_set(facts: &[u32], set: &Bits) -> bool
+    requires { IsStrictlyIncreasing facts.now }
+    ensures { result ≡ same (set_of facts.now) set.now.members }
 {
-    let facts = list.as_slice();
     let mut from = 0;
     for fact in facts {
         if !is_least(set, from, *fact) {
@@ -55,33 +56,36 @@ fn set_at(sets: &[Bits], place: usize) -> Option<&Bits>
     sets.get(place)
 }
 
-/// Whether the facts of a list are the members of the set in a place.
-fn is_set_at(list: &FactList, sets: &[Bits], place: usize) -> bool
-    ensures { result ≡ option_map_or (λ s. same (set_of list.now) s.members) (slice_get sets.now place) false }
+/// Whether facts that rise are the members of the set in a place.
+fn is_set_at(facts: &[u32], sets: &[Bits], place: usize) -> bool
+    requires { IsStrictlyIncreasing facts.now }
+    ensures { result ≡ option_map_or (λ s. same (set_of facts.now) s.members) (slice_get sets.now place) false }
 {
     match set_at(sets, place) {
-        Some(set) => is_set(list, set),
+        Some(set) => is_set(facts, set),
         None => false,
     }
 }
 
-/// Whether the facts of each list are the members of the set in its place, and there is no other set.
-fn are_sets(lists: &[FactList], sets: &[Bits]) -> bool
-    ensures { result ≡ pointwise same (map set_of lists.now) (members_of sets.now) }
+/// Whether the private facts of each agent are the members of the set in its place, and there is no other set.
+fn are_sets(bound: &FlatBound<'_>, sets: &[Bits]) -> bool
+    ensures { result ≡ pointwise same (map set_of bound.now.privates) (members_of sets.now) }
 {
-    for (place, list) in lists.iter().enumerate() {
-        if !is_set_at(list, sets, place) {
+    let agents = bound.agents();
+    for place in 0..agents {
+        let facts = bound.privates_at(place);
+        if !is_set_at(facts, sets, place) {
             return false;
         }
     }
-    sets.len() <= lists.len()
+    sets.len() <= agents
 }
 
 /// Whether an entry is that of a joint state in the search of an agent.
-pub(crate) fn is_entry_of(bound: &Bound, agent: Agent, state: &JointSets) -> bool
+pub(crate) fn is_entry_of(bound: &FlatBound<'_>, agent: Agent, state: &JointSets) -> bool
     ensures { result ≡ same_known (known_of bound.now) (known_by agent state.now) }
 {
-    bound.agent == agent
-        && is_set(&bound.publics, &state.publics)
-        && are_sets(bound.privates.as_slice(), state.privates.as_slice())
+    bound.agent() == agent
+        && is_set(bound.publics(), &state.publics)
+        && are_sets(bound, state.privates.as_slice())
 }

@@ -4,9 +4,9 @@ ghost use Rattle.std.specs.Prelude.{All, IfOk};
 ghost use Rattle.mp_audit.specs.Fits.{BoundFits};
 ghost use Rattle.mp_audit.specs.Tables.{IsTable};
 
-use crate::certificate::Bound;
 use crate::chains::{Chains, add, find, no_chains};
-use crate::state::entry_state;
+use crate::flat_bounds::FlatBounds;
+use crate::state::{no_facts, set_to};
 use mp_list::OutOfMemory;
 use mp_task::Task;
 use std::alloc::Global;
@@ -24,18 +24,22 @@ pub(crate) enum Table {
 pub(crate) fn table_of(
     alloc: Global,
     tasks: &[Task],
-    bounds: &[Bound],
+    bounds: &FlatBounds,
 ) -> Result<Table, OutOfMemory>
-    requires { All (BoundFits tasks.now) bounds.now }
-    ensures { IfOk result (IsTable tasks.now bounds.now) }
+    requires { All (BoundFits tasks.now) bounds.now.entries }
+    ensures { IfOk result (IsTable tasks.now bounds.now.entries) }
 {
     let mut chains = no_chains(alloc, bounds.len())?;
-    for (place, bound) in bounds.iter().enumerate() {
-        let state = entry_state(alloc, tasks, bound)?;
-        if let Some(_) = find(tasks, bounds, &chains, bound.agent, &state) {
+    let none = no_facts(alloc, tasks)?;
+    let mut state = no_facts(alloc, tasks)?;
+    for place in 0..bounds.len() {
+        let bound = bounds.entry(place);
+        set_to(tasks, &bound, &none, &mut state);
+        let agent = bound.agent();
+        if let Some(_) = find(tasks, bounds, &chains, agent, &state) {
             return Ok(Table::Double(place as u64 + 1));
         }
-        add(&mut chains, bound.agent, &state)?;
+        add(&mut chains, agent, &state)?;
     }
     Ok(Table::Once(chains))
 }

@@ -2,9 +2,10 @@
 use Rattle.std.proofs.Common.{◌≡◌, refl, sym, ap, ◌∙◌, subst, ℕ, zero, suc, ◌+◌, ◌^◌, ◌<◌, ◌≤◌, ◌==◌, Bool, true, false, List, [], ◌∷◌, ◌++◌, Option, Some, None, append_assoc, arith, inl, inr, if◌then◌else◌}
 use Rattle.std.specs.Prelude.{decimal}
 use Rattle.std.specs.List.{flat_map}
+use Rattle.std.specs.List.Sorted.{IsStrictlyIncreasing}
 use Rattle.std.proofs.lemmas.Bool.{eqb-true}
 use Rattle.std.proofs.lemmas.Option.{cond_some}
-use Rattle.mp_sets.proofs.RisingLemmas.{RisesFrom}
+use Rattle.mp_sets.proofs.RisingLemmas.{RisesFrom, RisesFrom-rises}
 use Rattle.mp_messages.specs.Reading.{◌>>=◌}
 use Rattle.mp_messages.proofs.Taking.{bind_some, chosen, some_is}
 use Rattle.mp_text.specs.Lines.{Text}
@@ -184,6 +185,13 @@ list_read size text x fits e =
     let P : Text → Type 0 = λ t. IsList size t x in
     subst P (sym (blank ∙ ap (λ (t : Text). 32 ∷ t) bracket))
     (within_read size a.0 x (byte_at 93 a.0) fits refl a.2)
+
+-- a list that is read rises
+pub list_rises : (size : ℕ) (text rest : Text) (facts : List ℕ) → size ≤ 2 ^ 61 → list_at size text ≡ Some (facts, rest)
+    → IsStrictlyIncreasing facts
+list_rises size text rest facts fits e =
+    let read = list_read size text (facts, rest) fits e in
+    RisesFrom-rises size 0 facts read.rises
 
 bracket_again : (rest : Text) → bracket_at (32 ∷ 91 ∷ rest) ≡ Some rest
 bracket_again rest =

@@ -10,3 +10,5 @@ mod LineLemmas
 mod EntryLemmas
 -- texts have one reading
 mod ReadingLemmas
+-- items that are taken one by one
+mod TakenLemmas

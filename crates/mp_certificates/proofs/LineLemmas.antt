@@ -1,5 +1,5 @@
 -- Lines that are read are spelled so, and lines that are spelled are read again.
-use Rattle.std.proofs.Common.{◌≡◌, refl, sym, ap, ◌∙◌, subst, ℕ, ◌+◌, ◌<◌, ◌≤◌, List, [], ◌∷◌, ◌++◌, length, Option, Some, All, append_assoc, length-append, arith}
+use Rattle.std.proofs.Common.{◌≡◌, refl, sym, ap, ◌∙◌, subst, ℕ, ◌+◌, ◌<◌, ◌≤◌, List, [], ◌∷◌, ◌++◌, length, Option, Some, None, All, append_assoc, length-append, arith}
 use Rattle.std.specs.Prelude.{codes, decimal}
 use Rattle.std.specs.List.{AllByRecursion, flat_map}
 use Rattle.std.specs.List.Sorted.{IsStrictlyIncreasing}
@@ -9,17 +9,20 @@ use Rattle.mp_task.specs.AgentTask.{AgentTask}
 use Rattle.mp_task.specs.Limits.{IsWithinLimits}
 use Rattle.mp_audit.specs.declared.certificate.Bound.{Bound}
 use Rattle.mp_audit.specs.Fits.{most, publics_of}
+use Rattle.mp_audit.specs.Flat.{entry_of}
 use Rattle.mp_messages.specs.Reading.{◌>>=◌}
 use Rattle.mp_messages.proofs.Taking.{bind_some, some_is}
 use Rattle.mp_text.specs.Lines.{Text}
 use Rattle.mp_text.specs.Reading.{byte_at, text_behind}
 use Rattle.mp_text.proofs.PairLemmas.{byte_again, byte_read, text_again, text_read}
 use Rattle.mp_certificates.specs.Accepted.{IsEntry}
-use Rattle.mp_certificates.specs.Reading.{cost_at, entry_at, head_at, list_at, lists_at, number_at}
+use Rattle.mp_certificates.specs.Reading.{Fails, all_lists_at, cost_at, entry_at, head_at, list_at, lists_at, number_at}
 use Rattle.mp_certificates.specs.Text.{blank_facts, cost_line, entry_line, facts_text}
+use Rattle.mp_certificates.specs.declared.unread.Unread.{Unread}
+use Rattle.mp_certificates.specs.declared.unread.Unread.TheVariants.{OtherForm, OutOfMemory}
 use Rattle.mp_certificates.proofs.NumberLemmas.{number_again, number_read}
 use Rattle.mp_certificates.proofs.FactLemmas.{list_again, list_read}
-use Rattle.mp_certificates.proofs.ListLemmas.{lists_again, lists_read}
+use Rattle.mp_certificates.proofs.ListLemmas.{behind_list, lists_again, lists_read}
 
 -- a line with the line feed that ends it
 abbrev pub ended : Text → Text
@@ -91,6 +94,44 @@ behind_publics tasks head publics = lists_at tasks publics.1 >>= behind_lists he
 
 abbrev behind_head : List AgentTask → ((ℕ × ℕ) × Text) → Option (Bound × Text)
 behind_head tasks head = list_at (publics_of tasks) head.1 >>= behind_publics tasks head.0
+
+-- what is read behind all lists of an entry
+abbrev pub behind_all_lists : (ℕ × ℕ) → (List (List ℕ) × Text) → Option (Bound × Text)
+behind_all_lists head lists = byte_at 10 lists.1 >>= (λ rest. Some (entry_of head.0 head.1 lists.0, rest))
+
+by_privates : (head : ℕ × ℕ) (publics : List ℕ) (privates : Option (List (List ℕ) × Text))
+    → (privates >>= behind_lists head publics)
+    ≡ ((privates >>= (λ others. Some (publics ∷ others.0, others.1))) >>= behind_all_lists head)
+by_privates head publics (Some x) = refl
+by_privates head publics None = refl
+
+by_publics : (tasks : List AgentTask) (head : ℕ × ℕ) (publics : Option (List ℕ × Text))
+    → (publics >>= behind_publics tasks head) ≡ ((publics >>= behind_list tasks) >>= behind_all_lists head)
+by_publics tasks head (Some x) = by_privates head x.0 (lists_at tasks x.1)
+by_publics tasks head None = refl
+
+-- an entry, of which the agent and the bound were read
+by_lists : (tasks : List AgentTask) (text : Text) (head : ℕ × ℕ) (rest : Text) → head_at (length tasks) text ≡ Some (head, rest)
+    → entry_at tasks text ≡ (all_lists_at tasks rest >>= behind_all_lists head)
+unfolding entry_at
+by_lists tasks text head rest e =
+    ap (λ (o : Option ((ℕ × ℕ) × Text)). o >>= behind_head tasks) e ∙ by_publics tasks head (list_at (publics_of tasks) rest)
+
+pub entry_no_lists : (unread : Unread) (tasks : List AgentTask) (text : Text) (head : ℕ × ℕ) (rest : Text)
+    → head_at (length tasks) text ≡ Some (head, rest) → Fails unread (all_lists_at tasks rest)
+    → Fails unread (entry_at tasks text)
+entry_no_lists OtherForm tasks text head rest e none =
+    by_lists tasks text head rest e ∙ ap (λ (o : Option (List (List ℕ) × Text)). o >>= behind_all_lists head) none
+entry_no_lists OutOfMemory tasks text head rest e none = tt
+
+-- what is read behind the lists decides
+pub entry_by_end : (tasks : List AgentTask) (text : Text) (head : ℕ × ℕ) (rest : Text) (lists : List (List ℕ)) (after : Text)
+    (end : Option Text) → head_at (length tasks) text ≡ Some (head, rest) → all_lists_at tasks rest ≡ Some (lists, after)
+    → byte_at 10 after ≡ end
+    → entry_at tasks text ≡ (end >>= (λ later. Some (entry_of head.0 head.1 lists, later)))
+entry_by_end tasks text head rest lists after end e all feed =
+    by_lists tasks text head rest e ∙ ap (λ (o : Option (List (List ℕ) × Text)). o >>= behind_all_lists head) all
+    ∙ ap (λ (o : Option Text). o >>= (λ later. Some (entry_of head.0 head.1 lists, later))) feed
 
 pub record IsEntryRead (tasks : List AgentTask) (text : Text) (x : Bound × Text) : Type 0 where
   pub entry : IsEntry tasks x.0

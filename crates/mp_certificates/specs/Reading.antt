@@ -1,5 +1,5 @@
 -- Fields of a line of a certificate, read from left to right: a value and the bytes after it, or none.
-use Rattle.std.specs.Prelude.{◌≡◌, ⊤, ℕ, zero, suc, ◌+◌, ◌-◌, ◌*◌, ◌==◌, ◌&&◌, Bool, true, false, nat_le, nat_lt, List, [], ◌∷◌, length, codes, Option, Some, None, Result, Ok, Err, if◌then◌else◌}
+use Rattle.std.specs.Prelude.{◌≡◌, ⊤, ℕ, zero, suc, ◌+◌, ◌-◌, ◌*◌, ◌==◌, ◌&&◌, Bool, true, false, nat_le, nat_lt, List, [], ◌∷◌, ◌++◌, length, codes, Option, Some, None, Result, Ok, Err, if◌then◌else◌}
 use Rattle.std.specs.Option.{option_map_or}
 use Rattle.mp_task.specs.AgentTask.{AgentTask}
 use Rattle.mp_audit.specs.declared.certificate.Bound.{Bound}
@@ -96,6 +96,21 @@ lists_at (t ∷ ts) text = do
   facts ← list_at t.privates text
   others ← lists_at ts facts.1
   Some (facts.0 ∷ others.0, others.1)
+
+-- one list that is read, behind lists that were read before
+abbrev pub with_list : List (List ℕ) → Option (List ℕ × Text) → Option (List (List ℕ) × Text)
+with_list before read = read >>= (λ list. Some (before ++ list.0 ∷ [], list.1))
+
+-- and more of them
+abbrev pub with_lists : List (List ℕ) → Option (List (List ℕ) × Text) → Option (List (List ℕ) × Text)
+with_lists before read = read >>= (λ lists. Some (before ++ lists.0, lists.1))
+
+-- the public facts of an entry, and a list of private facts for each task
+abbrev pub all_lists_at : List AgentTask → Text → Option (List (List ℕ) × Text)
+all_lists_at tasks text = do
+  publics ← list_at (publics_of tasks) text
+  privates ← lists_at tasks publics.1
+  Some (publics.0 ∷ privates.0, privates.1)
 
 -- ---- lines
 

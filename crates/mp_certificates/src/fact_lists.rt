@@ -1,16 +1,15 @@
-//! Lists of facts between brackets, read from the front of a text.
+//! Lists of facts between brackets, read from the front of a text into memory that is used again.
 
-ghost use Rattle.std.specs.Prelude.{◌≡◌, ◌<◌, ◌≤◌, IfSome};
+ghost use Rattle.std.specs.Prelude.{◌≡◌, ◌+◌, ◌++◌, ◌∷◌, [], ◌<◌, ◌≤◌, IfSome, OnOk, length};
 ghost use Rattle.std.specs.Option.{option_map};
-ghost use Rattle.mp_certificates.specs.Reading.{Gives, bracket_at, fact_at, facts_from, facts_within as facts_within_at, list_at, lists_at, more_at};
+ghost use Rattle.mp_audit.specs.Fits.{publics_of as publics_of_tasks};
+ghost use Rattle.mp_certificates.specs.Reading.{Gives, all_lists_at, bracket_at, fact_at, facts_from, facts_within as facts_within_at, list_at, lists_at, more_at, with_list, with_lists};
 
 use crate::numbers::{behind, number};
 use crate::unread::Unread;
-use mp_audit::FactLists;
-use mp_list::List;
-use mp_sets::FactList;
+use mp_audit::FlatLists;
+use mp_list::OutOfMemory;
 use mp_task::Task;
-use std::alloc::Global;
 
 /// Whether a blank stands here, behind which another number follows, or the bracket behind the last one.
 #[tactic(auto, unfolding(crate::specs::Reading::more_at))]
@@ -36,20 +35,29 @@ fn fact(size: u32, least: u32, text: &[u8]) -> Option<((u32, bool), &[u8])>
     Some(((number as u32, more), rest))
 }
 
-/// Facts of so many that rise, at least one of them, and what stands behind the bracket that follows them.
-fn facts(alloc: Global, size: u32, text: &[u8]) -> Result<(FactList, &[u8]), Unread>
-    ensures { Gives (λ x. (x.0, x.1.now)) result (facts_from size size 0 text.now) }
+/// Appends a number.
+fn push_number(numbers: &mut Vec<u32>, number: u32) -> Result<(), OutOfMemory>
+    ensures { OnOk result (numbers.new.items ≡ numbers.old.items ++ number ∷ []) }
 {
-    let mut facts = FactList::new(alloc);
+    numbers.push(number)?;
+    Ok(())
+}
+
+/// Reads facts of so many that rise, at least one of them, into an empty list, and gives what stands behind the bracket that
+/// follows them.
+fn facts<'a>(size: u32, text: &'a [u8], numbers: &mut Vec<u32>) -> Result<&'a [u8], Unread>
+    requires { numbers.old.items ≡ [] }
+    ensures { Gives (λ rest. (numbers.new.items, rest.now)) result (facts_from size size 0 text.now) }
+{
     let mut least = 0;
     let mut rest = text;
     for _ in 0..size {
         let Some(((number, more), after)) = fact(size, least, rest) else {
             return Err(Unread::OtherForm);
         };
-        facts.push(number)?;
+        push_number(numbers, number)?;
         if !more {
-            return Ok((facts, after));
+            return Ok(after);
         }
         least = number + 1;
         rest = after;
@@ -57,14 +65,15 @@ fn facts(alloc: Global, size: u32, text: &[u8]) -> Result<(FactList, &[u8]), Unr
     Err(Unread::OtherForm)
 }
 
-/// What stands behind the first bracket of a list: the last one, or facts.
+/// Reads what stands behind the first bracket of a list, the last one or facts, into an empty list, and gives what follows.
 #[tactic(auto, unfolding(crate::specs::Reading::facts_within))]
-fn facts_within(alloc: Global, size: u32, text: &[u8]) -> Result<(FactList, &[u8]), Unread>
-    ensures { Gives (λ x. (x.0, x.1.now)) result (facts_within_at size text.now) }
+fn facts_within<'a>(size: u32, text: &'a [u8], numbers: &mut Vec<u32>) -> Result<&'a [u8], Unread>
+    requires { numbers.old.items ≡ [] }
+    ensures { Gives (λ rest. (numbers.new.items, rest.now)) result (facts_within_at size text.now) }
 {
     match behind(text, b']') {
-        Some(rest) => Ok((FactList::new(alloc), rest)),
-        None => facts(alloc, size, text),
+        Some(rest) => Ok(rest),
+        None => facts(size, text, numbers),
     }
 }
 
@@ -75,46 +84,88 @@ fn behind_bracket(text: &[u8]) -> Option<&[u8]>
     behind(behind(text, b' ')?, b'[')
 }
 
-/// A list of facts of so many behind a blank, and what follows it.
+/// Reads a list of facts of so many behind a blank in place of what is in `numbers`, and gives what follows it.
 #[tactic(auto, unfolding(crate::specs::Reading::list_at))]
-pub(crate) fn list(alloc: Global, size: u32, text: &[u8]) -> Result<(FactList, &[u8]), Unread>
-    ensures { Gives (λ x. (x.0, x.1.now)) result (list_at size text.now) }
+fn list<'a>(size: u32, text: &'a [u8], numbers: &mut Vec<u32>) -> Result<&'a [u8], Unread>
+    ensures { Gives (λ rest. (numbers.new.items, rest.now)) result (list_at size text.now) }
 {
+    numbers.clear();
     match behind_bracket(text) {
-        Some(rest) => facts_within(alloc, size, rest),
+        Some(rest) => facts_within(size, rest, numbers),
         None => Err(Unread::OtherForm),
     }
 }
 
-/// The list of private facts of a task's agent.
-fn private_list<'a>(
-    alloc: Global,
-    task: &Task,
+/// Reads a list of facts of so many behind a blank, appends it to others, and gives what follows it.
+fn push_list<'a>(
+    size: u32,
     text: &'a [u8],
-) -> Result<(FactList, &'a [u8]), Unread>
-    ensures { Gives (λ x. (x.0, x.1.now)) result (list_at task.now.privates text.now) }
+    numbers: &mut Vec<u32>,
+    lists: &mut FlatLists,
+) -> Result<&'a [u8], Unread>
+    ensures { Gives (λ rest. (lists.new, rest.now)) result
+        (with_list lists.old (list_at size text.now)) }
 {
-    list(alloc, task.privates, text)
+    let rest = list(size, text, numbers)?;
+    lists.push(numbers.as_slice())?;
+    Ok(rest)
 }
 
-/// A list of private facts for each task, and what follows them.
-pub(crate) fn lists<'a>(
-    alloc: Global,
+/// Reads the list of private facts of a task's agent, appends it to others, and gives what follows it.
+fn push_privates_of<'a>(
+    task: &Task,
+    text: &'a [u8],
+    numbers: &mut Vec<u32>,
+    lists: &mut FlatLists,
+) -> Result<&'a [u8], Unread>
+    ensures { Gives (λ rest. (lists.new, rest.now)) result
+        (with_list lists.old (list_at task.now.privates text.now)) }
+{
+    push_list(task.privates, text, numbers, lists)
+}
+
+/// Reads a list of private facts for each task, appends them to others, and gives what follows them.
+fn push_privates<'a>(
     tasks: &[Task],
     text: &'a [u8],
-) -> Result<(FactLists, &'a [u8]), Unread>
-    ensures { Gives (λ x. (x.0, x.1.now)) result (lists_at tasks.now text.now) }
+    numbers: &mut Vec<u32>,
+    lists: &mut FlatLists,
+) -> Result<&'a [u8], Unread>
+    ensures { Gives (λ rest. (lists.new, rest.now)) result
+        (with_lists lists.old (lists_at tasks.now text.now)) }
 {
-    let mut lists = List::with_capacity(alloc, tasks.len())?;
     let mut rest = text;
     for task in tasks {
-        match private_list(alloc, task, rest) {
-            Ok((facts, after)) => {
-                lists.push(facts)?;
-                rest = after;
-            }
+        match push_privates_of(task, rest, numbers, lists) {
+            Ok(after) => rest = after,
             Err(unread) => return Err(unread),
         }
     }
-    Ok((lists, rest))
+    Ok(rest)
+}
+
+/// How many public facts a team has.
+fn publics_of(tasks: &[Task]) -> u32
+    ensures { result ≡ publics_of_tasks tasks.now }
+{
+    match tasks {
+        [first, ..] => first.publics,
+        [] => 0,
+    }
+}
+
+/// Reads the lists of an entry in place of those in `lists`: its public facts, and behind them the private facts of each
+/// task's agent. Gives what follows them.
+pub(crate) fn entry_lists<'a>(
+    tasks: &[Task],
+    text: &'a [u8],
+    numbers: &mut Vec<u32>,
+    lists: &mut FlatLists,
+) -> Result<&'a [u8], Unread>
+    ensures lists { Gives (λ rest. (lists.new, rest.now)) result (all_lists_at tasks.now text.now) }
+    ensures counted { OnOk result (length lists.new ≡ length tasks.now + 1) }
+{
+    lists.clear();
+    let rest = push_list(publics_of(tasks), text, numbers, lists)?;
+    push_privates(tasks, rest, numbers, lists)
 }

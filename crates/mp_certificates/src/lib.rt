@@ -3,6 +3,7 @@
 
 mod fact_lists;
 mod formed;
+mod from_flat;
 mod laws;
 mod lines;
 mod numbers;
@@ -13,5 +14,5 @@ mod unread;
 mod write;
 
 pub use laws::texts_have_one_reading;
-pub use read::{CertificateRefusal, read_certificate};
+pub use read::{CertificateRefusal, read_certificate, read_flat};
 pub use write::certificate_text;

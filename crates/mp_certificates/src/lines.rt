@@ -1,27 +1,16 @@
 //! Lines of a certificate, read from the front of a text.
 
-ghost use Rattle.std.specs.Prelude.{◌≡◌, ◌+◌, ◌≤◌, IfSome, length};
+ghost use Rattle.std.specs.Prelude.{◌≡◌, ◌+◌, ◌≤◌, IfSome, OnOk, length};
 ghost use Rattle.std.specs.Option.{option_map};
-ghost use Rattle.mp_audit.specs.Fits.{publics_of as publics_of_tasks};
+ghost use Rattle.mp_audit.specs.Flat.{entry_of};
 ghost use Rattle.mp_certificates.specs.Reading.{Gives, cost_at, entry_at, head_at};
 
-use crate::fact_lists::{list, lists};
+use crate::fact_lists::entry_lists;
 use crate::numbers::{MOST, behind, behind_all, number};
 use crate::unread::Unread;
-use mp_audit::Bound;
+use mp_audit::FlatLists;
 use mp_sets::Agent;
 use mp_task::Task;
-use std::alloc::Global;
-
-/// How many public facts a team has.
-fn publics_of(tasks: &[Task]) -> u32
-    ensures { result ≡ publics_of_tasks tasks.now }
-{
-    match tasks {
-        [first, ..] => first.publics,
-        [] => 0,
-    }
-}
 
 /// The agent and the bound of an entry in a team of so many, and what follows them.
 #[tactic(auto, unfolding(crate::specs::Reading::head_at))]
@@ -35,33 +24,27 @@ fn head(agents: u64, text: &[u8]) -> Option<((Agent, u64), &[u8])>
     Some(((Agent::new(agent as u16)?, bound), rest))
 }
 
-/// An entry that fits these tasks, and what follows its line.
+/// An entry that fits these tasks: its agent and its bound, while its lists are read in place of those in `lists`; and what
+/// follows its line.
 #[tactic(auto, unfolding(crate::specs::Reading::entry_at))]
 pub(crate) fn entry<'a>(
-    alloc: Global,
     tasks: &[Task],
     text: &'a [u8],
-) -> Result<(Bound, &'a [u8]), Unread>
+    numbers: &mut Vec<u32>,
+    lists: &mut FlatLists,
+) -> Result<((Agent, u64), &'a [u8]), Unread>
     requires { length tasks.now ≤ 16 }
-    ensures { Gives (λ x. (x.0, x.1.now)) result (entry_at tasks.now text.now) }
+    ensures entry { Gives (λ x. (entry_of x.0.0 x.0.1 lists.new, x.1.now)) result (entry_at tasks.now text.now) }
+    ensures counted { OnOk result (length lists.new ≡ length tasks.now + 1) }
 {
-    let Some(((agent, bound), rest)) = head(tasks.len() as u64, text) else {
+    let Some((head, rest)) = head(tasks.len() as u64, text) else {
         return Err(Unread::OtherForm);
     };
-    let (publics, rest) = list(alloc, publics_of(tasks), rest)?;
-    let (privates, rest) = lists(alloc, tasks, rest)?;
+    let rest = entry_lists(tasks, rest, numbers, lists)?;
     let Some(rest) = behind(rest, b'\n') else {
         return Err(Unread::OtherForm);
     };
-    Ok((
-        Bound {
-            agent,
-            bound,
-            publics,
-            privates,
-        },
-        rest,
-    ))
+    Ok((head, rest))
 }
 
 /// The cost of a certificate, and what follows its line.

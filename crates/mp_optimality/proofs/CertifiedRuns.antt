@@ -2,12 +2,10 @@
 use Rattle.std.proofs.Common.{◌≡◌, ◌≤◌, ℕ, Bool, List, length, All, Some, Result, Ok, Err, IfOk, IsSome, refl, sym, ap, ◌∙◌, subst}
 use Rattle.std.proofs.lemmas.Option.{same_Some}
 use Rattle.mp_audit.specs.Failures.{verdict_on}
-use Rattle.mp_audit.specs.Fits.{AgentsFit, CertificateFits}
 use Rattle.mp_audit.specs.LastCut.{last_bounds}
 use Rattle.mp_audit.specs.declared.certificate.Certificate.{Certificate}
 use Rattle.mp_audit.specs.declared.verdict.AuditVerdict.TheVariants.{Holds}
-use Rattle.mp_certificates.specs.Accepted.{IsFormed}
-use Rattle.mp_certificates.specs.Text.{certificate_text}
+use Rattle.mp_certificates.specs.Accepted.{IsTextOf}
 use Rattle.mp_certify.specs.Certified.{IsCertificateOf, solved_cost}
 use Rattle.mp_factor.specs.declared.factor.Factor.{Factor}
 use Rattle.mp_grounder.specs.Checked.{IsChecked}
@@ -42,23 +40,22 @@ weaker (Err e) P Q h p = tt
 
 -- the certificate of a world that has the answer of a plan
 module _ (tasks : List AgentTask) (last : World) (certificate : Certificate) (is : IsCertificateOf last certificate)
-    (holds : verdict_on tasks certificate ≡ Holds) (fits : CertificateFits tasks certificate) (agents : AgentsFit tasks certificate)
-    (formed : All IsFormed certificate.bounds) where
-  tells_solved : (text : Text) → text ≡ certificate_text certificate → TellsSolved tasks last text
+    (holds : verdict_on tasks certificate ≡ Holds) where
+  tells_solved : (text : Text) → IsTextOf tasks certificate text → TellsSolved tasks last text
   tells_solved text printed cost steps answer =
       let same : certificate.cost ≡ cost = same_Some certificate.cost cost (sym is.cost_is ∙ ap solved_cost answer) in (
         certificate,
         record {
           cost_is = same;
           bounds_are = is.bounds_are ∙ ap (last_bounds last) same;
-          fits = record { formed = formed; agents = agents; fits = fits };
+          fits = printed.certificate_fits;
           holds = holds;
         },
-        printed,
+        printed.is,
       )
 
-  pub told_certificate : {E : Type 0} (r : Result Text E) → IfOk r (λ text. text ≡ certificate_text certificate) → IfOk r (TellsSolved tasks last)
-  told_certificate r h = weaker r (λ text. text ≡ certificate_text certificate) (TellsSolved tasks last) tells_solved h
+  pub told_certificate : {E : Type 0} (r : Result Text E) → IfOk r (IsTextOf tasks certificate) → IfOk r (TellsSolved tasks last)
+  told_certificate r h = weaker r (IsTextOf tasks certificate) (TellsSolved tasks last) tells_solved h
 
 -- and what is told of it by the answer
 pub told_solved : {E : Type 0} (tasks : List AgentTask) (last : World) (a : Answer) (cost steps : ℕ) (r : Result Text E)

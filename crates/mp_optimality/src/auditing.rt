@@ -3,6 +3,7 @@
 ghost use Rattle.std.specs.Prelude.{◌≡◌, ◌≤◌, Ok, IfOk, IfErr, false, length};
 ghost use Rattle.mp_audit.specs.Failures.{verdict_on};
 ghost use Rattle.mp_audit.specs.Fits.{CertificateFits};
+ghost use Rattle.mp_audit.specs.FlatCertificates.{certificate_of};
 ghost use Rattle.mp_plan_verdict.specs.Verdict.{verdict};
 ghost use Rattle.mp_plans.specs.Verdict.{verdict_text as verdict_text_of};
 ghost use Rattle.mp_task.specs.Agree.{Agree};
@@ -14,7 +15,9 @@ use crate::reading::{certificate_in, plan_of};
 use crate::refusal::AuditRefusal;
 use crate::told::audit_text;
 use crate::verdict::{is_shown, is_valid};
-use mp_audit::{AuditVerdict, Certificate, audit, failures_are_what_is_wrong, no_plan_is_cheaper};
+use mp_audit::{
+    AuditVerdict, FlatCertificate, audit_flat, failures_are_what_is_wrong, no_plan_is_cheaper,
+};
 use mp_checker::{CheckVerdict, check};
 use mp_grounder::laws::checked_factors_are_checked;
 use mp_list::OutOfMemory;
@@ -68,22 +71,22 @@ fn audited(
     alloc: Global,
     factors: &[CheckedFactor],
     tasks: &[Task],
-    certificate: &Certificate,
+    certificate: &FlatCertificate,
     plan: &PlanText,
 ) -> Result<PlanAudit, OutOfMemory>
     requires some { 1 ≤ length factors.now }
     requires at_most { length factors.now ≤ 16 }
     requires short { length plan.now.plan ≤ 4194304 }
     requires agree { Agree tasks.now }
-    requires fits { CertificateFits tasks.now certificate.now }
-    ensures { IfOk result (Tells (verdict factors.now plan.now.plan) (verdict_on tasks.now certificate.now)
-        certificate.now.cost plan.now.cost) }
+    requires fits { CertificateFits tasks.now (certificate_of certificate.now) }
+    ensures { IfOk result (Tells (verdict factors.now plan.now.plan)
+        (verdict_on tasks.now (certificate_of certificate.now)) certificate.now.cost plan.now.cost) }
 {
     let found = check(alloc, factors, &plan.plan)?;
     if !is_valid(&found, plan.cost) {
         return told_invalid(alloc, &found, plan.cost);
     }
-    let verdict = audit(alloc, tasks, certificate)?;
+    let verdict = audit_flat(alloc, tasks, certificate)?;
     told_of_audit(alloc, &verdict, certificate.cost, plan.cost)
 }
 

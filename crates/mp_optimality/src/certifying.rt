@@ -7,7 +7,6 @@ ghost use Rattle.mp_split.specs.Team.{AreTasksOf, IsFirstRefusal};
 ghost use Rattle.mp_world.specs.Answers.{answer_of};
 ghost use Rattle.mp_optimality.specs.Certified.{IsCertified, TellsAnswer, TellsSolved};
 
-use crate::formed::are_formed;
 use mp_certificates::certificate_text;
 use mp_certify::certificate;
 use mp_ground::GroundRefusal;
@@ -50,7 +49,6 @@ fn told_certificate(alloc: Global, world: &World<Blind>) -> Result<Bytes, OutOfM
     ensures { IfOk result (TellsSolved world.now.tasks world.now.world) }
 {
     let certificate = certificate(alloc, world)?;
-    are_formed(certificate.bounds.as_slice());
     certificate_text(alloc, &certificate)
 }
 

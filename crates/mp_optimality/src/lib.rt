@@ -4,7 +4,6 @@
 
 mod auditing;
 mod certifying;
-mod formed;
 mod laws;
 mod reading;
 mod refusal;

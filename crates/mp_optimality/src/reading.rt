@@ -1,13 +1,14 @@
 //! The certificate and the plan of texts.
 
 ghost use Rattle.std.specs.Prelude.{◌≡◌, ◌≤◌, Err, IfErr, IfOk, Ok, length};
+ghost use Rattle.mp_audit.specs.FlatCertificates.{certificate_of};
 ghost use Rattle.mp_certificates.specs.Accepted.{IsTextOf};
 ghost use Rattle.mp_plans.specs.Plan.{plan_in};
 ghost use Rattle.mp_optimality.specs.Reading.{IsCertificateUnread, IsPlanUnread};
 
 use crate::refusal::AuditRefusal;
-use mp_audit::Certificate;
-use mp_certificates::{CertificateRefusal, read_certificate};
+use mp_audit::FlatCertificate;
+use mp_certificates::{CertificateRefusal, read_flat};
 use mp_ground::GroundRefusal;
 use mp_plans::{PlanText, read_plan};
 use mp_task::Task;
@@ -19,12 +20,12 @@ pub(crate) fn certificate_in(
     alloc: Global,
     text: &[u8],
     tasks: &[Task],
-) -> Result<Certificate, AuditRefusal>
+) -> Result<FlatCertificate, AuditRefusal>
     requires { length tasks.now ≤ 16 }
-    ensures found { IfOk result (λ certificate. IsTextOf tasks.now certificate text.now) }
+    ensures found { IfOk result (λ certificate. IsTextOf tasks.now (certificate_of certificate) text.now) }
     ensures refused { IfErr result (IsCertificateUnread tasks.now text.now) }
 {
-    match read_certificate(alloc, text, tasks) {
+    match read_flat(alloc, text, tasks) {
         Ok(certificate) => Ok(certificate),
         Err(CertificateRefusal::Line(number)) => Err(AuditRefusal::Certificate(number)),
         Err(CertificateRefusal::OutOfMemory) => Err(AuditRefusal::Sizes(

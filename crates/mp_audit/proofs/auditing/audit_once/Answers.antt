@@ -8,4 +8,4 @@ first_failure-requires c = record { agree = c.requires.agree; fits = c.requires.
 pub returns : goal.returns
 returns c =
     c.verdict_by.ensures
-    ∙ once_verdict c.args.tasks.now c.args.bounds.now c.args.cost c.in_ok-first.first c.requires.once c.in_ok-first.ensures
+    ∙ once_verdict c.args.tasks.now c.args.bounds.now.entries c.args.cost c.in_ok-first.first c.requires.once c.in_ok-first.ensures

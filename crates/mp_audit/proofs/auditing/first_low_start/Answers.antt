@@ -14,9 +14,9 @@ loop-task-preserved c =
     let d = c.args.known.now in
     let t = c.task-item.result in
     let first =
-    subst (λ (s : JointState). c.low_start.result ≡ slice_get (failure_if (nat_lt (bound_of d.bounds.now (record { agent = t.me; state = s })) c.args.cost) (Start t.me)) 0)
+    subst (λ (s : JointState). c.low_start.result ≡ slice_get (failure_if (nat_lt (bound_of d.bounds.now.entries (record { agent = t.me; state = s })) c.args.cost) (Start t.me)) 0)
     c.in_ok-start.ensures.joint c.low_start.ensures in
-    passed_in (low_start d.tasks.now d.bounds.now c.args.cost) d.tasks.now l.task-index t c.loop-task-test.true c.task-item.is (sym c.in_default.is ∙ first) ∙ l.invariant
+    passed_in (low_start d.tasks.now d.bounds.now.entries c.args.cost) d.tasks.now l.task-index t c.loop-task-test.true c.task-item.is (sym c.in_default.is ∙ first) ∙ l.invariant
 
 pub returns-in-Some : goal.returns-in-Some
 returns-in-Some c =
@@ -24,9 +24,9 @@ returns-in-Some c =
     let d = c.args.known.now in
     let t = c.task-item.result in
     let first =
-    subst (λ (s : JointState). c.low_start.result ≡ slice_get (failure_if (nat_lt (bound_of d.bounds.now (record { agent = t.me; state = s })) c.args.cost) (Start t.me)) 0)
+    subst (λ (s : JointState). c.low_start.result ≡ slice_get (failure_if (nat_lt (bound_of d.bounds.now.entries (record { agent = t.me; state = s })) c.args.cost) (Start t.me)) 0)
     c.in_ok-start.ensures.joint c.low_start.ensures in
-    found_in (low_start d.tasks.now d.bounds.now c.args.cost) d.tasks.now l.task-index t c.loop-task-test.true c.task-item.is c.in-Some.failure (sym c.in-Some.is ∙ first)
+    found_in (low_start d.tasks.now d.bounds.now.entries c.args.cost) d.tasks.now l.task-index t c.loop-task-test.true c.task-item.is c.in-Some.failure (sym c.in-Some.is ∙ first)
     ∙ ap (λ (vs : List AuditVerdict). slice_get vs 0) l.invariant
 
 pub returns : goal.returns
@@ -34,4 +34,4 @@ returns c =
     let l = c.loop-task in
     let d = c.args.known.now in
     ap (λ (vs : List AuditVerdict). slice_get vs 0)
-    (sym (none_after (low_start d.tasks.now d.bounds.now c.args.cost) d.tasks.now l.task-index c.loop-task-test.false) ∙ l.invariant)
+    (sym (none_after (low_start d.tasks.now d.bounds.now.entries c.args.cost) d.tasks.now l.task-index c.loop-task-test.false) ∙ l.invariant)

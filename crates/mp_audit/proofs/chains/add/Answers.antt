@@ -15,8 +15,9 @@ returns-clause-chained c = λ tasks bounds b chained there made.
     let last_is = c.as_slice-last.ensures.value in
     let grown = ap length c.in_ok-push.ensures.items ∙ length_push old.before.items c.number_at-earlier.result in
     let all = c.push.new.self.ok.0 in
-    let is = c.len-number.ensures in
-    let next : c.len-number.result ≡ length old.before.items + 1 = omega (arith, grown, all, is) in
+    let is = c.len.ensures in
+    let kept = c.in_ok-number.ensures.ok in
+    let next : c.in_ok-number.number ≡ length old.before.items + 1 = omega (arith, grown, all, is, kept) in
     one_chained tasks bounds b old _ (sized c.args.agent c.args.state.now) c.place_of-place.result chained there made
     (c.place_of-place.ensures.place ∙ ap (λ (xs : List ℕ). place_in (length xs) (sized c.args.agent c.args.state.now)) last_is)
     (subst (λ (xs : List ℕ). c.place_of-place.result < length xs) last_is c.place_of-place.ensures.within)

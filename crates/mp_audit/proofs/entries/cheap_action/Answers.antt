@@ -17,4 +17,4 @@ pub returns-clause-first : goal.returns-clause-first
 returns-clause-first c = λ act is.
     let d = c.args.known.now in
     let same = same_Some _ _ (sym c.action_of-act.ensures ∙ is) in
-    subst (λ (a : Act). c.cheap_step.result ≡ slice_get (cheap_steps d.tasks.now d.bounds.now c.args.entry c.args.bound.now c.args.task.now c.args.action a) 0) same c.cheap_step.ensures.first
+    subst (λ (a : Act). c.cheap_step.result ≡ slice_get (cheap_steps d.tasks.now d.bounds.now.entries c.args.entry c.args.bound.now c.args.task.now c.args.action a) 0) same c.cheap_step.ensures.first

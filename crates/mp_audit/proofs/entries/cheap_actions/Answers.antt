@@ -19,24 +19,24 @@ loop-action-preserved c =
       inside = omega (arith, inside);
       beside = c.cheap_action.ensures.beside;
       left =
-          next_passed d.tasks.now d.bounds.now c.args.entry c.args.bound.now c.args.task.now (joint_of c.args.state.now) c.requires.state c.args.found.now.members c.requires.numbers
+          next_passed d.tasks.now d.bounds.now.entries c.args.entry c.args.bound.now c.args.task.now (joint_of c.args.state.now) c.requires.state c.args.found.now.members c.requires.numbers
           l.from c.in-Some.action c.in-Some.ensures.some inside (λ act is. sym c.in_default-cheap_action.is ∙ c.cheap_action.ensures.first act is)
           ∙ l.invariant.left;
     }
 
-pub returns-in-Some-cheap_action : goal.returns-in-Some-cheap_action
-returns-in-Some-cheap_action c =
+pub returns-in-Some-cheap_action-clause-first : goal.returns-in-Some-cheap_action-clause-first
+returns-in-Some-cheap_action-clause-first c =
     let d = c.args.known.now in
     let l = c.loop-action in
     let inside : c.in-Some.action < length c.args.task.now.acts = omega (arith, c.in-Some.ensures.next.0, c.requires.size) in
-    next_fails d.tasks.now d.bounds.now c.args.entry c.args.bound.now c.args.task.now (joint_of c.args.state.now) c.requires.state c.args.found.now.members c.requires.numbers
+    next_fails d.tasks.now d.bounds.now.entries c.args.entry c.args.bound.now c.args.task.now (joint_of c.args.state.now) c.requires.state c.args.found.now.members c.requires.numbers
     l.from c.in-Some.action c.in-Some-cheap_action.failure c.in-Some.ensures.some inside (λ act is. sym c.in-Some-cheap_action.is ∙ c.cheap_action.ensures.first act is)
     ∙ ap (λ (vs : List AuditVerdict). slice_get vs 0) l.invariant.left
 
-pub returns : goal.returns
-returns c =
+pub returns-clause-first : goal.returns-clause-first
+returns-clause-first c =
     let d = c.args.known.now in
     let l = c.loop-action in
     ap (λ (vs : List AuditVerdict). slice_get vs 0)
-    (sym (none_next d.tasks.now d.bounds.now c.args.entry c.args.bound.now c.args.task.now (joint_of c.args.state.now) c.requires.state c.args.found.now.members c.requires.numbers
+    (sym (none_next d.tasks.now d.bounds.now.entries c.args.entry c.args.bound.now c.args.task.now (joint_of c.args.state.now) c.requires.state c.args.found.now.members c.requires.numbers
     l.from l.invariant.inside c.in_default.ensures.none) ∙ l.invariant.left)

@@ -8,8 +8,8 @@ abbrev pub invariant-loop-action : goal.invariant-loop-action
 invariant-loop-action l = record {
   inside : l.from ≤ length l.task.acts;
   beside : IsBeside l.task l.state l.reached;
-  left : from_place (cheap_steps l.known.tasks.now l.known.bounds.now l.entry l.bound l.task) l.from (drop l.from l.task.acts)
-      ≡ cheap_acts l.known.tasks.now l.known.bounds.now l.entry l.bound l.task;
+  left : from_place (cheap_steps l.known.tasks.now l.known.bounds.now.entries l.entry l.bound l.task) l.from (drop l.from l.task.acts)
+      ≡ cheap_acts l.known.tasks.now l.known.bounds.now.entries l.entry l.bound l.task;
 }
 
 abbrev pub decreases-loop-action : goal.decreases-loop-action

@@ -12,14 +12,14 @@ pub loop-other-preserved : goal.loop-other-preserved
 loop-other-preserved c =
     let l = c.loop-other in
     let d = c.args.known.now in
-    let given = cheap_in_other d.bounds.now c.args.entry c.args.bound.now c.args.task.now c.args.action c.args.act.now (joint_of c.args.reached.now) in
+    let given = cheap_in_other d.bounds.now.entries c.args.entry c.args.bound.now c.args.task.now c.args.action c.args.act.now (joint_of c.args.reached.now) in
     passed_in given d.tasks.now l.other-index c.other-item.result c.loop-other-test.true c.other-item.is (sym c.in_default.is ∙ c.cheap_in_other.ensures) ∙ l.invariant
 
 pub returns-in-Some : goal.returns-in-Some
 returns-in-Some c =
     let l = c.loop-other in
     let d = c.args.known.now in
-    let given = cheap_in_other d.bounds.now c.args.entry c.args.bound.now c.args.task.now c.args.action c.args.act.now (joint_of c.args.reached.now) in
+    let given = cheap_in_other d.bounds.now.entries c.args.entry c.args.bound.now c.args.task.now c.args.action c.args.act.now (joint_of c.args.reached.now) in
     found_in given d.tasks.now l.other-index c.other-item.result c.loop-other-test.true c.other-item.is c.in-Some.failure (sym c.in-Some.is ∙ c.cheap_in_other.ensures)
     ∙ ap (λ (vs : List AuditVerdict). slice_get vs 0) l.invariant
 
@@ -27,5 +27,5 @@ pub returns : goal.returns
 returns c =
     let l = c.loop-other in
     let d = c.args.known.now in
-    let given = cheap_in_other d.bounds.now c.args.entry c.args.bound.now c.args.task.now c.args.action c.args.act.now (joint_of c.args.reached.now) in
+    let given = cheap_in_other d.bounds.now.entries c.args.entry c.args.bound.now c.args.task.now c.args.action c.args.act.now (joint_of c.args.reached.now) in
     ap (λ (vs : List AuditVerdict). slice_get vs 0) (sym (none_after given d.tasks.now l.other-index c.loop-other-test.false) ∙ l.invariant)

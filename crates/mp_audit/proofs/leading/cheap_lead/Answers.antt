@@ -18,7 +18,7 @@ is_visible-requires-clause-after c =
 pub returns-in-Some : goal.returns-in-Some
 returns-in-Some c =
     let d = c.args.known.now in
-    own_lead d.tasks.now d.bounds.now c.args.entry c.args.bound.now c.args.task.now c.args.action c.args.act.now (joint_of c.args.reached.now) c.in-Some.failure
+    own_lead d.tasks.now d.bounds.now.entries c.args.entry c.args.bound.now c.args.task.now c.args.action c.args.act.now (joint_of c.args.reached.now) c.in-Some.failure
     (sym c.in-Some.is ∙ c.cheap_in_task.ensures)
 
 pub returns-then-not-is_visible : goal.returns-then-not-is_visible
@@ -28,7 +28,7 @@ returns-then-not-is_visible c =
     let reached = joint_of c.args.reached.now in
     let hidden : is_visible t c.args.act.now (state_of c.args.bound.now) reached ≡ false =
     ap (λ (s : JointState). is_visible t c.args.act.now s reached) (sym c.requires.state) ∙ sym c.is_visible.ensures ∙ c.if-not-is_visible.true in
-    unseen_lead d.tasks.now d.bounds.now c.args.entry c.args.bound.now t c.args.action c.args.act.now reached (sym c.in_default.is ∙ c.cheap_in_task.ensures) hidden
+    unseen_lead d.tasks.now d.bounds.now.entries c.args.entry c.args.bound.now t c.args.action c.args.act.now reached (sym c.in_default.is ∙ c.cheap_in_task.ensures) hidden
 
 pub returns : goal.returns
 returns c =
@@ -37,5 +37,5 @@ returns c =
     let reached = joint_of c.args.reached.now in
     let seen : is_visible t c.args.act.now (state_of c.args.bound.now) reached ≡ true =
     ap (λ (s : JointState). is_visible t c.args.act.now s reached) (sym c.requires.state) ∙ sym c.is_visible.ensures ∙ c.if-not-is_visible.false in
-    other_lead d.tasks.now d.bounds.now c.args.entry c.args.bound.now t c.args.action c.args.act.now reached c.cheap_in_others.result
+    other_lead d.tasks.now d.bounds.now.entries c.args.entry c.args.bound.now t c.args.action c.args.act.now reached c.cheap_in_others.result
     (sym c.in_default.is ∙ c.cheap_in_task.ensures) seen c.cheap_in_others.ensures

@@ -17,5 +17,5 @@ cheap_lead-requires-clause-reached c =
 pub returns-clause-first : goal.returns-clause-first
 returns-clause-first c =
     let d = c.args.known.now in
-    step_applies d.tasks.now d.bounds.now c.args.entry c.args.bound.now c.args.task.now c.args.action c.args.act.now
+    step_applies d.tasks.now d.bounds.now.entries c.args.entry c.args.bound.now c.args.task.now c.args.action c.args.act.now
     (joint_of c.args.state.now) (joint_of c.reach.new.reached) c.cheap_lead.result c.requires.state c.reach.ensures.joint c.requires.applies c.cheap_lead.ensures

@@ -17,20 +17,20 @@ pub returns-in-Some-clause-bound : goal.returns-in-Some-clause-bound
 returns-in-Some-clause-bound c =
     let d = c.args.known.now in
     let k = known_by c.args.agent c.args.state.now in
-    found_bound d.tasks.now d.bounds.now c.requires.ready.fits k c.in-Some.place c.bound_of_entry.result
-    (subst (λ (n : ℕ). IsFound d.bounds.now n k (Some c.in-Some.place)) c.requires.ready.all.all c.in-Some.ensures)
+    found_bound d.tasks.now d.bounds.now.entries c.requires.ready.fits k c.in-Some.place c.bound_of_entry.result
+    (subst (λ (n : ℕ). IsFound d.bounds.now.entries n k (Some c.in-Some.place)) c.requires.ready.all.all c.in-Some.ensures)
     c.bound_of_entry.ensures c.requires.ready.once
 
 pub returns-in-Some-clause-small : goal.returns-in-Some-clause-small
 returns-in-Some-clause-small c =
     let d = c.args.known.now in
     let k = known_by c.args.agent c.args.state.now in
-    small_bound d.tasks.now d.bounds.now c.requires.ready.fits k c.in-Some.place c.bound_of_entry.result
-    (subst (λ (n : ℕ). IsFound d.bounds.now n k (Some c.in-Some.place)) c.requires.ready.all.all c.in-Some.ensures)
+    small_bound d.tasks.now d.bounds.now.entries c.requires.ready.fits k c.in-Some.place c.bound_of_entry.result
+    (subst (λ (n : ℕ). IsFound d.bounds.now.entries n k (Some c.in-Some.place)) c.requires.ready.all.all c.in-Some.ensures)
     c.bound_of_entry.ensures
 
 pub returns-in-None-clause-bound : goal.returns-in-None-clause-bound
 returns-in-None-clause-bound c =
     let d = c.args.known.now in
     let k = known_by c.args.agent c.args.state.now in
-    missing_bound d.bounds.now k (subst (λ (n : ℕ). IsFound d.bounds.now n k None) c.requires.ready.all.all c.in-None.ensures)
+    missing_bound d.bounds.now.entries k (subst (λ (n : ℕ). IsFound d.bounds.now.entries n k None) c.requires.ready.all.all c.in-None.ensures)

@@ -1,6 +1,4 @@
-use Rattle.std.proofs.Common.{◌≡◌, sym, ap, ◌∙◌, subst, List, ℕ, ◌+◌, ◌≤◌, Bool, true, false, Some}
-use Rattle.mp_sets.specs.Numbers.{IsAboveLast}
-use Rattle.mp_sets.proofs.RisingLemmas.{above_pushed}
+use Rattle.std.proofs.Common.{◌≡◌, sym, ap, ◌∙◌, ℕ, Bool, true, false, Some}
 use Rattle.mp_text.specs.Lines.{Text}
 use Rattle.mp_certificates.specs.Reading.{fact_at, facts_from}
 use Rattle.mp_certificates.proofs.ListLemmas.{facts_go_on, facts_last, facts_spent, facts_stop}
@@ -8,8 +6,8 @@ use Rattle.mp_certificates.proofs.fact_lists.facts.Goals as goal
 
 pub returns-in_default : goal.returns-in_default
 returns-in_default c =
-    facts_stop c.loop.facts c.args.size c.loop.counter c.loop.least c.loop.rest.now (facts_from c.args.size c.args.size 0 c.args.text.now)
-    c.loop-test.true (sym c.in_default.ensures.value) c.loop.invariant.read
+    facts_stop c.loop.numbers.items c.args.size c.loop.counter c.loop.least c.loop.rest.now
+    (facts_from c.args.size c.args.size 0 c.args.text.now) c.loop-test.true (sym c.in_default.ensures.value) c.loop.invariant
 
 -- what was read of a fact, where it is known whether another follows
 read_fact : (size least number : ℕ) (more known : Bool) (text after : Text) → Some ((number, more), after) ≡ fact_at size least text
@@ -21,21 +19,17 @@ pub returns-then-not-more : goal.returns-then-not-more
 returns-then-not-more c =
     let read = read_fact c.args.size c.loop.least c.in-Some.number c.in-Some.more false c.loop.rest.now c.in-Some.after.now
     c.in-Some.ensures.value c.if-not-more.true in
-    rw c.in_ok-push.ensures.ok (facts_last c.loop.facts c.args.size c.loop.counter c.loop.least c.loop.rest.now
-    (facts_from c.args.size c.args.size 0 c.args.text.now) c.in-Some.number c.in-Some.after.now c.loop-test.true read c.loop.invariant.read)
+    rw c.in_ok-push_number.ensures (facts_last c.loop.numbers.items c.args.size c.loop.counter c.loop.least c.loop.rest.now
+    (facts_from c.args.size c.args.size 0 c.args.text.now) c.in-Some.number c.in-Some.after.now c.loop-test.true read c.loop.invariant)
 
 pub loop-preserved : goal.loop-preserved
 loop-preserved c =
     let read = read_fact c.args.size c.loop.least c.in-Some.number c.in-Some.more true c.loop.rest.now c.in-Some.after.now
     c.in-Some.ensures.value c.if-not-more.false in
-    let P : List ℕ → Type 0 = λ xs. (x : ℕ) → c.in-Some.number + 1 ≤ x → IsAboveLast xs x in
-    record {
-      rising = subst P (sym c.in_ok-push.ensures.ok) (above_pushed c.loop.facts c.in-Some.number);
-      read = rw c.in_ok-push.ensures.ok (facts_go_on c.loop.facts c.args.size c.loop.counter c.loop.least c.loop.rest.now
-          (facts_from c.args.size c.args.size 0 c.args.text.now) c.in-Some.number c.in-Some.after.now c.loop-test.true read c.loop.invariant.read);
-    }
+    rw c.in_ok-push_number.ensures (facts_go_on c.loop.numbers.items c.args.size c.loop.counter c.loop.least c.loop.rest.now
+    (facts_from c.args.size c.args.size 0 c.args.text.now) c.in-Some.number c.in-Some.after.now c.loop-test.true read c.loop.invariant)
 
 pub returns : goal.returns
 returns c =
-    facts_spent c.loop.facts c.args.size c.loop.counter c.loop.least c.loop.rest.now (facts_from c.args.size c.args.size 0 c.args.text.now)
-    c.loop-test.false c.loop.invariant.read
+    facts_spent c.loop.numbers.items c.args.size c.loop.counter c.loop.least c.loop.rest.now
+    (facts_from c.args.size c.args.size 0 c.args.text.now) c.loop-test.false c.loop.invariant

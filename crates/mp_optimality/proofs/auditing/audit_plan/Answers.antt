@@ -1,6 +1,7 @@
 use Rattle.std.proofs.Common.{◌≡◌, ◌≤◌, length, subst, sym, arith}
 use Rattle.mp_audit.specs.Failures.{verdict_on}
 use Rattle.mp_audit.specs.Fits.{CertificateFits}
+use Rattle.mp_audit.specs.FlatCertificates.{certificate_of}
 use Rattle.mp_certificates.specs.Accepted.{IsTextOf}
 use Rattle.mp_plan_verdict.specs.Verdict.{verdict}
 use Rattle.mp_plans.proofs.PlanSizes.{short_plan}
@@ -30,7 +31,7 @@ audited-requires-clause-agree c =
 
 pub audited-requires-clause-fits : goal.audited-requires-clause-fits
 audited-requires-clause-fits c =
-    let certificate = c.in-Ok-certificate_in.certificate in
+    let certificate = certificate_of c.in-Ok-certificate_in.certificate in
     subst (λ ts. CertificateFits ts certificate) (sym c.as_slice-2.ensures)
     (subst (λ ts. CertificateFits ts certificate) c.as_slice.ensures c.in-Ok-certificate_in.ensures.found.certificate_fits.fits)
 
@@ -45,7 +46,7 @@ returns-in-Err-certificate_in-clause-refused c =
 pub returns-in-Err-plan_of-clause-refused : goal.returns-in-Err-plan_of-clause-refused
 returns-in-Err-plan_of-clause-refused c =
     let text = c.args.certificate_text.now in
-    let certificate = c.in-Ok-certificate_in.certificate in
+    let certificate = certificate_of c.in-Ok-certificate_in.certificate in
     plan_refused c.args.factors.now c.in-Ok.given c.requires.some c.requires.at_most c.in-Ok.ensures.within c.in-Ok.ensures.tasks
     text c.args.plan_text.now certificate
     (subst (λ ts. IsTextOf ts certificate text) c.as_slice.ensures c.in-Ok-certificate_in.ensures.found)
@@ -55,7 +56,7 @@ pub returns-clause-audited : goal.returns-clause-audited
 returns-clause-audited c =
     let team = c.args.factors.now in
     let text = c.args.certificate_text.now in
-    let certificate = c.in-Ok-certificate_in.certificate in
+    let certificate = certificate_of c.in-Ok-certificate_in.certificate in
     let plan = c.in-Ok-plan_of.plan in
     audited_by team c.in-Ok.given c.requires.some c.requires.at_most c.in-Ok.ensures.within c.in-Ok.ensures.tasks
     text c.args.plan_text.now certificate
