@@ -1,7 +1,7 @@
 -- What the files of a team lead to, in the one order of refusals: each file, an agent's domain and then its
 -- problem, is looked for and measured; then each text is read and its shape looked at; then names, numbers of
 -- terms and declarations of each agent's factor are checked.
-use Rattle.std.specs.Prelude.{ℕ, List, Option, Some, Ok, Err}
+use Rattle.std.specs.Prelude.{◌≡◌, ℕ, List, length, Option, Some, Ok, Err, IfSome}
 use Rattle.mp_factor.specs.declared.factor.Factor.{Factor}
 use Rattle.mp_factor.specs.declared.files.File.TheVariants as file
 use Rattle.mp_joint.specs.Fact.{Text}
@@ -57,6 +57,14 @@ ReadsTexts texts = Then (Each Says texts) (λ parts. Each Checks parts)
 -- the files of these names lead to the factors of a team
 abbrev pub ReadsTeam : Files → List Two → Reading (List Factor)
 ReadsTeam files names = Then (Each (FetchesTwo files) names) ReadsTexts
+
+-- These are the factors of some texts, an agent's two for each name: where the source tells what it holds, of what it holds under
+-- the names.
+pub record IsReadTeam (held : Option Files) (names : List Two) (team : List Factor) : Type 0 where
+  pub texts : List Two
+  pub fetched : IfSome held (λ files. Each (FetchesTwo files) names (Ok texts))
+  pub one_each : length texts ≡ length names
+  pub reads : ReadsTexts texts (Ok team)
 
 -- the texts of a team in memory lead to its factors
 abbrev pub ReadsMade : List Two → Reading (List Factor)

@@ -6,7 +6,7 @@ ghost use Rattle.mp_files.specs.Asked.{team_asked};
 ghost use Rattle.mp_files.specs.Cause.{IsOfReading, Rests, seen_source};
 ghost use Rattle.mp_files.specs.Fetched.{IsShort, names_of, texts_of};
 ghost use Rattle.mp_files.specs.Reading.{Refuses};
-ghost use Rattle.mp_files.specs.Team.{HoldsTeam, ReadsMade, ReadsTexts};
+ghost use Rattle.mp_files.specs.Team.{HoldsTeam, IsReadTeam, ReadsMade, ReadsTexts};
 
 use crate::fetched::{AgentFiles, AgentTexts, team_texts};
 use crate::measured::measured;
@@ -39,6 +39,7 @@ pub fn read_team<S: Source>(
 ) -> Result<List<CheckedFactor>, Refusal>
     ensures team { IfOk result (λ team. IfSome (S.held source.old)
         (λ files. HoldsTeam files (map names_of names.now) team)) }
+    ensures read { IfOk result (λ team. IsReadTeam (S.held source.old) (map names_of names.now) team) }
     ensures number { IfOk result (λ team. length team ≡ length names.now) }
     ensures cause { IfErr result (Rests
         (seen_source S.held S.faults S.fault_at source.old source.new) (map names_of names.now)) }

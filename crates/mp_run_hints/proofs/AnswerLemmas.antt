@@ -55,5 +55,5 @@ is_answered value limit team tasks law checked some are within few answer answer
       are_tasks = are;
       answers = answered;
       plan = found.0;
-      right = subst (λ a. IsRight value limit team tasks.tasks answered.schedule answered.last a found.0) (sym answered.is) found.1;
+      right = subst (λ a. IsRight limit team answered.last a found.0) (sym answered.is) found.1;
     }

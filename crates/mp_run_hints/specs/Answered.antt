@@ -42,4 +42,4 @@ module _ (value : AgentTask → Numbers → Numbers → Option ℕ) (limit : ℕ
     pub are_tasks : AreTasksOf team tasks
     pub answers : IsAnswerOf tasks.tasks answer
     pub plan : List PlanStep
-    pub right : IsRight value limit team tasks.tasks answers.schedule answers.last answer plan
+    pub right : IsRight limit team answers.last answer plan

@@ -19,7 +19,7 @@ use Rattle.mp_stands.specs.Stands.{Stands}
 use Rattle.mp_text.specs.Lines.{Text, text_of_lines}
 use Rattle.mp_text.specs.Outcome.{agent_lines, count_line, found_lines, labelled}
 use Rattle.mp_solutions.specs.PlanText.{answer_text, plan_lines}
-use Rattle.mp_solutions.specs.Right.{IsRight}
+use Rattle.mp_solutions.specs.Right.{IsLeftUndecided, IsRight}
 use Rattle.mp_solutions.proofs.Plans.{has_names, least_for_files, same_length, unsolvable_for_files}
 
 module _ (value : AgentTask → Numbers → Numbers → Option ℕ) (limit : ℕ) (team : List Factor) (tasks : List AgentTask) (schedule : List Event) (last : World)
@@ -32,7 +32,7 @@ module _ (value : AgentTask → Numbers → Numbers → Option ℕ) (limit : ℕ
 
   pub right_for_files : AreLinesOfPlans → (answer : Answer) → IsRightAnswer value limit tasks schedule last answer
       → (plan : List PlanStep)
-      × IsRight value limit team tasks schedule last answer plan
+      × IsRight limit team last answer plan
       × ((log : List Entry) → text_of_lines (found_lines answer (map (λ r. r.share) last.agents) names log) ≡ answer_text (length team) answer plan log)
   right_for_files lines Nothing right = absurd right
   right_for_files lines (Solved cost steps) right =
@@ -49,8 +49,10 @@ module _ (value : AgentTask → Numbers → Numbers → Option ℕ) (limit : ℕ
             (lines numbers found.plan right.outcome.shares found.named),
       )
   right_for_files lines Unsolvable right = ([], unsolvable_for_files team numbering tasks stands right, λ log. refl)
-  right_for_files lines Undecided right = (
-    [],
-    record { left = right; least = least_for_files team numbering tasks stands right.undecided.at_limit.least right.undecided.least },
-    λ log. refl,
-  )
+  right_for_files lines Undecided right = ([], (right.agent, right.undecided.spent), λ log. refl)
+
+  pub left_for_files : IsRightAnswer value limit tasks schedule last Undecided → IsLeftUndecided value limit team tasks schedule last
+  left_for_files right = record {
+    left = right;
+    least = least_for_files team numbering tasks stands right.undecided.at_limit.least right.undecided.least;
+  }

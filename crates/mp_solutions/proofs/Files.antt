@@ -1,5 +1,5 @@
 -- The answer of a team is right for its files.
-use Rattle.std.proofs.Common.{arith, ◌≡◌, ◌≤◌, ℕ, ◌∷◌, List, [], length, All, Option, Some, true, ap, ◌∙◌}
+use Rattle.std.proofs.Common.{arith, ◌≡◌, ◌≤◌, ℕ, ◌∷◌, List, [], length, All, Option, Some, true, ap, subst, ◌∙◌}
 use Rattle.std.specs.Prelude.{Contains}
 use Rattle.mp_sets.specs.Numbers.{Numbers}
 use Rattle.mp_factor.specs.declared.factor.Factor.{Factor}
@@ -14,6 +14,7 @@ use Rattle.mp_world.specs.Answers.{answer_of, outcome_of}
 use Rattle.mp_world.specs.Events.{run}
 use Rattle.mp_world.specs.RoundRobin.{is_over}
 use Rattle.mp_world.specs.World.{World}
+use Rattle.mp_world.specs.declared.answer.Answer.TheVariants.{Undecided}
 use Rattle.mp_world.proofs.Runs.{run_of_team}
 use Rattle.mp_world.proofs.Stepping.{team_size}
 use Rattle.mp_grounder.specs.Checked.{IsChecked}
@@ -22,11 +23,12 @@ use Rattle.mp_split.specs.declared.team.Tasks.{Tasks}
 use Rattle.mp_stands.proofs.Files.{files_stand}
 use Rattle.mp_team_states.proofs.SoundWorlds.{IsHeuristic}
 use Rattle.mp_team_verdicts.proofs.Answers.{answer_right}
+use Rattle.mp_team_verdicts.specs.Right.{IsRightAnswer}
 use Rattle.mp_text.specs.Outcome.{outcome_text}
 use Rattle.mp_outcome.specs.Names.{names_of}
 use Rattle.mp_solutions.specs.PlanText.{answer_text, plan_lines}
-use Rattle.mp_solutions.specs.Right.{IsRight}
-use Rattle.mp_solutions.proofs.Answers.{right_for_files}
+use Rattle.mp_solutions.specs.Right.{IsLeftUndecided, IsRight}
+use Rattle.mp_solutions.proofs.Answers.{left_for_files, right_for_files}
 use Rattle.mp_solutions.proofs.Names.{names_are, steps_are_own}
 use Rattle.mp_solutions.proofs.PlanTexts.{texts_agree}
 
@@ -40,7 +42,7 @@ pub answer_for_files : (value : AgentTask → Numbers → Numbers → Option ℕ
     → (Agree t.tasks → IsHeuristic value t.tasks)
     → (schedule : List Event) (last : World) → run value limit t.tasks schedule ≡ Some last → is_over last ≡ true
     → (plan : List PlanStep)
-    × IsRight value limit team t.tasks schedule last (answer_of last) plan
+    × IsRight limit team last (answer_of last) plan
     × ((log : List Entry) → outcome_text (outcome_of last) (names_of team t.steps) log ≡ answer_text (length team) (answer_of last) plan log)
 answer_for_files value limit team t all some are limits most heuristic schedule last ran finished =
     let found = files_stand team t all are in
@@ -57,3 +59,19 @@ answer_for_files value limit team t all some are limits most heuristic schedule 
     (λ agent low high. steps_are_own team t are numbering found.1 agent low (omega (arith, high, size)))
     ∙ ap (λ (n : ℕ). plan_lines n plan) size)
     (answer_of last) right
+
+-- where it is that nothing is decided, the search is left undecided
+pub left_undecided : (value : AgentTask → Numbers → Numbers → Option ℕ) (limit : ℕ) (team : List Factor) (t : Tasks)
+    → All IsChecked team → 1 ≤ length team → AreTasksOf team t → All IsWithinLimits t.tasks → limit ≤ 10000000
+    → (Agree t.tasks → IsHeuristic value t.tasks)
+    → (schedule : List Event) (last : World) → run value limit t.tasks schedule ≡ Some last → is_over last ≡ true
+    → answer_of last ≡ Undecided
+    → IsLeftUndecided value limit team t.tasks schedule last
+left_undecided value limit team t all some are limits most heuristic schedule last ran finished undecided =
+    let found = files_stand team t all are in
+    let stands = found.2 in
+    let one_each = stands.one_each in
+    let member = some_task t.tasks (omega (arith, one_each, some)) in
+    let right = answer_right value limit t.tasks stands.agree limits most (heuristic stands.agree) member.0 member.1 schedule last ran finished in
+    left_for_files value limit team t.tasks schedule last found.0 stands (names_of team t.steps)
+    (subst (IsRightAnswer value limit t.tasks schedule last) undecided right)

@@ -10,7 +10,7 @@ use Rattle.mp_messages.specs.declared.history.Event.{Event}
 use Rattle.mp_world.specs.declared.answer.Answer.{Answer}
 use Rattle.mp_world.specs.declared.answer.Answer.TheVariants.{Nothing, Solved, Unsolvable, Undecided}
 use Rattle.mp_world.specs.World.{World}
-use Rattle.mp_team_verdicts.specs.Right.{IsLeftUndecided as IsTeamLeftUndecided}
+use Rattle.mp_team_verdicts.specs.Right.{HasExpanded, IsLeftUndecided as IsTeamLeftUndecided}
 
 -- each plan that solves the united problem of these files costs at least so much
 abbrev pub CostsAtLeast : List Factor → ℕ → Type 0
@@ -27,25 +27,27 @@ pub record IsCheapest (team : List Factor) (cost steps : ℕ) (plan : List PlanS
   pub steps_are : length plan ≡ steps
   pub least : CostsAtLeast team cost
 
-module _
+module _ (limit : ℕ) (team : List Factor) (last : World) where
+  -- An answer is right for the files of a team whose agents have all ended in this world: a plan is a cheapest one, there is
+  -- none where it says so, and an agent has expanded as many entries as it may where it says that nothing is decided. It is not
+  -- right that there is no answer.
+  abbrev pub IsRight : Answer → List PlanStep → Type 0
+  IsRight Nothing plan = ⊥
+  IsRight (Solved cost steps) plan = IsCheapest team cost steps plan
+  IsRight Unsolvable plan = IsUnsolvable team
+  IsRight Undecided plan = (agent : ℕ) × HasExpanded last agent limit
+
+-- ---- For the law of searches that are left undecided.
+
+-- The search for a plan is left undecided: an agent is at its limit, as for the tasks, and each plan that solves costs at least
+-- what its least open entry did.
+pub record IsLeftUndecided
     (value : AgentTask → Numbers → Numbers → Option ℕ)
     (limit : ℕ)
     (team : List Factor)
     (tasks : List AgentTask)
     (schedule : List Event)
     (last : World)
-  where
-    -- The search for a plan is left undecided: an agent is at its limit, as for the tasks, and each plan that solves
-    -- costs at least what its least open entry did.
-    pub record IsLeftUndecided : Type 0 where
-      pub left : IsTeamLeftUndecided value limit tasks schedule last
-      pub least : CostsAtLeast team left.undecided.at_limit.least
-
-    -- An answer is right for the files that these tasks stand for, after a schedule that has led to this world: a plan is
-    -- a cheapest one, there is none where it says so, and the search is left undecided where it says so. It is not right
-    -- that there is no answer.
-    abbrev pub IsRight : Answer → List PlanStep → Type 0
-    IsRight Nothing plan = ⊥
-    IsRight (Solved cost steps) plan = IsCheapest team cost steps plan
-    IsRight Unsolvable plan = IsUnsolvable team
-    IsRight Undecided plan = IsLeftUndecided
+    : Type 0 where
+  pub left : IsTeamLeftUndecided value limit tasks schedule last
+  pub least : CostsAtLeast team left.undecided.at_limit.least

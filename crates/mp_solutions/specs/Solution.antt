@@ -46,9 +46,9 @@ module _
     (team : List Factor)
   where
     -- an answer is right for the files, and a text tells it, with a plan where there is one, and the counts of the log
-    pub record IsRightFor (tasks : List AgentTask) (schedule : List Event) (last : World) (found : Solution) : Type 0 where
+    pub record IsRightFor (last : World) (found : Solution) : Type 0 where
       pub plan : List PlanStep
-      pub right : IsRight value limit team tasks schedule last found.answer plan
+      pub right : IsRight limit team last found.answer plan
       pub printed : found.text ≡ answer_text (length team) found.answer plan found.log
 
     -- This was found for the files of a team, where each agent may expand so many entries, by a schedule: the agents have
@@ -66,7 +66,7 @@ module _
       pub logged : schedule_of found.log ≡ schedule
       pub answer : found.answer ≡ answer_of last
       pub told : found.text ≡ outcome_text (outcome_of last) (names_of team tasks.steps) found.log
-      pub right : is_over last ≡ true → IsRightFor tasks.tasks schedule last found
+      pub right : is_over last ≡ true → IsRightFor last found
       pub goes_on : is_over last ≡ false → (found.answer ≡ Nothing) × (found.text ≡ [])
 
     -- This was found by a schedule whose events happened one after another: the log is that of its run, in which each

@@ -1,4 +1,4 @@
-//! The answers of a team are right for its files. The law is the contract of a function that does nothing.
+//! The answers of a team are right for its files. Each law is the contract of a function that does nothing.
 
 ghost use Rattle.std.specs.Prelude.{◌≡◌, ◌≤◌, ℕ, true, length, List, Some, All};
 ghost use Rattle.mp_factor.specs.declared.factor.Factor.{Factor};
@@ -11,12 +11,13 @@ ghost use Rattle.mp_world.specs.Answers.{answer_of, outcome_of};
 ghost use Rattle.mp_world.specs.Events.{run};
 ghost use Rattle.mp_world.specs.RoundRobin.{is_over};
 ghost use Rattle.mp_world.specs.World.{World};
+ghost use Rattle.mp_world.specs.declared.answer.Answer.TheVariants.{Undecided};
 ghost use Rattle.mp_split.specs.Team.{AreTasksOf};
 ghost use Rattle.mp_split.specs.declared.team.Tasks.{Tasks};
 ghost use Rattle.mp_text.specs.Outcome.{outcome_text};
 ghost use Rattle.mp_outcome.specs.Names.{names_of};
 ghost use Rattle.mp_solutions.specs.PlanText.{answer_text};
-ghost use Rattle.mp_solutions.specs.Right.{IsRight};
+ghost use Rattle.mp_solutions.specs.Right.{IsLeftUndecided, IsRight};
 
 use mp_task::Heuristic;
 
@@ -29,7 +30,20 @@ pub fn answers_are_right_for_files<H: Heuristic>()
         → All IsWithinLimits tasks.tasks → limit ≤ 10000000
         → run H.value limit tasks.tasks schedule ≡ Some last → is_over last ≡ true
         → (plan : List PlanStep)
-        × IsRight H.value limit team tasks.tasks schedule last (answer_of last) plan
+        × IsRight limit team last (answer_of last) plan
         × ((log : List Entry) → outcome_text (outcome_of last) (names_of team tasks.steps) log
         ≡ answer_text (length team) (answer_of last) plan log) }
+{}
+
+/// Where the answer is then that nothing is decided, the search was left undecided: in the world after the cut at agent 1's
+/// last snapshot an agent had expanded as many entries as it may, while its least open entry was the least of all that was left
+/// to do and no goal entry cost as little; and each plan that solves the united problem of the files costs at least what that
+/// entry did.
+pub fn searches_are_left_undecided<H: Heuristic>()
+    ensures { (team : List Factor) (tasks : Tasks) (limit : ℕ) (schedule : List Event) (last : World)
+        → All IsChecked team → 1 ≤ length team → AreTasksOf team tasks
+        → All IsWithinLimits tasks.tasks → limit ≤ 10000000
+        → run H.value limit tasks.tasks schedule ≡ Some last → is_over last ≡ true
+        → answer_of last ≡ Undecided
+        → IsLeftUndecided H.value limit team tasks.tasks schedule last }
 {}

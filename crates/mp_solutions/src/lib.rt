@@ -4,5 +4,5 @@
 mod laws;
 mod solution;
 
-pub use laws::answers_are_right_for_files;
+pub use laws::{answers_are_right_for_files, searches_are_left_undecided};
 pub use solution::Solution;

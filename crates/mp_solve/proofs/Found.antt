@@ -36,7 +36,7 @@ AnswersAreRight value =
     → All IsWithinLimits tasks.tasks → limit ≤ 10000000
     → run value limit tasks.tasks schedule ≡ Some last → is_over last ≡ true
     → (plan : List PlanStep)
-    × IsRight value limit team tasks.tasks schedule last (answer_of last) plan
+    × IsRight limit team last (answer_of last) plan
     × ((log : List Entry) → outcome_text (outcome_of last) (names_of team tasks.steps) log
     ≡ answer_text (length team) (answer_of last) plan log)
 
@@ -58,12 +58,12 @@ module _ (value : AgentTask → Numbers → Numbers → Option ℕ) (limit : ℕ
     (s : Solution) (answer : s.answer ≡ answer_of last)
     (text : s.text ≡ outcome_text (outcome_of last) (names_of team tasks.steps) s.log)
   where
-    pub right_for : is_over last ≡ true → IsRightFor value limit team tasks.tasks schedule last s
+    pub right_for : is_over last ≡ true → IsRightFor value limit team last s
     right_for over =
         let found = law team tasks limit schedule last checked some are within few_entries leads over in
         record {
           plan = found.0;
-          right = subst (λ a. IsRight value limit team tasks.tasks schedule last a found.0) (sym answer) found.1;
+          right = subst (λ a. IsRight limit team last a found.0) (sym answer) found.1;
           printed = text ∙ found.2 s.log ∙ ap (λ a. answer_text (length team) a found.0 s.log) (sym answer);
         }
 

@@ -1,5 +1,5 @@
 -- The factors of a team that texts lead to are checked.
-use Rattle.std.proofs.Common.{◌≡◌, ◌<◌, ℕ, zero, suc, List, [], ◌∷◌, length, Some, Ok, All, refl, sym, subst, arith}
+use Rattle.std.proofs.Common.{◌≡◌, ◌<◌, ℕ, zero, suc, List, [], ◌∷◌, length, Option, Some, None, Ok, All, refl, sym, subst, ◌∙◌, arith}
 use Rattle.std.specs.Prelude.{slice_get}
 use Rattle.std.proofs.lemmas.List.Elements.{All-cons, All-nil}
 use Rattle.std.proofs.lemmas.Option.{slice_get_within}
@@ -9,7 +9,7 @@ use Rattle.mp_factor.specs.declared.factor.Factor.{Factor}
 use Rattle.mp_factor.specs.declared.files.File.TheVariants as file
 use Rattle.mp_factor.proofs.FileLemmas.{domain_of_file_fits, domain_of_file_is_named, problem_of_file_fits, problem_of_file_is_named}
 use Rattle.mp_files.specs.File.{Checks, Parts, SaysDomain, SaysProblem, file_of}
-use Rattle.mp_files.specs.Team.{ReadsTexts, Says, Two}
+use Rattle.mp_files.specs.Team.{IsReadTeam, ReadsTexts, Says, Two}
 use Rattle.mp_files.specs.declared.refusal.FileOf.{FileOf}
 use Rattle.mp_files.proofs.Each.{item_within}
 use Rattle.mp_grounder.specs.Checked.{IsChecked}
@@ -17,7 +17,7 @@ use Rattle.mp_joint.specs.Fact.{Text}
 use Rattle.mp_outside.specs.Source.{Files as Held}
 use Rattle.mp_top.specs.Asked.{Texts}
 use Rattle.mp_top.specs.Asked.Texts.{in_files, made}
-use Rattle.mp_top.specs.Team.{IsTeam}
+use Rattle.mp_top.specs.Team.{IsReadFor, IsTeam}
 
 -- what holds of the item at each place holds of all
 all_places : {X : Type 0} (P : X → Type 0) (xs : List X) → ((k : ℕ) (x : X) → slice_get xs k ≡ Some x → P x) → All P xs
@@ -63,3 +63,18 @@ checked_texts texts team (parts, said, checks) =
 pub checked_team : (files : Held) (texts : Texts) (team : List Factor) → IsTeam (Some files) texts team → All IsChecked team
 checked_team files (in_files names) team (texts, fetched, reads) = checked_texts texts team reads
 checked_team files (made names made_texts) team (texts, measured, reads) = checked_texts texts team reads
+
+-- ---- as they were read or made
+
+pub checked_read : (held : Option Held) (texts : Texts) (team : List Factor) → IsReadFor held texts team → All IsChecked team
+checked_read held (in_files names) team read = checked_texts read.texts team read.reads
+checked_read held (made names made_texts) team (texts, measured, reads) = checked_texts texts team reads
+
+pub team_read : (held : Option Held) (texts : Texts) (team : List Factor) → IsReadFor held texts team → IsTeam held texts team
+team_read None (in_files names) team read = tt
+team_read (Some files) (in_files names) team read = (read.texts, read.fetched, read.reads)
+team_read held (made names texts) team read = read
+
+-- there is one factor for each name
+pub read_each : (held : Option Held) (names : List Two) (team : List Factor) → IsReadTeam held names team → length team ≡ length names
+read_each held names team read = read.reads.2.0 ∙ read.reads.1.0 ∙ read.one_each

@@ -1,5 +1,5 @@
 -- Where nothing of the files is refused and no fault was counted, a call answers.
-use Rattle.std.proofs.Common.{◌≡◌, ◌<◌, ◌≤◌, inl, inr, ℕ, take, Option, Some, None, Err, MatchOption, refl, subst, arith, ◌∙◌}
+use Rattle.std.proofs.Common.{◌≡◌, ◌<◌, ◌≤◌, ◌⊎◌, inl, inr, ℕ, take, Some, None, Err, refl, subst, arith, ◌∙◌}
 use Rattle.std.specs.Prelude.{IsSomeAnd, slice_get}
 use Rattle.mp_files.specs.Cause.{SeenSource}
 use Rattle.mp_files.specs.Team.{ReadsTeam}
@@ -16,13 +16,14 @@ use Rattle.mp_top.specs.Cause.{CannotReadFactor, CannotReadFirst, CannotReadText
 use Rattle.mp_top.specs.Complete.{HadNoFault, IsAnswered, IsNotRefused}
 use Rattle.mp_top.specs.First.{ComesFirst}
 use Rattle.mp_top.specs.FirstText.{HaveTexts}
-use Rattle.mp_top.specs.Keeps.{IsLineFor, Keeps}
+use Rattle.mp_top.specs.Keeps.{FailsToPrint, IsRefusal, Keeps, PrintsOutcome}
 use Rattle.mp_top.specs.Refusal.{status_of}
 use Rattle.mp_top.specs.Team.{IsTextRefused}
 use Rattle.mp_top.specs.declared.refusal.Refusal.{Refusal}
 use Rattle.mp_top.specs.declared.refusal.Refusal.TheVariants.{Files, First, Sizes}
 use Rattle.mp_top.specs.declared.refusal.FirstRefusal.TheVariants as first
 use Rattle.mp_top.specs.declared.status.Status.TheVariants as status
+use Rattle.mp_top.proofs.Ends.{ends_for, outcome_status}
 
 module _ (source : SeenSource) (held : Held) (request : TeamRequest) (tells : source.held ≡ Some held)
     (none : IsNotRefused held request) (calm : source.now ≤ source.before) where
@@ -75,18 +76,14 @@ module _ (source : SeenSource) (held : Held) (request : TeamRequest) (tells : so
   memory_alone (First place first.TooLarge) rests = absurd (not_first (First place first.TooLarge) rests)
   memory_alone (First place (first.Line number)) rests = absurd (not_first (First place (first.Line number)) rests)
 
-of_some : {A : Type 0} (o : Option A) (x : A) (N : Type 0) (S : A → Type 0) → o ≡ Some x → MatchOption o N S → S x
-of_some None x N S is m = absurd (cc)
-of_some (Some y) x N S is m = let same : y ≡ x = cc in subst S same m
+by_end : (call : Call) (held : Held) (request : Wanted) → call.source.held ≡ Some held → IsNotRefused held (team_request request) → HadNoFault call → PrintsOutcome call request ⊎ FailsToPrint call request ⊎ IsRefusal call request → IsAnswered request call
+by_end call held request tells none calm (inl (text, outcome, whole, same, says)) =
+    inl (outcome_status call.source.held request call.report call.status text outcome)
+by_end call held request tells none calm (inr (inl (text, ended, outcome, begun, risen, is, says))) =
+    let most = calm.out in absurd (omega (arith, risen, most))
+by_end call held request tells none calm (inr (inr (_, (r, rests, is, says)))) =
+    inr (is ∙ memory_alone call.source held (team_request request) tells none calm.source r rests)
 
 pub answered : (call : Call) (files : Held) (request : Wanted) → Keeps call → call.source.held ≡ Some files → request_of call.words ≡ Some request → IsNotRefused files (team_request request) → HadNoFault call → IsAnswered request call
 answered call files request keeps tells asked none calm =
-    let line : IsLineFor call request keeps.line.0 =
-    of_some (request_of call.words) request _ (λ w. IsLineFor call w keeps.line.0) asked keeps.line.1 in
-    elim line [
-      | inl outcome ↦ inl outcome.0
-      | inr other ↦ elim other [
-        | inl unwritten ↦ absurd (omega (arith, calm.out, keeps.write.0 unwritten.0))
-        | inr refused ↦ inr (refused.1 ∙ memory_alone call.source files (team_request request) tells none calm.source refused.0 refused.3)
-      ]
-    ]
+    by_end call files request tells none calm (ends_for call request asked keeps)

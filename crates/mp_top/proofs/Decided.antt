@@ -1,16 +1,14 @@
 -- From a decision on a team to what the texts of a request lead to.
-use Rattle.std.proofs.Common.{◌≡◌, ℕ, Bool, true, List, [], ◌∷◌, length, map, Option, Result, Ok, Err, All, IfOk, IfErr, IfSome, refl, sym, subst, ap, ◌∙◌}
-use Rattle.std.proofs.lemmas.List.{length-map}
+use Rattle.std.proofs.Common.{◌≡◌, ℕ, Bool, true, List, [], ◌∷◌, Option, Result, Ok, Err, IfOk, IfErr, refl, sym, subst, ap, ◌∙◌}
 use Rattle.mp_factor.specs.declared.factor.Factor.{Factor}
 use Rattle.mp_joint.specs.Fact.{Text}
 use Rattle.mp_files.specs.Cause.{IsOfReading, Rests as FilesRest, SeenSource, seen_source}
 use Rattle.mp_files.specs.Reading.{Refuses}
-use Rattle.mp_files.specs.Team.{HoldsTeam, ReadsMade, Two}
+use Rattle.mp_files.specs.Team.{IsReadTeam, ReadsMade, Two}
 use Rattle.mp_files.specs.declared.refusal.Refusal.{Refusal as FilesRefusal}
 use Rattle.mp_files.specs.declared.refusal.Refusal.TheVariants as files
 use Rattle.mp_ground.specs.declared.refusal.GroundRefusal.{GroundRefusal}
 use Rattle.mp_ground.specs.declared.refusal.GroundRefusal.TheVariants.{TooManyTries, TooManyActions, TooManyFacts, OutOfMemory}
-use Rattle.mp_grounder.specs.Checked.{IsChecked}
 use Rattle.mp_maker.specs.Delivery.{delivery}
 use Rattle.mp_optimality.specs.Audits.{IsRefusedAudit}
 use Rattle.mp_optimality.specs.Certified.{IsCertified}
@@ -24,7 +22,7 @@ use Rattle.mp_solutions.specs.declared.solution.Solution.{Solution}
 use Rattle.mp_solve.specs.Refused.{AreWithin, Refuses as ReplayRefuses}
 use Rattle.mp_solve.specs.declared.refusal.ReplayRefusal.{ReplayRefusal}
 use Rattle.mp_solve.specs.declared.refusal.ReplayRefusal.TheVariants as replay
-use Rattle.mp_top.specs.Asked.{TeamRequest, Work, agents_of, longest_certificate, longest_plan, longest_schedule, made_texts, names_of_texts, values_of}
+use Rattle.mp_top.specs.Asked.{TeamRequest, Work, agents_of, longest_certificate, longest_plan, longest_schedule, values_of}
 use Rattle.mp_top.specs.Asked.Texts.{in_files, made}
 use Rattle.mp_top.specs.Asked.Work.{audited, checked, replayed, searched}
 use Rattle.mp_top.specs.Cause.{Rests}
@@ -40,8 +38,6 @@ use Rattle.mp_top.specs.declared.refusal.Refusal.TheVariants.{Files, First, Size
 use Rattle.mp_top.specs.declared.refusal.FirstRefusal.TheVariants as first
 use Rattle.mp_top.specs.declared.status.Status.TheVariants as status
 use Rattle.mp_top.proofs.Made.{never_read}
-use Rattle.mp_top.proofs.Valid.{told_exactly}
-use Rattle.mp_plan_verdict.specs.Verdict.{verdict}
 use Rattle.mp_words.specs.Requests.{Searching, ToAudit, ToCertify, ToCheck, ToMake, ToReplay, ToSolve}
 use Rattle.mp_words.specs.Requests.Wanted.{audits, certifies, checks, makes, replays, solves}
 
@@ -170,92 +166,49 @@ reading_status files.OutOfMemory h = absurd h
 
 -- ---- What is decided about each request.
 
-pub decided_solve : (held : Option Held) (w : ToSolve) (names : List Two) (team : List Factor) (d : Decision) → names ≡ agents_of w.names → IfSome held (λ files. HoldsTeam files names team) → length team ≡ length names → All IsChecked team → SolvesFor w.search w.work.one w.trace team d → Decides held (solves w) d
-decided_solve held w names team d same holds one_each all h = (
-  record {
-    team = team;
-    is_team = record {
-      are_first = tt;
-      is_team = subst (λ ns. IfSome held (λ files. HoldsTeam files ns team)) same holds;
-      one_each = one_each ∙ ap length same;
-      checked = all;
-    };
-    outcome = h.outcome;
-    solved = h.solved;
-    printed = h.printed;
-  },
-  h.ended,
-)
-
-pub decided_replay : (held : Option Held) (w : ToReplay) (names : List Two) (text : Text) (team : List Factor) (d : Decision) → names ≡ agents_of w.names → IsTextOf held (record { name = w.schedule; longest = longest_schedule }) text → IfSome held (λ files. HoldsTeam files names team) → length team ≡ length names → All IsChecked team → ReplaysBy w.search text team d → Decides held (replays w) d
-decided_replay held w names text team d same is holds one_each all h = (
-  record {
-    schedule = text;
-    team = team;
-    is_team = record {
-      are_first = (is, tt);
-      is_team = subst (λ ns. IfSome held (λ files. HoldsTeam files ns team)) same holds;
-      one_each = one_each ∙ ap length same;
-      checked = all;
-    };
-    outcome = h.outcome;
-    replayed = h.replayed;
-    printed = h.printed;
-  },
-  h.ended,
-)
-
-pub decided_check : (held : Option Held) (w : ToCheck) (names : List Two) (text : Text) (team : List Factor) (d : Decision) → names ≡ agents_of w.names → IsTextOf held (record { name = w.plan; longest = longest_plan }) text → IfSome held (λ files. HoldsTeam files names team) → length team ≡ length names → All IsChecked team → ChecksFor w.steps text team d → Decides held (checks w) d
-decided_check held w names text team d same is holds one_each all h = record {
-  first = text;
+pub decided_solve : (held : Option Held) (w : ToSolve) (names : List Two) (team : List Factor) (d : Decision) → names ≡ agents_of w.names → IsReadTeam held names team → SolvesFor w.search w.work.one w.trace team d → Decides held (solves w) d
+decided_solve held w names team d same read h = record {
+  first = [];
+  are_first = tt;
   team = team;
-  is_team = record {
-    are_first = (is, tt);
-    is_team = subst (λ ns. IfSome held (λ files. HoldsTeam files ns team)) same holds;
-    one_each = one_each ∙ ap length same;
-    checked = all;
-  };
-  plan = h.plan;
-  is_plan = h.is_plan;
-  empty = h.is_told.empty;
-  printed = h.is_told.printed;
-  is_ended = h.is_told.ended;
-  is_valid_text = told_exactly w.steps team h.plan d.status (told d) h.is_told.printed h.is_told.ended;
+  is_team = subst (λ ns. IsReadTeam held ns team) same read;
+  told = record { outcome = h.outcome; within = h.solved.within; found = h.solved.found; printed = h.printed; is_ended = h.ended };
 }
 
-pub decided_certify : (held : Option Held) (w : ToCertify) (names : List Two) (team : List Factor) (d : Decision) → names ≡ agents_of w.names → IfSome held (λ files. HoldsTeam files names team) → length team ≡ length names → All IsChecked team → CertifiesFor w.limit team d → Decides held (certifies w) d
-decided_certify held w names team d same holds one_each all h = (
-  record {
-    team = team;
-    is_team = record {
-      are_first = tt;
-      is_team = subst (λ ns. IfSome held (λ files. HoldsTeam files ns team)) same holds;
-      one_each = one_each ∙ ap length same;
-      checked = all;
-    };
-    outcome = h.outcome;
-    within = h.within;
-    certified = h.certified;
-  },
-  h.ended,
-)
-
-pub decided_audit : (held : Option Held) (w : ToAudit) (names : List Two) (certificate plan : Text) (team : List Factor) (d : Decision) → names ≡ agents_of w.names → IsTextOf held (record { name = w.certificate; longest = longest_certificate }) certificate → IsTextOf held (record { name = w.plan; longest = longest_plan }) plan → IfSome held (λ files. HoldsTeam files names team) → length team ≡ length names → All IsChecked team → AuditsFor certificate plan team d → Decides held (audits w) d
-decided_audit held w names certificate plan team d same first second holds one_each all h = record {
-  certificate = certificate;
-  plan = plan;
+pub decided_replay : (held : Option Held) (w : ToReplay) (names : List Two) (text : Text) (team : List Factor) (d : Decision) → names ≡ agents_of w.names → IsTextOf held (record { name = w.schedule; longest = longest_schedule }) text → IsReadTeam held names team → ReplaysBy w.search text team d → Decides held (replays w) d
+decided_replay held w names text team d same is read h = record {
+  first = text ∷ [];
+  are_first = (is, tt);
   team = team;
-  is_team = record {
-    are_first = (first, (second, tt));
-    is_team = subst (λ ns. IfSome held (λ files. HoldsTeam files ns team)) same holds;
-    one_each = one_each ∙ ap length same;
-    checked = all;
-  };
-  found = h.found;
-  is_audited = h.is_audited;
-  empty = h.is_told.empty;
-  printed = h.is_told.printed;
-  is_ended = h.is_told.ended;
+  is_team = subst (λ ns. IsReadTeam held ns team) same read;
+  told = record { outcome = h.outcome; within = h.replayed.within; found = h.replayed.found; printed = h.printed; is_ended = h.ended };
+}
+
+pub decided_check : (held : Option Held) (w : ToCheck) (names : List Two) (text : Text) (team : List Factor) (d : Decision) → names ≡ agents_of w.names → IsTextOf held (record { name = w.plan; longest = longest_plan }) text → IsReadTeam held names team → ChecksFor w.steps text team d → Decides held (checks w) d
+decided_check held w names text team d same is read h = record {
+  first = text ∷ [];
+  are_first = (is, tt);
+  team = team;
+  is_team = subst (λ ns. IsReadTeam held ns team) same read;
+  told = record { plan = h.plan; is_plan = h.is_plan; empty = h.is_told.empty; printed = h.is_told.printed; is_ended = h.is_told.ended };
+}
+
+pub decided_certify : (held : Option Held) (w : ToCertify) (names : List Two) (team : List Factor) (d : Decision) → names ≡ agents_of w.names → IsReadTeam held names team → CertifiesFor w.limit team d → Decides held (certifies w) d
+decided_certify held w names team d same read h = record {
+  first = [];
+  are_first = tt;
+  team = team;
+  is_team = subst (λ ns. IsReadTeam held ns team) same read;
+  told = record { outcome = h.outcome; within = h.within; certified = h.certified; is_ended = h.ended };
+}
+
+pub decided_audit : (held : Option Held) (w : ToAudit) (names : List Two) (certificate plan : Text) (team : List Factor) (d : Decision) → names ≡ agents_of w.names → IsTextOf held (record { name = w.certificate; longest = longest_certificate }) certificate → IsTextOf held (record { name = w.plan; longest = longest_plan }) plan → IsReadTeam held names team → AuditsFor certificate plan team d → Decides held (audits w) d
+decided_audit held w names certificate plan team d same first second read h = record {
+  first = certificate ∷ plan ∷ [];
+  are_first = (first, (second, tt));
+  team = team;
+  is_team = subst (λ ns. IsReadTeam held ns team) same read;
+  told = record { found = h.found; is_audited = h.is_audited; empty = h.is_told.empty; printed = h.is_told.printed; is_ended = h.is_told.ended };
 }
 
 -- what certifies an answer, told
@@ -270,23 +223,17 @@ certifies_for limit team c d within certified is = record {
   ended = is.ended ∙ ap answer_status (sym is.answer);
 }
 
-pub decided_make : (held : Option Held) (w : ToMake) (texts : List Text) (size : ℕ) (team : List Factor) (d : Decision) → texts ≡ delivery w.size w.number → size ≡ w.size → ReadsMade (agents_of texts) (Ok team) → length team ≡ length (names_of_texts (made_texts w.size w.number)) → All IsChecked team → MakesFor w.search w.work.one w.show texts size team d → Decides held (makes w) d
-decided_make held w texts size team d same same_size reads one_each all h = (
-  record {
-    team = team;
-    is_team = record {
-      are_first = tt;
-      is_team = subst (λ ts. ReadsMade (agents_of ts) (Ok team)) same reads;
-      one_each = one_each;
-      checked = all;
-    };
+pub decided_make : (held : Option Held) (w : ToMake) (texts : List Text) (size : ℕ) (team : List Factor) (d : Decision) → texts ≡ delivery w.size w.number → size ≡ w.size → ReadsMade (agents_of texts) (Ok team) → MakesFor w.search w.work.one w.show texts size team d → Decides held (makes w) d
+decided_make held w texts size team d same same_size reads h = record {
+  first = [];
+  are_first = tt;
+  team = team;
+  is_team = subst (λ ts. ReadsMade (agents_of ts) (Ok team)) same reads;
+  told = record {
     outcome = h.outcome;
-    solved = h.solved;
+    within = h.solved.within;
+    found = h.solved.found;
     printed = h.printed ∙ (λ i. told_made w.show (same i) (same_size i) d.answer);
-  },
-  h.ended,
-)
-
--- one factor for each agent whose files were read
-pub as_many : {X : Type 0} (f : X → Two) (files : List X) (names : List Two) (n : ℕ) → map f files ≡ names → n ≡ length files → n ≡ length names
-as_many f files names n same is = is ∙ sym (length-map files f) ∙ ap length same
+    is_ended = h.ended;
+  };
+}

@@ -22,8 +22,12 @@ pub mod TwoTexts
 pub mod Acts
 -- what a call keeps, by how it ends
 pub mod Kept
+-- how a call ends for a request, and with which statuses
+pub mod Ends
 -- where nothing is refused, a call answers
 pub mod Complete
+-- the first refusal comes
+pub mod FirstTold
 -- what is found for the agents of a request leads to one team
 pub mod OneTeam
 -- what is printed for two requests

@@ -7,7 +7,7 @@ use Rattle.mp_joint.specs.Fact.{Text}
 use Rattle.mp_logs.specs.Alike.{AreAlike}
 use Rattle.mp_messages.specs.History.{schedule}
 use Rattle.mp_messages.specs.declared.history.Event.{Event}
-use Rattle.mp_optimality.specs.Certified.{IsCertified}
+use Rattle.mp_maker.specs.Delivery.{delivery}
 use Rattle.mp_outside.specs.Acts.{FileAsked}
 use Rattle.mp_outside.specs.Source.{Files}
 use Rattle.mp_stands.specs.Renaming.{Renaming}
@@ -34,14 +34,15 @@ use Rattle.mp_top.specs.Asked.Work.{searched}
 use Rattle.mp_top.specs.Asked.{KeepsLimits, TeamRequest, Texts, agents_of, longest_schedule, names_of_texts, team_request, texts_of, values_of, without_heuristic}
 use Rattle.mp_top.specs.First.{IsAccepted, IsFirst}
 use Rattle.mp_top.specs.FirstText.{AreTextsOf, IsHeld, IsTextOf, text_at}
-use Rattle.mp_top.specs.Outcome.{AreSameRuns, HasTrace, IsInTurn, IsOutcome, IsPrintedAgain, IsSolved, Printed, Searches, answer_status, behind_trace, printed_text, reported, team_in}
-use Rattle.mp_top.specs.Team.{IsFoundForBoth, IsTeam}
+use Rattle.mp_top.specs.Outcome.{AreSameRuns, HasTrace, IsInTurn, IsOutcome, IsPrintedAgain, Printed, Searches, Tells, answer_status, behind_trace, printed_text, reported}
+use Rattle.mp_top.specs.Team.{IsFoundForBoth, IsReadFor, IsTeam}
 use Rattle.mp_top.specs.declared.refusal.Refusal.{Refusal}
 use Rattle.mp_top.specs.declared.refusal.Refusal.TheVariants.{Files as FilesRefused, First, Sizes}
 use Rattle.mp_top.specs.declared.refusal.FirstRefusal.TheVariants as of_first
 use Rattle.mp_top.specs.declared.report.Report.{Report}
 use Rattle.mp_top.specs.declared.status.Status.{Status}
-use Rattle.mp_top.proofs.Checked.{checked_team}
+use Rattle.mp_top.proofs.Checked.{checked_read, checked_team, read_each, team_read}
+use Rattle.mp_top.proofs.Made.{made_for_each}
 use Rattle.mp_top.proofs.One.{one_texts}
 use Rattle.mp_top.proofs.OneTeam.{TeamLaw, one_team, team_held, team_of_both}
 
@@ -55,97 +56,119 @@ abbrev FoundInTurn : Searching → List Factor → Report → Text → Type 0
 FoundInTurn s team report outcome =
     (events : List Event) × IsFoundInTurn (values_of s.heuristic) s.limit team events (reported report outcome)
 
-solved_by : (s : Searching) (one : Bool) (team : List Factor) (report : Report) (outcome : Text) → IsSolved s one team report outcome → FoundBy s team report outcome
-solved_by s one team report outcome solved =
-    let ended = found_to_end (values_of s.heuristic) s.limit team (reported report outcome) one solved.found in
+solved_by : (s : Searching) (one : Bool) (team : List Factor) (report : Report) (outcome : Text) → IsFoundOn (values_of s.heuristic) s.limit team one (reported report outcome) → FoundBy s team report outcome
+solved_by s one team report outcome found =
+    let ended = found_to_end (values_of s.heuristic) s.limit team (reported report outcome) one found in
     (ended.schedule, ended.is_found)
 
-solved_in_turn : (s : Searching) (one : Bool) (team : List Factor) (report : Report) (outcome : Text) → one ≡ true → IsSolved s one team report outcome → FoundInTurn s team report outcome
-solved_in_turn s one team report outcome alone solved =
+solved_in_turn : (s : Searching) (one : Bool) (team : List Factor) (report : Report) (outcome : Text) → one ≡ true → IsFoundOn (values_of s.heuristic) s.limit team one (reported report outcome) → FoundInTurn s team report outcome
+solved_in_turn s one team report outcome alone by =
     let found : IsSolution (values_of s.heuristic) s.limit team (reported report outcome) =
-    subst (λ o. IsFoundOn (values_of s.heuristic) s.limit team o (reported report outcome)) alone solved.found in
+    subst (λ o. IsFoundOn (values_of s.heuristic) s.limit team o (reported report outcome)) alone by in
     (found.schedule, found.in_turn)
 
--- what certifies a search is of one on one thread alone
-certified_solved : (limit : ℕ) (team : List Factor) (report : Report) (outcome text : Text) → AreWithin team → IsCertified limit team (reported report outcome) text → IsSolved (without_heuristic limit) true team report outcome
-certified_solved limit team report outcome text within h = record { within = within; found = h.solution }
+-- ---- what is told of a team whose agents search
 
-abbrev pub outcome_text : (held : Option Files) (request : Wanted) (s : Searching) (report : Report) (ended : Status) (text : Text) → Searches request s → IsOutcome held request report ended text → Text
-outcome_text held (solves w) s report ended text is (o, end) = o.outcome
-outcome_text held (replays w) s report ended text is (o, end) = o.outcome
-outcome_text held (checks w) s report ended text is o = absurd is
-outcome_text held (certifies w) s report ended text is (o, end) = o.outcome
-outcome_text held (audits w) s report ended text is o = absurd is
-outcome_text held (makes w) s report ended text is (o, end) = o.outcome
+module _ (team : List Factor) (report : Report) (ended : Status) (text : Text) (first : List Text) (s : Searching) where
+  abbrev pub told_text : (request : Wanted) → Searches request s → Tells team report ended text request first → Text
+  told_text (solves w) is t = t.outcome
+  told_text (replays w) is t = t.outcome
+  told_text (checks w) is t = absurd is
+  told_text (certifies w) is t = t.outcome
+  told_text (audits w) is t = absurd is
+  told_text (makes w) is t = t.outcome
 
-pub outcome_found : (held : Option Files) (request : Wanted) (s : Searching) (report : Report) (ended : Status) (text : Text) (is : Searches request s) (o : IsOutcome held request report ended text) → FoundBy s (team_in held request report ended text o) report (outcome_text held request s report ended text is o)
-outcome_found held (solves w) s report ended text is (o, end) =
-    subst (λ how. FoundBy how o.team report o.outcome) is (solved_by w.search w.work.one o.team report o.outcome o.solved)
-outcome_found held (replays w) s report ended text is (o, end) =
-    subst (λ how. FoundBy how o.team report o.outcome) is (map (λ line. line.event) o.replayed.found.lines, o.replayed.found.in_turn.is_found)
-outcome_found held (checks w) s report ended text is o = absurd is
-outcome_found held (certifies w) s report ended text is (o, end) =
-    subst (λ how. FoundBy how o.team report o.outcome) is
-    (solved_by (without_heuristic w.limit) true o.team report o.outcome (certified_solved w.limit o.team report o.outcome text o.within o.certified))
-outcome_found held (audits w) s report ended text is o = absurd is
-outcome_found held (makes w) s report ended text is (o, end) =
-    subst (λ how. FoundBy how o.team report o.outcome) is (solved_by w.search w.work.one o.team report o.outcome o.solved)
+  told_found : (request : Wanted) (is : Searches request s) (t : Tells team report ended text request first) → FoundBy s team report (told_text request is t)
+  told_found (solves w) is t =
+      subst (λ how. FoundBy how team report t.outcome) is (solved_by w.search w.work.one team report t.outcome t.found)
+  told_found (replays w) is t =
+      subst (λ how. FoundBy how team report t.outcome) is (map (λ line. line.event) t.found.lines, t.found.in_turn.is_found)
+  told_found (checks w) is t = absurd is
+  told_found (certifies w) is t =
+      subst (λ how. FoundBy how team report t.outcome) is
+      (solved_by (without_heuristic w.limit) true team report t.outcome t.certified.solution)
+  told_found (audits w) is t = absurd is
+  told_found (makes w) is t =
+      subst (λ how. FoundBy how team report t.outcome) is (solved_by w.search w.work.one team report t.outcome t.found)
 
-outcome_in_turn : (held : Option Files) (request : Wanted) (s : Searching) (report : Report) (ended : Status) (text : Text) (is : Searches request s) → IsInTurn request → (o : IsOutcome held request report ended text) → FoundInTurn s (team_in held request report ended text o) report (outcome_text held request s report ended text is o)
-outcome_in_turn held (solves w) s report ended text is turn (o, end) =
-    subst (λ how. FoundInTurn how o.team report o.outcome) is (solved_in_turn w.search w.work.one o.team report o.outcome turn o.solved)
-outcome_in_turn held (replays w) s report ended text is turn (o, end) =
-    subst (λ how. FoundInTurn how o.team report o.outcome) is (map (λ line. line.event) o.replayed.found.lines, o.replayed.found.in_turn)
-outcome_in_turn held (checks w) s report ended text is turn o = absurd is
-outcome_in_turn held (certifies w) s report ended text is turn (o, end) =
-    subst (λ how. FoundInTurn how o.team report o.outcome) is
-    (solved_in_turn (without_heuristic w.limit) true o.team report o.outcome refl (certified_solved w.limit o.team report o.outcome text o.within o.certified))
-outcome_in_turn held (audits w) s report ended text is turn o = absurd is
-outcome_in_turn held (makes w) s report ended text is turn (o, end) =
-    subst (λ how. FoundInTurn how o.team report o.outcome) is (solved_in_turn w.search w.work.one o.team report o.outcome turn o.solved)
+  told_in_turn : (request : Wanted) (is : Searches request s) → IsInTurn request → (t : Tells team report ended text request first) → FoundInTurn s team report (told_text request is t)
+  told_in_turn (solves w) is turn t =
+      subst (λ how. FoundInTurn how team report t.outcome) is (solved_in_turn w.search w.work.one team report t.outcome turn t.found)
+  told_in_turn (replays w) is turn t =
+      subst (λ how. FoundInTurn how team report t.outcome) is (map (λ line. line.event) t.found.lines, t.found.in_turn)
+  told_in_turn (checks w) is turn t = absurd is
+  told_in_turn (certifies w) is turn t =
+      subst (λ how. FoundInTurn how team report t.outcome) is
+      (solved_in_turn (without_heuristic w.limit) true team report t.outcome refl t.certified.solution)
+  told_in_turn (audits w) is turn t = absurd is
+  told_in_turn (makes w) is turn t =
+      subst (λ how. FoundInTurn how team report t.outcome) is (solved_in_turn w.search w.work.one team report t.outcome turn t.found)
 
-pub outcome_checked : (held : Option Files) (request : Wanted) (report : Report) (ended : Status) (text : Text) (o : IsOutcome held request report ended text) → All IsChecked (team_in held request report ended text o)
-outcome_checked held (solves w) report ended text (o, end) = o.is_team.checked
-outcome_checked held (replays w) report ended text (o, end) = o.is_team.checked
-outcome_checked held (checks w) report ended text o = o.is_team.checked
-outcome_checked held (certifies w) report ended text (o, end) = o.is_team.checked
-outcome_checked held (audits w) report ended text o = o.is_team.checked
-outcome_checked held (makes w) report ended text (o, end) = o.is_team.checked
+  told_within : (request : Wanted) → Searches request s → Tells team report ended text request first → AreWithin team
+  told_within (solves w) is t = t.within
+  told_within (replays w) is t = t.within
+  told_within (checks w) is t = absurd is
+  told_within (certifies w) is t = t.within
+  told_within (audits w) is t = absurd is
+  told_within (makes w) is t = t.within
 
-pub of_each : (held : Option Files) (request : Wanted) (report : Report) (ended : Status) (text : Text) → (o : IsOutcome held request report ended text) → length (team_in held request report ended text o) ≡ length (names_of_texts (texts_of request))
-of_each held (solves w) report ended text (o, end) = o.is_team.one_each
-of_each held (replays w) report ended text (o, end) = o.is_team.one_each
-of_each held (checks w) report ended text o = o.is_team.one_each
-of_each held (certifies w) report ended text (o, end) = o.is_team.one_each
-of_each held (audits w) report ended text o = o.is_team.one_each
-of_each held (makes w) report ended text (o, end) = o.is_team.one_each
+  told_status : (request : Wanted) → Searches request s → Tells team report ended text request first → ended ≡ answer_status report.answer
+  told_status (solves w) is t = t.is_ended
+  told_status (replays w) is t = t.is_ended
+  told_status (checks w) is t = absurd is
+  told_status (certifies w) is t = t.is_ended
+  told_status (audits w) is t = absurd is
+  told_status (makes w) is t = t.is_ended
 
-pub few_agents : (held : Option Files) (request : Wanted) (report : Report) (ended : Status) (text : Text) → KeepsLimits request → (o : IsOutcome held request report ended text) → length (team_in held request report ended text o) ≤ 16
-few_agents held request report ended text keeps o = subst (λ n. n ≤ 16) (sym (of_each held request report ended text o)) keeps.at_most
+  told_trace : (request : Wanted) (is : Searches request s) → HasTrace request → (t : Tells team report ended text request first) → text ≡ printed_text true report.log report.answer (told_text request is t)
+  told_trace (solves w) is trace t = t.printed ∙ ap (λ b. printed_text b report.log report.answer t.outcome) trace
+  told_trace (replays w) is trace t = t.printed
+  told_trace (checks w) is trace t = absurd is
+  told_trace (certifies w) is trace t = absurd trace
+  told_trace (audits w) is trace t = absurd is
+  told_trace (makes w) is trace t = absurd trace
 
-pub outcome_team : (held : Option Files) (request : Wanted) (report : Report) (ended : Status) (text : Text) → (o : IsOutcome held request report ended text) → IsTeam held (texts_of request) (team_in held request report ended text o)
-outcome_team held (solves w) report ended text (o, end) = o.is_team.is_team
-outcome_team held (replays w) report ended text (o, end) = o.is_team.is_team
-outcome_team held (checks w) report ended text o = o.is_team.is_team
-outcome_team held (certifies w) report ended text (o, end) = o.is_team.is_team
-outcome_team held (audits w) report ended text o = o.is_team.is_team
-outcome_team held (makes w) report ended text (o, end) = o.is_team.is_team
+-- there is one factor for each agent
+pub for_each : (held : Option Files) (request : Wanted) (team : List Factor) → IsReadFor held (texts_of request) team → length team ≡ length (names_of_texts (texts_of request))
+for_each held (solves w) team read = read_each held (agents_of w.names) team read
+for_each held (replays w) team read = read_each held (agents_of w.names) team read
+for_each held (checks w) team read = read_each held (agents_of w.names) team read
+for_each held (certifies w) team read = read_each held (agents_of w.names) team read
+for_each held (audits w) team read = read_each held (agents_of w.names) team read
+for_each held (makes w) team read = made_for_each (delivery w.size w.number) team w.size w.number refl read
 
-pub outcome_within : (held : Option Files) (request : Wanted) (s : Searching) (report : Report) (ended : Status) (text : Text) → Searches request s → (o : IsOutcome held request report ended text) → AreWithin (team_in held request report ended text o)
-outcome_within held (solves w) s report ended text is (o, end) = o.solved.within
-outcome_within held (replays w) s report ended text is (o, end) = o.replayed.within
-outcome_within held (checks w) s report ended text is o = absurd is
-outcome_within held (certifies w) s report ended text is (o, end) = o.within
-outcome_within held (audits w) s report ended text is o = absurd is
-outcome_within held (makes w) s report ended text is (o, end) = o.solved.within
+-- what is known of an outcome
+module _ (held : Option Files) (request : Wanted) (report : Report) (ended : Status) (text : Text) (o : IsOutcome held request report ended text) where
+  pub outcome_checked : All IsChecked o.team
+  outcome_checked = checked_read held (texts_of request) o.team o.is_team
 
-pub outcome_status : (held : Option Files) (request : Wanted) (s : Searching) (report : Report) (ended : Status) (text : Text) → Searches request s → IsOutcome held request report ended text → ended ≡ answer_status report.answer
-outcome_status held (solves w) s report ended text is (o, end) = end
-outcome_status held (replays w) s report ended text is (o, end) = end
-outcome_status held (checks w) s report ended text is o = absurd is
-outcome_status held (certifies w) s report ended text is (o, end) = end
-outcome_status held (audits w) s report ended text is o = absurd is
-outcome_status held (makes w) s report ended text is (o, end) = end
+  pub of_each : length o.team ≡ length (names_of_texts (texts_of request))
+  of_each = for_each held request o.team o.is_team
+
+  pub few_agents : KeepsLimits request → length o.team ≤ 16
+  few_agents keeps = subst (λ n. n ≤ 16) (sym of_each) keeps.at_most
+
+  pub outcome_team : IsTeam held (texts_of request) o.team
+  outcome_team = team_read held (texts_of request) o.team o.is_team
+
+  module _ (s : Searching) (is : Searches request s) where
+    abbrev pub outcome_text : Text
+    outcome_text = told_text o.team report ended text o.first s request is o.told
+
+    pub outcome_found : FoundBy s o.team report outcome_text
+    outcome_found = told_found o.team report ended text o.first s request is o.told
+
+    pub outcome_in_turn : IsInTurn request → FoundInTurn s o.team report outcome_text
+    outcome_in_turn turn = told_in_turn o.team report ended text o.first s request is turn o.told
+
+    pub outcome_within : AreWithin o.team
+    outcome_within = told_within o.team report ended text o.first s request is o.told
+
+    pub outcome_status : ended ≡ answer_status report.answer
+    outcome_status = told_status o.team report ended text o.first s request is o.told
+
+    pub traced : HasTrace request → text ≡ printed_text true report.log report.answer outcome_text
+    traced trace = told_trace o.team report ended text o.first s request is trace o.told
 
 -- ---- traces
 
@@ -154,22 +177,17 @@ text_held : (held : Option Files) (file : FileAsked) (text first : Text) → IsH
 text_held None file text first there is = absurd there
 text_held (Some files) file text first there is = same_Some first text (sym is.0 ∙ there)
 
+first_text_is : (held : Option Files) (file : FileAsked) (files : List FileAsked) (first : List Text) → AreTextsOf held (file ∷ files) first → IsTextOf held file (text_at first 0)
+first_text_is held file files [] are = absurd are
+first_text_is held file files (text ∷ texts) are = are.0
+
 behind_ends : (a : Answer) → is_end (behind_trace a) ≡ true
 behind_ends answer.Nothing = refl
 behind_ends (answer.Solved cost steps) = refl
 behind_ends answer.Unsolvable = refl
 behind_ends answer.Undecided = refl
 
--- what is printed with a trace
-traced : (held : Option Files) (request : Wanted) (s : Searching) (report : Report) (ended : Status) (text : Text) (is : Searches request s) → HasTrace request → (o : IsOutcome held request report ended text) → text ≡ printed_text true report.log report.answer (outcome_text held request s report ended text is o)
-traced held (solves w) s report ended text is trace (o, end) = o.printed ∙ ap (λ t. printed_text t report.log report.answer o.outcome) trace
-traced held (replays w) s report ended text is trace (o, end) = o.printed
-traced held (checks w) s report ended text is trace o = absurd is
-traced held (certifies w) s report ended text is trace (o, end) = absurd trace
-traced held (audits w) s report ended text is trace o = absurd is
-traced held (makes w) s report ended text is trace (o, end) = absurd trace
-
--- begins with it
+-- what is printed with a trace begins with it
 is_trace : (report : Report) (text outcome : Text) → text ≡ printed_text true report.log report.answer outcome → IsTraceOf report.log text
 is_trace report text outcome printed = record {
   end = behind_trace report.answer;
@@ -228,17 +246,17 @@ module _ (law : TeamLaw) (none : NoneFirst) (files : Files) (replay : ToReplay) 
 pub trace_accepted : NoLineRefused → TeamLaw → NoneFirst → (held : Option Files) (files : Files) (request : Wanted) (replay : ToReplay) (first : Printed held request) (r : Refusal) → KeepsLimits request → Searches request replay.search → HasTrace request → IsFoundForBoth held (Some files) (texts_of request) (texts_of (replays replay)) → files replay.schedule ≡ Some first.text → length first.text ≤ longest_schedule → IsFirst files (team_request (replays replay)) r → ⊥
 trace_accepted accepted law none held files request replay first r keeps is trace both there short refused =
     let s = replay.search in
-    let team = team_in held request first.report first.ended first.text first.outcome in
-    let found = outcome_found held request s first.report first.ended first.text is first.outcome in
-    let outcome = outcome_text held request s first.report first.ended first.text is first.outcome in
+    let team = first.outcome.team in
+    let found = outcome_found held request first.report first.ended first.text first.outcome s is in
+    let outcome = outcome_text held request first.report first.ended first.text first.outcome s is in
     none_refused law none files replay first.text team
     ((there, short), tt)
     (team_held law held files (texts_of request) (agents_of replay.names) team both (outcome_team held request first.report first.ended first.text first.outcome))
-    (outcome_within held request s first.report first.ended first.text is first.outcome)
+    (outcome_within held request first.report first.ended first.text first.outcome s is)
     (λ n. accepted (values_of s.heuristic) s.limit team found.0 (reported first.report outcome) first.text n
     (outcome_checked held request first.report first.ended first.text first.outcome)
-    (few_agents held request first.report first.ended first.text keeps first.outcome) found.1
-    (is_trace first.report first.text outcome (traced held request s first.report first.ended first.text is trace first.outcome)))
+    (few_agents held request first.report first.ended first.text first.outcome keeps) found.1
+    (is_trace first.report first.text outcome (traced held request first.report first.ended first.text first.outcome s is trace)))
     r refused
 
 -- and it is replayed as it was
@@ -262,24 +280,24 @@ ReplaysInTurn =
     → again.log ≡ found.log
 
 module _ (held other : Option Files) (request : Wanted) (replay : ToReplay) (report again : Report) (ended its_end : Status) (text printed : Text) (first : IsOutcome held request report ended text) (second : IsOutcome other (replays replay) again its_end printed) where
-  replayed_same : second.0.team ≡ team_in held request report ended text first → second.0.schedule ≡ text → IsReplayed (values_of replay.search.heuristic) replay.search.limit (team_in held request report ended text first) text (reported again second.0.outcome)
+  replayed_same : second.team ≡ first.team → text_at second.first 0 ≡ text → IsReplayed (values_of replay.search.heuristic) replay.search.limit first.team text (reported again second.told.outcome)
   replayed_same team text_is =
-      subst (λ t. IsReplayed (values_of replay.search.heuristic) replay.search.limit (team_in held request report ended text first) t (reported again second.0.outcome)) text_is
-      (subst (λ t. IsReplayed (values_of replay.search.heuristic) replay.search.limit t second.0.schedule (reported again second.0.outcome)) team second.0.replayed.found)
+      subst (λ t. IsReplayed (values_of replay.search.heuristic) replay.search.limit first.team t (reported again second.told.outcome)) text_is
+      (subst (λ t. IsReplayed (values_of replay.search.heuristic) replay.search.limit t (text_at second.first 0) (reported again second.told.outcome)) team second.told.found)
 
-  same_printed : (outcome : Text) → text ≡ printed_text true report.log report.answer outcome → trace_text again.log ≡ trace_text report.log → again.answer ≡ report.answer → second.0.outcome ≡ outcome → printed ≡ text
+  same_printed : (outcome : Text) → text ≡ printed_text true report.log report.answer outcome → trace_text again.log ≡ trace_text report.log → again.answer ≡ report.answer → second.told.outcome ≡ outcome → printed ≡ text
   same_printed outcome is traces answer same =
-      second.0.printed ∙ (λ i. traces i ++ (behind_trace (answer i) ++ 10 ∷ same i)) ∙ sym is
+      second.told.printed ∙ (λ i. traces i ++ (behind_trace (answer i) ++ 10 ∷ same i)) ∙ sym is
 
-  pub trace_again : Replays → KeepsLimits request → Searches request replay.search → HasTrace request → second.0.team ≡ team_in held request report ended text first → second.0.schedule ≡ text → (printed ≡ text) × AreAlike report.log again.log × TellTheSame report.log again.log × (again.answer ≡ report.answer) × (again.views ≡ report.views)
+  pub trace_again : Replays → KeepsLimits request → Searches request replay.search → HasTrace request → second.team ≡ first.team → text_at second.first 0 ≡ text → (printed ≡ text) × AreAlike report.log again.log × TellTheSame report.log again.log × (again.answer ≡ report.answer) × (again.views ≡ report.views)
   trace_again law keeps is trace team text_is =
       let s = replay.search in
-      let found = outcome_found held request s report ended text is first in
-      let outcome = outcome_text held request s report ended text is first in
-      let told = traced held request s report ended text is trace first in
+      let found = outcome_found held request report ended text first s is in
+      let outcome = outcome_text held request report ended text first s is in
+      let told = traced held request report ended text first s is trace in
       let same =
-      law (values_of s.heuristic) s.limit (team_in held request report ended text first) found.0 (reported report outcome) (reported again second.0.outcome) text
-      (outcome_checked held request report ended text first) (few_agents held request report ended text keeps first) found.1
+      law (values_of s.heuristic) s.limit first.team found.0 (reported report outcome) (reported again second.told.outcome) text
+      (outcome_checked held request report ended text first) (few_agents held request report ended text first keeps) found.1
       (is_trace report text outcome told) (replayed_same team text_is) in (
         same_printed outcome told same.search.told.traces same.search.answer same.text,
         same.search.alike,
@@ -288,32 +306,32 @@ module _ (held other : Option Files) (request : Wanted) (replay : ToReplay) (rep
         same.views,
       )
 
-  pub log_again : ReplaysInTurn → KeepsLimits request → Searches request replay.search → HasTrace request → second.0.team ≡ team_in held request report ended text first → second.0.schedule ≡ text → IsInTurn request → again.log ≡ report.log
+  pub log_again : ReplaysInTurn → KeepsLimits request → Searches request replay.search → HasTrace request → second.team ≡ first.team → text_at second.first 0 ≡ text → IsInTurn request → again.log ≡ report.log
   log_again law keeps is trace team text_is turn =
       let s = replay.search in
-      let found = outcome_in_turn held request s report ended text is turn first in
-      let outcome = outcome_text held request s report ended text is first in
-      law (values_of s.heuristic) s.limit (team_in held request report ended text first) found.0 (reported report outcome) (reported again second.0.outcome) text
-      (outcome_checked held request report ended text first) (few_agents held request report ended text keeps first) found.1
-      (is_trace report text outcome (traced held request s report ended text is trace first)) (replayed_same team text_is)
+      let found = outcome_in_turn held request report ended text first s is turn in
+      let outcome = outcome_text held request report ended text first s is in
+      law (values_of s.heuristic) s.limit first.team found.0 (reported report outcome) (reported again second.told.outcome) text
+      (outcome_checked held request report ended text first) (few_agents held request report ended text first keeps) found.1
+      (is_trace report text outcome (traced held request report ended text first s is trace)) (replayed_same team text_is)
 
 pub printed_again : Replays → ReplaysInTurn → TeamLaw → (held other : Option Files) (request : Wanted) (replay : ToReplay) (first : Printed held request) (second : Printed other (replays replay)) → KeepsLimits request → Searches request replay.search → HasTrace request → IsFoundForBoth held other (texts_of request) (texts_of (replays replay)) → IsHeld other replay.schedule first.text → IsPrintedAgain held other request (replays replay) first second
 printed_again law turn files held other request replay first second keeps is trace both there =
     let team =
     team_of_both files held other (texts_of request) (texts_of (replays replay))
-    (team_in held request first.report first.ended first.text first.outcome) second.outcome.0.team both
-    (outcome_team held request first.report first.ended first.text first.outcome) second.outcome.0.is_team.is_team in
+    first.outcome.team second.outcome.team both
+    (outcome_team held request first.report first.ended first.text first.outcome) (outcome_team other (replays replay) second.report second.ended second.text second.outcome) in
     let text =
-    text_held other (record { name = replay.schedule; longest = longest_schedule }) first.text second.outcome.0.schedule
-    there second.outcome.0.is_team.are_first.0 in
+    text_held other (record { name = replay.schedule; longest = longest_schedule }) first.text (text_at second.outcome.first 0)
+    there (first_text_is other (record { name = replay.schedule; longest = longest_schedule }) [] second.outcome.first second.outcome.are_first) in
     let again =
     trace_again held other request replay first.report second.report first.ended second.ended first.text second.text
     first.outcome second.outcome law keeps is trace team text in
     record {
       text = again.0;
       ended =
-          second.outcome.1 ∙ ap answer_status again.3
-          ∙ sym (outcome_status held request replay.search first.report first.ended first.text is first.outcome);
+          second.outcome.told.is_ended ∙ ap answer_status again.3
+          ∙ sym (outcome_status held request first.report first.ended first.text first.outcome replay.search is);
       runs = record { alike = again.1; told = again.2; answer = again.3 };
       views = again.4;
       log =
@@ -357,7 +375,7 @@ module _ (law : TeamLaw) (files others : Files) (request : Wanted) (s : Searchin
     (team other : List Factor) (place : ℕ) (r : Renaming) (is : Searches request s)
     (of_files : IsTeam (Some files) (texts_of request) team) (renames : IsRenamedTeam place r team other) where
   abbrev own : List Factor
-  own = team_in (Some files) request first.report first.ended first.text first.outcome
+  own = first.outcome.team
 
   own_checked : All IsChecked own
   own_checked = outcome_checked (Some files) request first.report first.ended first.text first.outcome
@@ -371,10 +389,10 @@ module _ (law : TeamLaw) (files others : Files) (request : Wanted) (s : Searchin
   own_renames = subst (λ t. IsRenamedTeam place r t other) same_own renames
 
   abbrev own_text : Text
-  own_text = outcome_text (Some files) request s first.report first.ended first.text is first.outcome
+  own_text = outcome_text (Some files) request first.report first.ended first.text first.outcome s is
 
   own_found : FoundBy s own first.report own_text
-  own_found = outcome_found (Some files) request s first.report first.ended first.text is first.outcome
+  own_found = outcome_found (Some files) request first.report first.ended first.text first.outcome s is
 
   module _ (texts : Texts) (of_others : IsTeam (Some others) texts other) (tasks : Tasks) (are : AreTasksOf other tasks) where
     pub views_kept : KeepsViews → tasks.views ≡ first.report.views
@@ -391,7 +409,7 @@ module _ (law : TeamLaw) (files others : Files) (request : Wanted) (s : Searchin
       (of_others : IsTeam (Some others) (texts_of its) other)
       (events : schedule second.report.log ≡ schedule first.report.log) where
     abbrev theirs : List Factor
-    theirs = team_in (Some others) its second.report second.ended second.text second.outcome
+    theirs = second.outcome.team
 
     same_theirs : other ≡ theirs
     same_theirs =
@@ -402,7 +420,7 @@ module _ (law : TeamLaw) (files others : Files) (request : Wanted) (s : Searchin
     they_rename = subst (λ t. IsRenamedTeam place r own t) same_theirs own_renames
 
     abbrev their_text : Text
-    their_text = outcome_text (Some others) its s second.report second.ended second.text also second.outcome
+    their_text = outcome_text (Some others) its second.report second.ended second.text second.outcome s also
 
     theirs_checked : All IsChecked theirs
     theirs_checked = outcome_checked (Some others) its second.report second.ended second.text second.outcome
@@ -410,7 +428,7 @@ module _ (law : TeamLaw) (files others : Files) (request : Wanted) (s : Searchin
     -- the second by the events that the first was found by
     found_by_same : IsFound (values_of s.heuristic) s.limit theirs own_found.0 (reported second.report their_text)
     found_by_same =
-        let too = outcome_found (Some others) its s second.report second.ended second.text also second.outcome in
+        let too = outcome_found (Some others) its second.report second.ended second.text second.outcome s also in
         let same : too.0 ≡ own_found.0 = sym too.1.logged ∙ events ∙ own_found.1.logged in
         subst (λ es. IsFound (values_of s.heuristic) s.limit theirs es (reported second.report their_text)) same too.1
 
@@ -423,8 +441,8 @@ module _ (law : TeamLaw) (files others : Files) (request : Wanted) (s : Searchin
 
     pub logs_kept : KeepsLogs → IsInTurn request → IsInTurn its → second.report.log ≡ first.report.log
     logs_kept keeps turn their_turn =
-        let mine = outcome_in_turn (Some files) request s first.report first.ended first.text is turn first.outcome in
-        let too = outcome_in_turn (Some others) its s second.report second.ended second.text also their_turn second.outcome in
+        let mine = outcome_in_turn (Some files) request first.report first.ended first.text first.outcome s is turn in
+        let too = outcome_in_turn (Some others) its second.report second.ended second.text second.outcome s also their_turn in
         let same : too.0 ≡ mine.0 = sym too.1.is_found.logged ∙ events ∙ mine.1.is_found.logged in
         keeps (values_of s.heuristic) s.limit place r own theirs mine.0 (reported first.report own_text) (reported second.report their_text)
         own_checked theirs_checked they_rename mine.1

@@ -1,6 +1,6 @@
 -- Where a team decided nothing, an agent has expanded as many entries as it may, and it is no agent that is alone, searches without a
 -- heuristic and may expand as many as there are sets of its facts.
-use Rattle.std.proofs.Common.{◌≡◌, ◌<◌, ◌≤◌, ◌+◌, ◌^◌, ℕ, Bool, true, false, cond, List, [], ◌∷◌, length, map, All, Option, Some, None, refl, sym, ap, subst, ◌∙◌, arith}
+use Rattle.std.proofs.Common.{◌≡◌, ◌<◌, ◌≤◌, ◌+◌, ◌^◌, ◌⊎◌, inl, inr, ℕ, Bool, true, false, cond, List, [], ◌∷◌, length, map, All, Option, Some, None, refl, sym, ap, subst, ◌∙◌, arith}
 use Rattle.std.specs.Prelude.{◌==◌, filter, if◌then◌else◌, slice_get}
 use Rattle.std.specs.Option.{option_map_or}
 use Rattle.std.proofs.lemmas.Option.{none-some, same_Some}
@@ -19,7 +19,7 @@ use Rattle.mp_outside.specs.Source.{Files}
 use Rattle.mp_sets.specs.Numbers.{Numbers}
 use Rattle.mp_snapshot.specs.declared.verdict.Verdict.{Verdict}
 use Rattle.mp_snapshot.specs.declared.verdict.Verdict.TheVariants.{Continue, NoPlan, Proved, Spent}
-use Rattle.mp_solutions.specs.Right.{IsLeftUndecided, IsRight}
+use Rattle.mp_solutions.specs.Right.{IsRight}
 use Rattle.mp_solutions.specs.Solution.{IsFound}
 use Rattle.mp_solutions.specs.declared.solution.Solution.{Solution}
 use Rattle.mp_split.specs.Team.{AreTasksOf}
@@ -30,7 +30,8 @@ use Rattle.mp_task.specs.Limits.{IsWithinLimits}
 use Rattle.mp_team_states.specs.Expansions.{nothing_known}
 use Rattle.mp_team_verdicts.proofs.Alone.{few_if_spent}
 use Rattle.mp_team_verdicts.proofs.Counts.{count_by, counted_in_runs}
-use Rattle.mp_words.specs.Requests.{Searching, Wanted}
+use Rattle.mp_team_verdicts.specs.Right.{HasExpanded}
+use Rattle.mp_words.specs.Requests.{Searching, Wanted, request_of}
 use Rattle.mp_words.specs.Requests.Wanted.{audits, certifies, checks, makes, replays, solves}
 use Rattle.mp_words.specs.declared.asked.Choice.{Choice}
 use Rattle.mp_words.specs.declared.asked.Choice.TheVariants.{Blind}
@@ -43,12 +44,16 @@ use Rattle.mp_world.specs.World.{World, agent_at}
 use Rattle.mp_world.specs.declared.answer.Answer.{Answer}
 use Rattle.mp_world.specs.declared.answer.Answer.TheVariants as answer
 use Rattle.mp_top.specs.Asked.{KeepsLimits, texts_of, values_of}
-use Rattle.mp_top.specs.Outcome.{IsOutcome, Searches, answer_status, reported, team_in}
+use Rattle.mp_top.specs.Call.{Call}
+use Rattle.mp_top.specs.Keeps.{FailsToPrint, IsRefusal, Keeps, PrintsOutcome}
+use Rattle.mp_top.specs.Outcome.{IsOutcome, Searches, answer_status, reported}
 use Rattle.mp_top.specs.Undecided.{HasSpent, IsSpent, MayExpandAll, expansions, is_expansion}
 use Rattle.mp_top.specs.declared.report.Report.{Report}
 use Rattle.mp_top.specs.declared.status.Status.TheVariants as status
+use Rattle.mp_top.proofs.Ends.{ends_for, not_undecided}
 use Rattle.mp_top.proofs.OfTwo.{few_agents, of_each, outcome_checked, outcome_found, outcome_status, outcome_team, outcome_text, outcome_within}
 use Rattle.mp_top.proofs.OneTeam.{TeamLaw, team_of_both}
+use Rattle.mp_top.proofs.WordLemmas.{request_keeps}
 
 -- ---- expansions of a log are those of its schedule
 
@@ -108,24 +113,25 @@ module _ (value : AgentTask → Numbers → Numbers → Option ℕ) (limit : ℕ
         by true e = e
         by false e = let none : found.answer ≡ answer.Nothing = (is.goes_on e).0 in absurd (cc)
 
-    left : IsLeftUndecided value limit team is.tasks.tasks events is.last
-    left =
+    expanded : (agent : ℕ) × HasExpanded is.last agent limit
+    expanded =
         let right = is.right over in
-        subst (λ a. IsRight value limit team is.tasks.tasks events is.last a right.plan) undecided right.right
+        subst (λ a. IsRight limit team is.last a right.plan) undecided right.right
 
     pub has_spent : length is.tasks.tasks ≡ length team → HasSpent (length team) limit found.log
     has_spent as_many =
-        let end = left.left.undecided.spent in
-        let one = agent_of_team is.last left.left.agent end.who end.there in
+        let agent = expanded.0 in
+        let end = expanded.1 in
+        let one = agent_of_team is.last agent end.who end.there in
         let size = team_size is.tasks.tasks is.last (run_of_team value limit is.tasks.tasks events is.last is.leads) in
         let high = one.at_most in
-        let counted = counted_in_runs value limit is.tasks.tasks agree limits most events is.last is.leads left.left.agent end.who end.there in
+        let counted = counted_in_runs value limit is.tasks.tasks agree limits most events is.last is.leads agent end.who end.there in
         record {
-          agent = left.left.agent;
+          agent = agent;
           from_1 = one.from_1;
           in_team = omega (arith, high, size, as_many);
           spent =
-              count_log left.left.agent found.log ∙ ap (count_by left.left.agent) is.logged ∙ sym counted.count ∙ end.expanded;
+              count_log agent found.log ∙ ap (count_by agent) is.logged ∙ sym counted.count ∙ end.expanded;
         }
 
 -- the agent of the only task
@@ -173,49 +179,60 @@ not_both n m less most = omega (arith, less, most)
 module _ (law : TeamLaw) (one_tasks : OneTasks) (held : Option Files) (request : Wanted) (report : Report) (text : Text) (s : Searching)
     (keeps : KeepsLimits request) (is : Searches request s) (outcome : IsOutcome held request report status.Undecided text)
   where
-    abbrev team : List Factor
-    team = team_in held request report status.Undecided text outcome
-
     abbrev told : Text
-    told = outcome_text held request s report status.Undecided text is outcome
+    told = outcome_text held request report status.Undecided text outcome s is
 
-    by_team : (events : List Event) × IsFound (values_of s.heuristic) s.limit team events (reported report told)
-    by_team = outcome_found held request s report status.Undecided text is outcome
+    by_team : (events : List Event) × IsFound (values_of s.heuristic) s.limit outcome.team events (reported report told)
+    by_team = outcome_found held request report status.Undecided text outcome s is
 
-    checked : All IsChecked team
+    checked : All IsChecked outcome.team
     checked = outcome_checked held request report status.Undecided text outcome
 
     nothing : report.answer ≡ answer.Undecided
-    nothing = undecided_answer report.answer (outcome_status held request s report status.Undecided text is outcome)
+    nothing = undecided_answer report.answer (outcome_status held request report status.Undecided text outcome s is)
 
-    keep_limits : (t : Tasks) → AreTasksOf team t → All IsWithinLimits t.tasks
+    keep_limits : (t : Tasks) → AreTasksOf outcome.team t → All IsWithinLimits t.tasks
     keep_limits t are =
-        within team t are (outcome_within held request s report status.Undecided text is outcome)
-        (few_agents held request report status.Undecided text keeps outcome)
+        within outcome.team t are (outcome_within held request report status.Undecided text outcome s is)
+        (few_agents held request report status.Undecided text outcome keeps)
 
     few : s.heuristic ≡ Blind → MayExpandAll held (texts_of request) s.limit → ⊥
     few blind all =
-        let found : IsFound nothing_known s.limit team by_team.0 (reported report told) =
-        subst (λ (h : Choice). IsFound (values_of h) s.limit team by_team.0 (reported report told)) blind by_team.1 in
-        let same : all.team ≡ team =
-        team_of_both law held held (texts_of request) (texts_of request) team all.team (record { found = all.found; one = all.is_found; two = all.is_found })
+        let found : IsFound nothing_known s.limit outcome.team by_team.0 (reported report told) =
+        subst (λ (h : Choice). IsFound (values_of h) s.limit outcome.team by_team.0 (reported report told)) blind by_team.1 in
+        let same : all.team ≡ outcome.team =
+        team_of_both law held held (texts_of request) (texts_of request) outcome.team all.team (record { found = all.found; one = all.is_found; two = all.is_found })
         (outcome_team held request report status.Undecided text outcome) all.is_team in
-        let their : AreTasksOf team all.tasks = subst (λ (t : List Factor). AreTasksOf t all.tasks) same all.are_tasks in
-        let alone : found.tasks.tasks ≡ all.task ∷ [] = sym (one_tasks team found.tasks all.tasks checked found.are_tasks their) ∙ all.alone in
+        let their : AreTasksOf outcome.team all.tasks = subst (λ (t : List Factor). AreTasksOf t all.tasks) same all.are_tasks in
+        let alone : found.tasks.tasks ≡ all.task ∷ [] = sym (one_tasks outcome.team found.tasks all.tasks checked found.are_tasks their) ∙ all.alone in
         not_both s.limit (2 ^ (all.task.publics + all.task.privates))
-        (few_expanded s.limit team by_team.0 (reported report told) found nothing
-        (agreeing team found.tasks checked found.are_tasks) (keep_limits found.tasks found.are_tasks)
+        (few_expanded s.limit outcome.team by_team.0 (reported report told) found nothing
+        (agreeing outcome.team found.tasks checked found.are_tasks) (keep_limits found.tasks found.are_tasks)
         (few_entries request s is keeps) all.task alone)
         all.room
 
-    pub is_spent : IsSpent held (texts_of request) s report.log
+    is_spent : IsSpent held (texts_of request) s report.log
     is_spent =
         let t = by_team.1.tasks in
         let are = by_team.1.are_tasks in
         record {
           agent =
               subst (λ n. HasSpent n s.limit report.log) (of_each held request report status.Undecided text outcome)
-              (has_spent (values_of s.heuristic) s.limit team by_team.0 (reported report told) by_team.1 nothing
-              (agreeing team t checked are) (keep_limits t are) (few_entries request s is keeps) (as_many_tasks team t checked are));
+              (has_spent (values_of s.heuristic) s.limit outcome.team by_team.0 (reported report told) by_team.1 nothing
+              (agreeing outcome.team t checked are) (keep_limits t are) (few_entries request s is keeps) (as_many_tasks outcome.team t checked are));
           few = few;
         }
+
+-- ---- a call
+
+by_end : TeamLaw → OneTasks → (call : Call) (request : Wanted) (s : Searching) → KeepsLimits request → Searches request s → call.status ≡ status.Undecided → PrintsOutcome call request ⊎ FailsToPrint call request ⊎ IsRefusal call request → IsSpent call.source.held (texts_of request) s call.report.log
+by_end law one_tasks call request s keeps searches undecided (inl (text, outcome, whole, same, says)) =
+    is_spent law one_tasks call.source.held request call.report text s keeps searches
+    (subst (λ e. IsOutcome call.source.held request call.report e text) undecided outcome)
+by_end law one_tasks call request s keeps searches undecided (inr (inl (text, ended, outcome, begun, risen, is, says))) = absurd (cc)
+by_end law one_tasks call request s keeps searches undecided (inr (inr (_, (r, rests, is, says)))) =
+    absurd (not_undecided r (sym is ∙ undecided))
+
+pub call_spent : TeamLaw → OneTasks → (call : Call) (request : Wanted) (s : Searching) → Keeps call → request_of call.words ≡ Some request → Searches request s → call.status ≡ status.Undecided → IsSpent call.source.held (texts_of request) s call.report.log
+call_spent law one_tasks call request s keeps asked searches undecided =
+    by_end law one_tasks call request s (request_keeps call.words request asked) searches undecided (ends_for call request asked keeps)

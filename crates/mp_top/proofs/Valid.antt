@@ -16,7 +16,8 @@ use Rattle.mp_plans.specs.declared.plan.PlanText.{PlanText}
 use Rattle.mp_steps.specs.Packed.{IsNotValid, IsPacked}
 use Rattle.mp_steps.specs.declared.plan.Packed.{Packed}
 use Rattle.mp_top.specs.Decided.{IsToldByTeam, IsToldOfPlan, IsToldOfSteps}
-use Rattle.mp_top.specs.Outcome.{TellsValid, packing_of, plan_status, told_plan, valid_text}
+use Rattle.mp_top.specs.Complete.{TellsValid, valid_text}
+use Rattle.mp_top.specs.Outcome.{packing_of, plan_status, told_plan}
 use Rattle.mp_top.specs.declared.decision.Decision.{Decision}
 use Rattle.mp_top.specs.declared.status.Status.{Status}
 use Rattle.mp_top.specs.declared.status.Status.TheVariants as status

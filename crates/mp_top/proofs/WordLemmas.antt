@@ -200,6 +200,9 @@ wanted_keeps [] = tt
 wanted_keeps (command ∷ words) = behind_keeps (command_of command) (by_command command) words
 
 -- what accepted words ask for keeps the limits
+pub request_keeps : (words : List (List ℕ)) (request : Wanted) → request_of words ≡ Some request → KeepsLimits request
+request_keeps words request h = of_some (request_of words) request KeepsLimits (wanted_keeps words) h
+
 pub asked_keeps : (words : List (List ℕ)) (o : Option Request) → MatchOption o (request_of words ≡ None) (λ r. request_of words ≡ Some (wanted_by r)) → IfSome o (λ r. KeepsLimits (wanted_by r))
 asked_keeps words None h = tt
-asked_keeps words (Some r) h = of_some (request_of words) (wanted_by r) KeepsLimits (wanted_keeps words) h
+asked_keeps words (Some r) h = request_keeps words (wanted_by r) h

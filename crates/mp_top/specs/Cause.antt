@@ -4,15 +4,12 @@ use Rattle.mp_outside.specs.Acts.{FileAsked}
 use Rattle.mp_outside.specs.Source.{FaultAt}
 use Rattle.mp_files.specs.Cause.{CannotRead, SeenSource}
 use Rattle.mp_files.specs.declared.refusal.FileOf.{FileOf}
-use Rattle.mp_files.specs.declared.refusal.Refusal.{Refusal as FilesRefusal}
 use Rattle.mp_files.specs.declared.refusal.Refusal.TheVariants as files
-use Rattle.mp_ground.specs.declared.refusal.GroundRefusal.{GroundRefusal}
 use Rattle.mp_ground.specs.declared.refusal.GroundRefusal.TheVariants as sizes
 use Rattle.mp_top.specs.Asked.{TeamRequest, Texts}
 use Rattle.mp_top.specs.Asked.Texts.{in_files, made}
 use Rattle.mp_top.specs.First.{ComesFirst}
 use Rattle.mp_top.specs.FirstText.{HaveTexts}
-use Rattle.mp_top.specs.declared.refusal.FirstRefusal.{FirstRefusal}
 use Rattle.mp_top.specs.declared.refusal.FirstRefusal.TheVariants as first
 use Rattle.mp_top.specs.declared.refusal.Refusal.{Refusal}
 use Rattle.mp_top.specs.declared.refusal.Refusal.TheVariants.{Files, First, Sizes}
@@ -37,29 +34,11 @@ pub record CannotReadFactor (source : SeenSource) (request : TeamRequest) (at : 
   pub first_texts : HaveTexts source.held request.first
   pub cannot : CannotReadTexts source request.texts at
 
-module _ (source : SeenSource) (request : TeamRequest) where
-  abbrev pub RestsOnFiles : FilesRefusal → Type 0
-  RestsOnFiles (files.Read at) = CannotReadFactor source request at
-  RestsOnFiles (files.TooLarge at) = ComesFirst source.held request (Files (files.TooLarge at))
-  RestsOnFiles (files.Fault at kind place) = ComesFirst source.held request (Files (files.Fault at kind place))
-  RestsOnFiles files.OutOfMemory = Unit {0}
-
-  abbrev pub RestsOnSizes : GroundRefusal → Type 0
-  RestsOnSizes (sizes.TooManyTries agent) = ComesFirst source.held request (Sizes (sizes.TooManyTries agent))
-  RestsOnSizes (sizes.TooManyActions agent number) =
-      ComesFirst source.held request (Sizes (sizes.TooManyActions agent number))
-  RestsOnSizes (sizes.TooManyFacts agent number) =
-      ComesFirst source.held request (Sizes (sizes.TooManyFacts agent number))
-  RestsOnSizes sizes.OutOfMemory = Unit {0}
-
-  abbrev pub RestsOnFirst : ℕ → FirstRefusal → Type 0
-  RestsOnFirst place first.Read = CannotReadFirst source request place
-  RestsOnFirst place first.TooLarge = ComesFirst source.held request (First place first.TooLarge)
-  RestsOnFirst place (first.Line number) = ComesFirst source.held request (First place (first.Line number))
-
-  -- What a refusal of a request rests on: on being the first one, where the source tells, but for faults of reading and
-  -- want of memory.
-  abbrev pub Rests : Refusal → Type 0
-  Rests (Files r) = RestsOnFiles r
-  Rests (Sizes r) = RestsOnSizes r
-  Rests (First place r) = RestsOnFirst place r
+-- What a refusal of a request rests on: on being the first one, where the source tells, but for faults of reading and want of
+-- memory.
+abbrev pub Rests : SeenSource → TeamRequest → Refusal → Type 0
+Rests source request (Files (files.Read at)) = CannotReadFactor source request at
+Rests source request (First place first.Read) = CannotReadFirst source request place
+Rests source request (Files files.OutOfMemory) = Unit {0}
+Rests source request (Sizes sizes.OutOfMemory) = Unit {0}
+Rests source request r = ComesFirst source.held request r

@@ -18,15 +18,16 @@ use Rattle.mp_plans.specs.Plan.{plan_in}
 use Rattle.mp_plans.specs.Verdict.{verdict_text}
 use Rattle.mp_plans.specs.declared.plan.PlanText.{PlanText}
 use Rattle.mp_steps.specs.declared.plan.Packed.{Packed}
+use Rattle.mp_solutions.specs.Solution.{IsFoundOn, IsReplayed}
 use Rattle.mp_solutions.specs.declared.solution.Solution.{Solution}
 use Rattle.mp_solve.specs.Refused.{AreWithin}
 use Rattle.mp_solve.specs.declared.refusal.ReplayRefusal.{ReplayRefusal}
 use Rattle.mp_solve.specs.declared.refusal.ReplayRefusal.TheVariants as replay
 use Rattle.mp_split.specs.Team.{IsFirstRefusal}
-use Rattle.mp_top.specs.Asked.{Work}
+use Rattle.mp_top.specs.Asked.{Work, values_of}
 use Rattle.mp_top.specs.Asked.Work.{audited, checked, replayed, searched}
 use Rattle.mp_top.specs.First.{IsTextLineRefused}
-use Rattle.mp_top.specs.Outcome.{IsOutcome, IsReplayedBy, IsSolved, answer_status, audit_status, plan_status, printed_text, reported, told_made, told_plan}
+use Rattle.mp_top.specs.Outcome.{IsOutcome, answer_status, audit_status, plan_status, printed_text, reported, told_made, told_plan}
 use Rattle.mp_top.specs.Report.{IsEmptyReport}
 use Rattle.mp_top.specs.declared.decision.Decision.{Decision}
 use Rattle.mp_top.specs.declared.decision.Search.{Search}
@@ -60,6 +61,23 @@ pub record IsTold (s : Solution) (text : Text) (d : Decision) : Type 0 where
   pub answer : d.answer ≡ s.answer
   pub printed : told d ≡ text
   pub ended : d.status ≡ answer_status s.answer
+
+-- it was found for a team whose sizes keep the limits, and has this text: by round robin on one thread alone, and otherwise
+-- by some schedule until all agents had ended
+pub record IsSolved (s : Searching) (one : Bool) (team : List Factor) (report : Report) (outcome : Text) : Type 0 where
+  pub within : AreWithin team
+  pub found : IsFoundOn (values_of s.heuristic) s.limit team one (reported report outcome)
+
+-- it was found by the schedule that this text has
+pub record IsReplayedBy
+    (s : Searching)
+    (team : List Factor)
+    (schedule : Text)
+    (report : Report)
+    (outcome : Text)
+    : Type 0 where
+  pub within : AreWithin team
+  pub found : IsReplayed (values_of s.heuristic) s.limit team schedule (reported report outcome)
 
 -- a team solves for a plan, on one thread alone or not, and is told with the trace where that is asked for
 pub record SolvesFor (s : Searching) (one trace : Bool) (team : List Factor) (d : Decision) : Type 0 where

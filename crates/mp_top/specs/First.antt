@@ -8,7 +8,7 @@ use Rattle.mp_outside.specs.Acts.{FileAsked}
 use Rattle.mp_outside.specs.Source.{Files as Held}
 use Rattle.mp_files.specs.declared.refusal.Refusal.{Refusal as FilesRefusal}
 use Rattle.mp_ground.specs.declared.refusal.GroundRefusal.{GroundRefusal}
-use Rattle.mp_ground.specs.declared.refusal.GroundRefusal.TheVariants.{TooManyTries, TooManyActions, TooManyFacts, OutOfMemory}
+use Rattle.mp_ground.specs.declared.refusal.GroundRefusal.TheVariants.{OutOfMemory}
 use Rattle.mp_optimality.specs.Audits.{IsAuditAccepted, IsCertificateRefused, IsPlanRefused}
 use Rattle.mp_plans.specs.Plan.{plan_in}
 use Rattle.mp_plans.specs.declared.plan.PlanText.{PlanText}
@@ -28,17 +28,13 @@ use Rattle.mp_top.specs.declared.refusal.FirstRefusal.TheVariants.{Read, TooLarg
 
 -- the first agent whose factor is not grounded, for its size
 abbrev pub IsFirstSize : List Factor → GroundRefusal → Type 0
-IsFirstSize team (TooManyTries agent) = IsFirstRefusal team (TooManyTries agent)
-IsFirstSize team (TooManyActions agent number) = IsFirstRefusal team (TooManyActions agent number)
-IsFirstSize team (TooManyFacts agent number) = IsFirstRefusal team (TooManyFacts agent number)
 IsFirstSize team OutOfMemory = ⊥
+IsFirstSize team r = IsFirstRefusal team r
 
 -- a team is grounded, where it is more than a plan that is checked
 abbrev pub IsSizeRefused : Work → List Factor → GroundRefusal → Type 0
-IsSizeRefused (searched s) team r = IsFirstSize team r
-IsSizeRefused (replayed s) team r = IsFirstSize team r
 IsSizeRefused checked team r = ⊥
-IsSizeRefused audited team r = IsFirstSize team r
+IsSizeRefused _ team r = IsFirstSize team r
 
 -- a line of the certificate is refused, whose file is the first, or, where that fits, a line of the plan
 abbrev pub IsAuditLineRefused : List Factor → Text → Text → ℕ → ℕ → Type 0

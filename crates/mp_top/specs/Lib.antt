@@ -26,7 +26,7 @@ pub mod Finding
 pub mod Decided
 -- what each call keeps
 pub mod Keeps
--- which statuses a call can have where nothing is refused
+-- what follows of that
 pub mod Complete
 -- what telling a decision comes to
 pub mod Printed

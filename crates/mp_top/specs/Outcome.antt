@@ -1,5 +1,5 @@
 -- What is printed for a request, and the report.
-use Rattle.std.specs.Prelude.{◌≡◌, ◌↔◌, decimal, ℕ, ◌&&◌, List, [], ◌∷◌, ◌++◌, length, codes, Bool, true, false, Option, Ok, All, if◌then◌else◌}
+use Rattle.std.specs.Prelude.{◌≡◌, ℕ, ◌&&◌, List, [], ◌∷◌, ◌++◌, length, codes, Bool, true, Option, Ok, if◌then◌else◌}
 use Rattle.mp_factor.specs.declared.factor.Factor.{Factor}
 use Rattle.mp_joint.specs.Fact.{Text}
 use Rattle.mp_joint.specs.FactorContribution.{team_of}
@@ -11,7 +11,6 @@ use Rattle.mp_optimality.specs.Told.{is_valid}
 use Rattle.mp_optimality.specs.declared.auditing.PlanAudit.{PlanAudit}
 use Rattle.mp_outside.specs.Source.{Files}
 use Rattle.mp_messages.specs.declared.history.Entry.{Entry}
-use Rattle.mp_grounder.specs.Checked.{IsChecked}
 use Rattle.mp_plan_verdict.specs.Verdict.{verdict}
 use Rattle.mp_plan_verdict.specs.declared.verdict.CheckVerdict.{CheckVerdict}
 use Rattle.mp_plans.specs.Made.{made_text, shown_text}
@@ -31,10 +30,10 @@ use Rattle.mp_world.specs.declared.answer.Answer.TheVariants.{Nothing, Solved, U
 use Rattle.mp_solutions.specs.Solution.{IsFoundOn, IsReplayed}
 use Rattle.mp_solutions.specs.declared.solution.Solution.{Solution}
 use Rattle.mp_solve.specs.Refused.{AreWithin}
-use Rattle.mp_top.specs.Asked.{TeamRequest, team_request, values_of, names_of_texts, without_heuristic}
-use Rattle.mp_top.specs.FirstText.{AreTextsOf}
+use Rattle.mp_top.specs.Asked.{team_request, texts_of, values_of, without_heuristic}
+use Rattle.mp_top.specs.FirstText.{AreTextsOf, text_at}
 use Rattle.mp_top.specs.Report.{IsEmptyReport}
-use Rattle.mp_top.specs.Team.{IsTeam}
+use Rattle.mp_top.specs.Team.{IsReadFor}
 use Rattle.mp_top.specs.declared.report.Report.{Report}
 use Rattle.mp_top.specs.declared.status.Status.{Status}
 use Rattle.mp_top.specs.declared.status.Status.TheVariants as status
@@ -51,85 +50,14 @@ abbrev pub printed_text : Bool → List Entry → Answer → Text → Text
 printed_text trace log answer outcome =
     if trace then trace_text log ++ (behind_trace answer ++ 10 ∷ outcome) else outcome
 
--- The texts of a request lead to this team, with nothing wrong in its factors, and these are the texts of the first files.
-pub record IsTeamOf (held : Option Files) (request : TeamRequest) (first : List Text) (team : List Factor) : Type 0 where
-  pub are_first : AreTextsOf held request.first first
-  pub is_team : IsTeam held request.texts team
-  pub one_each : length team ≡ length (names_of_texts request.texts)
-  pub checked : All IsChecked team
-
 -- a report with the text of the outcome
 abbrev pub reported : Report → Text → Solution
 reported report outcome =
     record { views = report.views; log = report.log; answer = report.answer; text = outcome }
 
--- it was found for a team whose sizes keep the limits, and has this text: by round robin on one thread alone, and otherwise
--- by some schedule until all agents had ended
-pub record IsSolved (s : Searching) (one : Bool) (team : List Factor) (report : Report) (outcome : Text) : Type 0 where
-  pub within : AreWithin team
-  pub found : IsFoundOn (values_of s.heuristic) s.limit team one (reported report outcome)
-
--- it was found by the schedule that this text has
-pub record IsReplayedBy
-    (s : Searching)
-    (team : List Factor)
-    (schedule : Text)
-    (report : Report)
-    (outcome : Text)
-    : Type 0 where
-  pub within : AreWithin team
-  pub found : IsReplayed (values_of s.heuristic) s.limit team schedule (reported report outcome)
-
--- a plan that is solved for, on one thread alone or not: the report is that of its outcome, whose text is printed, after the
--- trace where that is asked for
-pub record IsOutcomeOfSolve
-    (held : Option Files)
-    (request : TeamRequest)
-    (s : Searching)
-    (one trace : Bool)
-    (report : Report)
-    (text : Text)
-    : Type 0 where
-  pub team : List Factor
-  pub is_team : IsTeamOf held request [] team
-  pub outcome : Text
-  pub solved : IsSolved s one team report outcome
-  pub printed : text ≡ printed_text trace report.log report.answer outcome
-
--- the same for a schedule that is replayed, with the trace
-pub record IsOutcomeOfReplay
-    (held : Option Files)
-    (request : TeamRequest)
-    (s : Searching)
-    (report : Report)
-    (text : Text)
-    : Type 0 where
-  pub schedule : Text
-  pub team : List Factor
-  pub is_team : IsTeamOf held request (schedule ∷ []) team
-  pub outcome : Text
-  pub replayed : IsReplayedBy s team schedule report outcome
-  pub printed : text ≡ printed_text true report.log report.answer outcome
-
 -- the text of a made team: a summary, behind the files of the team where they are asked for
 abbrev pub told_made : Bool → List Text → ℕ → Answer → Text
 told_made show texts size answer = (if show then shown_text texts else []) ++ made_text size answer
-
--- the same for a team that is made, whose text is a summary
-pub record IsOutcomeOfMake
-    (held : Option Files)
-    (request : TeamRequest)
-    (s : Searching)
-    (one show : Bool)
-    (size number : ℕ)
-    (report : Report)
-    (text : Text)
-    : Type 0 where
-  pub team : List Factor
-  pub is_team : IsTeamOf held request [] team
-  pub outcome : Text
-  pub solved : IsSolved s one team report outcome
-  pub printed : text ≡ told_made show (delivery size number) size report.answer
 
 -- the status of a call that printed an answer
 abbrev pub answer_status : Answer → Status
@@ -141,10 +69,6 @@ answer_status Undecided = status.Undecided
 -- the status of a call that printed what is found of a plan
 abbrev pub plan_status : CheckVerdict → ℕ → Status
 plan_status found stated = if is_valid found stated then status.Solved else status.No
-
--- the text of a valid plan
-abbrev pub valid_text : ℕ → Text
-valid_text cost = (codes "valid cost " ++ decimal cost) ++ 10 ∷ []
 
 -- the steps and the chain of a plan of a team, with this cost
 abbrev pub packing_of : List Factor → List PlanStep → ℕ → Packed
@@ -159,86 +83,69 @@ told_plan steps team plan =
     then steps_text plan.plan (packing_of team plan.plan plan.cost)
     else verdict_text (verdict team plan.plan) plan.cost
 
--- the text says that a plan solves at the cost that its text states
-abbrev pub TellsValid : Bool → List Factor → PlanText → Text → Type 0
-TellsValid false team plan text = (cost : ℕ) × (text ≡ valid_text cost)
-TellsValid true team plan text = text ≡ steps_text plan.plan (packing_of team plan.plan plan.cost)
-
--- A plan that is checked: what is found of it is printed, or its steps, the status is that of a valid plan exactly where the
--- text says so, and the report is empty.
-pub record IsOutcomeOfCheck
-    (held : Option Files)
-    (request : TeamRequest)
-    (steps : Bool)
-    (report : Report)
-    (ended : Status)
-    (text : Text)
-    : Type 0 where
-  pub first : Text
-  pub team : List Factor
-  pub is_team : IsTeamOf held request (first ∷ []) team
-  pub plan : PlanText
-  pub is_plan : plan_in (length team) first ≡ Ok plan
-  pub empty : IsEmptyReport report
-  pub printed : text ≡ told_plan steps team plan
-  pub is_ended : ended ≡ plan_status (verdict team plan.plan) plan.cost
-  pub is_valid_text : (ended ≡ status.Solved) ↔ TellsValid steps team plan text
-
--- A plan that is solved for without a heuristic, on one thread alone, as for other requests: the report is that of its outcome,
--- and what certifies the answer is printed, a certificate where a plan was found.
-pub record IsOutcomeOfCertify
-    (held : Option Files)
-    (request : TeamRequest)
-    (limit : ℕ)
-    (report : Report)
-    (text : Text)
-    : Type 0 where
-  pub team : List Factor
-  pub is_team : IsTeamOf held request [] team
-  pub outcome : Text
-  pub within : AreWithin team
-  pub certified : IsCertified limit team (reported report outcome) text
-
 -- the status of a call that printed what an audit finds
 abbrev pub audit_status : PlanAudit → Status
 audit_status found = if found.optimal then status.Solved else status.No
 
--- A certificate and a plan that are audited: what is found of them is printed, the status tells whether the plan is optimal, and
--- the report is empty.
-pub record IsOutcomeOfAudit
-    (held : Option Files)
-    (request : TeamRequest)
-    (report : Report)
-    (ended : Status)
-    (text : Text)
-    : Type 0 where
-  pub certificate : Text
-  pub plan : Text
-  pub team : List Factor
-  pub is_team : IsTeamOf held request (certificate ∷ plan ∷ []) team
-  pub found : PlanAudit
-  pub is_audited : IsAudited team certificate plan found
-  pub empty : IsEmptyReport report
-  pub printed : text ≡ found.text
-  pub is_ended : ended ≡ audit_status found
+-- ---- What is printed of a team, with this report and status.
 
--- what is printed for a request, with the report and the status of its outcome
-abbrev pub IsOutcome : Option Files → Wanted → Report → Status → Text → Type 0
-IsOutcome held (solves w) report ended text =
-    IsOutcomeOfSolve held (team_request (solves w)) w.search w.work.one w.trace report text
-    × (ended ≡ answer_status report.answer)
-IsOutcome held (replays w) report ended text =
-    IsOutcomeOfReplay held (team_request (replays w)) w.search report text
-    × (ended ≡ answer_status report.answer)
-IsOutcome held (checks w) report ended text =
-    IsOutcomeOfCheck held (team_request (checks w)) w.steps report ended text
-IsOutcome held (certifies w) report ended text =
-    IsOutcomeOfCertify held (team_request (certifies w)) w.limit report text
-    × (ended ≡ answer_status report.answer)
-IsOutcome held (audits w) report ended text = IsOutcomeOfAudit held (team_request (audits w)) report ended text
-IsOutcome held (makes w) report ended text =
-    IsOutcomeOfMake held (team_request (makes w)) w.search w.work.one w.show w.size w.number report text
-    × (ended ≡ answer_status report.answer)
+module _ (team : List Factor) (report : Report) (ended : Status) (text : Text) where
+  -- What agents found, whose sizes keep the limits: the report is that of what is found so, and what is printed tells its text.
+  pub record TellsFound (is_found : Solution → Type 0) (telling : Text → Text) : Type 0 where
+    pub outcome : Text
+    pub within : AreWithin team
+    pub found : is_found (reported report outcome)
+    pub printed : text ≡ telling outcome
+    pub is_ended : ended ≡ answer_status report.answer
+
+  -- what is found of the plan of a text, or its steps, with an empty report
+  pub record TellsPlan (steps : Bool) (first : Text) : Type 0 where
+    pub plan : PlanText
+    pub is_plan : plan_in (length team) first ≡ Ok plan
+    pub empty : IsEmptyReport report
+    pub printed : text ≡ told_plan steps team plan
+    pub is_ended : ended ≡ plan_status (verdict team plan.plan) plan.cost
+
+  -- what certifies an answer that was found without a heuristic, a certificate where it is a plan
+  pub record TellsCertificate (limit : ℕ) : Type 0 where
+    pub outcome : Text
+    pub within : AreWithin team
+    pub certified : IsCertified limit team (reported report outcome) text
+    pub is_ended : ended ≡ answer_status report.answer
+
+  -- what is found of the certificate and the plan of two texts, with an empty report
+  pub record TellsAudit (certificate plan : Text) : Type 0 where
+    pub found : PlanAudit
+    pub is_audited : IsAudited team certificate plan found
+    pub empty : IsEmptyReport report
+    pub printed : text ≡ found.text
+    pub is_ended : ended ≡ audit_status found
+
+  -- What is printed for a request, where its first files have these texts: what is found by round robin on one thread alone, and
+  -- otherwise by some schedule until all agents have ended, after the trace where that is asked for; what is found by the
+  -- schedule that the first text has, after the trace; or in summary, behind the files of a made team where they are asked for.
+  abbrev pub Tells : Wanted → List Text → Type 0
+  Tells (solves w) first =
+      TellsFound (IsFoundOn (values_of w.search.heuristic) w.search.limit team w.work.one)
+      (printed_text w.trace report.log report.answer)
+  Tells (replays w) first =
+      TellsFound (IsReplayed (values_of w.search.heuristic) w.search.limit team (text_at first 0))
+      (printed_text true report.log report.answer)
+  Tells (checks w) first = TellsPlan w.steps (text_at first 0)
+  Tells (certifies w) first = TellsCertificate w.limit
+  Tells (audits w) first = TellsAudit (text_at first 0) (text_at first 1)
+  Tells (makes w) first =
+      TellsFound (IsFoundOn (values_of w.search.heuristic) w.search.limit team w.work.one)
+      (λ outcome. told_made w.show (delivery w.size w.number) w.size report.answer)
+
+-- What is printed for a request, with the report and the status of its outcome: it is told of the factors of its texts, and of
+-- the texts of its first files.
+pub record IsOutcome (held : Option Files) (request : Wanted) (report : Report) (ended : Status) (text : Text) : Type 0 where
+  pub first : List Text
+  pub are_first : AreTextsOf held (team_request request).first first
+  pub team : List Factor
+  pub is_team : IsReadFor held (texts_of request) team
+  pub told : Tells team report ended text request first
 
 -- ---- For what is said of two outcomes.
 
@@ -248,17 +155,6 @@ pub record Printed (held : Option Files) (request : Wanted) : Type 0 where
   pub ended : Status
   pub text : Text
   pub outcome : IsOutcome held request report ended text
-
--- the team of an outcome
-abbrev pub team_in
-    : (held : Option Files) (request : Wanted) (report : Report) (ended : Status) (text : Text)
-    → IsOutcome held request report ended text → List Factor
-team_in held (solves w) report ended text outcome = outcome.0.team
-team_in held (replays w) report ended text outcome = outcome.0.team
-team_in held (checks w) report ended text outcome = outcome.team
-team_in held (certifies w) report ended text outcome = outcome.0.team
-team_in held (audits w) report ended text outcome = outcome.team
-team_in held (makes w) report ended text outcome = outcome.0.team
 
 -- the agents of a request search so
 abbrev pub Searches : Wanted → Searching → Type 0

@@ -2,7 +2,7 @@
 use Rattle.std.specs.Prelude.{◌≡◌, List, map, Option, Some, Result, Ok, Err, IfSome, option_map}
 use Rattle.mp_factor.specs.declared.factor.Factor.{Factor}
 use Rattle.mp_outside.specs.Source.{Files as Held}
-use Rattle.mp_files.specs.Team.{FoundTwo, ReadsMade, ReadsTeam, found_in_memory, found_under}
+use Rattle.mp_files.specs.Team.{FoundTwo, IsReadTeam, ReadsMade, ReadsTeam, found_in_memory, found_under}
 use Rattle.mp_files.specs.declared.refusal.Refusal.{Refusal as FilesRefusal}
 use Rattle.mp_top.specs.Asked.{Texts}
 use Rattle.mp_top.specs.Asked.Texts.{in_files, made}
@@ -18,6 +18,11 @@ IsTeam held texts team = LeadsTo held texts (Ok team)
 
 abbrev pub IsTextRefused : Option Held → Texts → FilesRefusal → Type 0
 IsTextRefused held texts r = LeadsTo held texts (Err r)
+
+-- these are the factors of the texts of a team, as they were read or made
+abbrev pub IsReadFor : Option Held → Texts → List Factor → Type 0
+IsReadFor held (in_files names) team = IsReadTeam held names team
+IsReadFor held (made names texts) team = ReadsMade texts (Ok team)
 
 -- ---- For what is said of two requests.
 

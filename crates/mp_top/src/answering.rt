@@ -19,12 +19,10 @@ use crate::deciding::{
 };
 use crate::decision::{Decision, Search};
 use crate::finding::Workers;
-use crate::first::one_first;
 use crate::making::made_files;
 use crate::refusal::{Refusal, tell_memory, tell_words, tell_write};
 use crate::report::Report;
 use crate::status::Status;
-use crate::undecided::undecided_is_spent;
 use mp_files::AgentFiles;
 use mp_ground::GroundRefusal;
 use mp_outside::{Sink, Source, put_all};
@@ -115,8 +113,6 @@ fn answer_solve<
       status = result;
     }) }
 {
-    one_first();
-    undecided_is_spent();
     let Ok(files) = files_of(alloc, request.names.as_slice()) else {
         tell_memory(err);
         return Status::Memory;
@@ -146,8 +142,6 @@ fn answer_replay<S: Source, K: Sink, E: Sink>(
       status = result;
     }) }
 {
-    one_first();
-    undecided_is_spent();
     let Ok(files) = files_of(alloc, request.names.as_slice()) else {
         tell_memory(err);
         return Status::Memory;
@@ -184,7 +178,6 @@ fn answer_check<S: Source, K: Sink, E: Sink>(
       status = result;
     }) }
 {
-    one_first();
     let Ok(files) = files_of(alloc, request.names.as_slice()) else {
         tell_memory(err);
         return Status::Memory;
@@ -214,8 +207,6 @@ fn answer_certify<S: Source, K: Sink, E: Sink>(
       status = result;
     }) }
 {
-    one_first();
-    undecided_is_spent();
     let Ok(files) = files_of(alloc, request.names.as_slice()) else {
         tell_memory(err);
         return Status::Memory;
@@ -245,7 +236,6 @@ fn answer_audit<S: Source, K: Sink, E: Sink>(
       status = result;
     }) }
 {
-    one_first();
     let Ok(files) = files_of(alloc, request.names.as_slice()) else {
         tell_memory(err);
         return Status::Memory;
@@ -290,8 +280,6 @@ fn answer_make<
       status = result;
     }) }
 {
-    one_first();
-    undecided_is_spent();
     let _ = &source;
     let Ok(files) = made_files(alloc, size_of(request)) else {
         tell_memory(err);

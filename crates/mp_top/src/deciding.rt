@@ -24,7 +24,6 @@ use crate::searching::{replay_by, solve_for};
 use crate::status::Status;
 use mp_files::{AgentFiles, read_team};
 use mp_ground::GroundRefusal;
-use mp_grounder::laws::checked_factors_are_checked;
 use mp_maker::delivery;
 use mp_outside::Source;
 use mp_solve::Solution;
@@ -67,7 +66,6 @@ pub(crate) fn decide_solve<
         count: request.workers,
         one: request.one,
     };
-    checked_factors_are_checked(team.as_slice());
     match solve_for(alloc, team.as_slice(), find, search, workers, request.trace) {
         Ok(decision) => Ok(decision),
         Err(refusal) => Err(Refusal::Sizes(refusal)),
@@ -100,7 +98,6 @@ pub(crate) fn decide_replay<S: Source>(
         heuristic: request.heuristic,
         limit: request.limit,
     };
-    checked_factors_are_checked(team.as_slice());
     replay_by(alloc, team.as_slice(), search, text.as_slice())
 }
 
@@ -126,7 +123,6 @@ pub(crate) fn decide_check<S: Source>(
         Ok(team) => team,
         Err(refusal) => return Err(Refusal::Files(refusal)),
     };
-    checked_factors_are_checked(team.as_slice());
     check_for(alloc, team.as_slice(), text.as_slice(), request.steps)
 }
 
@@ -151,7 +147,6 @@ pub(crate) fn decide_certify<S: Source>(
         Ok(team) => team,
         Err(refusal) => return Err(Refusal::Files(refusal)),
     };
-    checked_factors_are_checked(team.as_slice());
     match certify_for(alloc, team.as_slice(), request.limit) {
         Ok(decision) => Ok(decision),
         Err(refusal) => Err(Refusal::Sizes(refusal)),
@@ -181,7 +176,6 @@ pub(crate) fn decide_audit<S: Source>(
         Ok(team) => team,
         Err(refusal) => return Err(Refusal::Files(refusal)),
     };
-    checked_factors_are_checked(team.as_slice());
     audit_for(
         alloc,
         team.as_slice(),
@@ -236,7 +230,6 @@ pub(crate) fn decide_make<
         heuristic: request.heuristic,
         limit: request.limit,
     };
-    checked_factors_are_checked(team.as_slice());
     match make_for(
         alloc,
         team.as_slice(),

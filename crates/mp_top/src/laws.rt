@@ -1,7 +1,7 @@
-//! Laws of what is printed for two requests. Each is the contract of a function that does no more than call the laws that
-//! it rests on.
+//! Laws of what calls keep, and of what is printed for two requests. Each is the contract of a function that does no more than
+//! call the laws that it rests on.
 
-ghost use Rattle.std.specs.Prelude.{◌≡◌, ◌≤◌, ℕ, List, Option, Some, length};
+ghost use Rattle.std.specs.Prelude.{◌≡◌, ◌≤◌, ◌↔◌, ℕ, List, Option, Some, length};
 ghost use Rattle.mp_factor.specs.declared.factor.Factor.{Factor};
 ghost use Rattle.mp_messages.specs.History.{schedule};
 ghost use Rattle.mp_outside.specs.Source.{Files};
@@ -11,18 +11,19 @@ ghost use Rattle.mp_split.specs.Team.{AreTasksOf};
 ghost use Rattle.mp_split.specs.declared.team.Tasks.{Tasks};
 ghost use Rattle.mp_top.specs.Asked.{KeepsLimits, Texts, longest_schedule, team_request, texts_of, values_of};
 ghost use Rattle.mp_top.specs.Call.{Call};
-ghost use Rattle.mp_top.specs.Complete.{HadNoFault, IsAnswered, IsNotRefused};
+ghost use Rattle.mp_top.specs.Complete.{HadNoFault, IsAnswered, IsNotRefused, TellsFirst, TellsValid};
 ghost use Rattle.mp_top.specs.First.{IsFirst};
 ghost use Rattle.mp_top.specs.FirstText.{IsHeld};
 ghost use Rattle.mp_top.specs.Keeps.{Keeps};
 ghost use Rattle.mp_top.specs.Outcome.{AreSameRuns, HasTrace, IsInTurn, IsPrintedAgain, Printed, Searches};
 ghost use Rattle.mp_top.specs.Team.{IsFoundForBoth, IsTeam};
 ghost use Rattle.mp_top.specs.declared.refusal.Refusal.{Refusal};
-ghost use Rattle.mp_words.specs.Requests.{Searching, ToReplay, Wanted, request_of};
-ghost use Rattle.mp_words.specs.Requests.Wanted.{replays};
+ghost use Rattle.mp_words.specs.Requests.{Searching, ToCheck, ToReplay, Wanted, request_of};
+ghost use Rattle.mp_words.specs.Requests.Wanted.{checks, replays};
 ghost use Rattle.mp_world.specs.Logs.{IsLog};
 
 use crate::first::one_first;
+use crate::status::Status;
 use mp_files::one_team;
 use mp_replays::{renaming_changes_no_message, traces_are_replayed};
 
@@ -98,4 +99,23 @@ pub fn answers_are_complete()
         → Keeps call → call.source.held ≡ Some files → request_of call.words ≡ Some request
         → IsNotRefused files (team_request request) → HadNoFault call
         → IsAnswered request call }
+{}
+
+/// The first refusal comes: where a source tells what it holds, and that has a first refusal for a request, a call ends with its
+/// status and tells its line, but for faults of reading and want of memory.
+pub fn first_refusals_come()
+    ensures { (call : Call) (files : Files) (request : Wanted) (r : Refusal)
+        → Keeps call → call.source.held ≡ Some files → request_of call.words ≡ Some request
+        → IsFirst files (team_request request) r
+        → TellsFirst call request r }
+{
+    one_first();
+}
+
+/// What is printed of a plan that is checked tells whether it is valid: status 0 comes exactly with `valid cost C`, or, where the
+/// steps are asked for, exactly with the steps and the chain of the plan.
+pub fn valid_plans_are_told()
+    ensures { (held : Option Files) (w : ToCheck) (first : Printed held (checks w))
+        → (first.ended ≡ Status.Solved)
+        ↔ TellsValid w.steps first.outcome.team first.outcome.told.plan first.text }
 {}

@@ -24,10 +24,14 @@ mod undecided;
 
 pub use command::{command_line, without_words};
 pub use first::one_first;
-pub use laws::{answers_are_complete, renaming_changes_no_outcome, traces_are_printed_again};
+pub use laws::{
+    answers_are_complete, first_refusals_come, renaming_changes_no_outcome,
+    traces_are_printed_again, valid_plans_are_told,
+};
 pub use mp_words::alone;
 pub use on_one_thread::run_alone;
 pub use on_threads::run;
 pub use refusal::{FirstRefusal, Refusal};
 pub use report::Report;
 pub use status::Status;
+pub use undecided::undecided_is_spent;

@@ -1,9 +1,9 @@
-use Rattle.std.proofs.Common.{◌≡◌, ◌∙◌, IfSome, length, map}
+use Rattle.std.proofs.Common.{◌≡◌, ◌∙◌, IfSome, length, map, sym}
 use Rattle.std.proofs.lemmas.List.{length-map}
 use Rattle.mp_files.specs.Cause.{Rests, seen_source}
 use Rattle.mp_files.specs.Fetched.{names_of, texts_of}
 use Rattle.mp_files.specs.Reading.{Refuses}
-use Rattle.mp_files.specs.Team.{HoldsTeam, ReadsTexts}
+use Rattle.mp_files.specs.Team.{HoldsTeam, IsReadTeam, ReadsTexts}
 use Rattle.mp_files.proofs.Texts.{same_number, team_held, texts_first, weaker, weaker_err}
 use Rattle.mp_files.proofs.team.read_team.Goals as goal
 
@@ -14,6 +14,20 @@ returns-clause-team g c =
     let texts = map texts_of c.in_ok-texts.texts.items in
     weaker c.factors_of_texts.result _ (λ team. IfSome held (λ files. HoldsTeam files names team))
     (λ team h. team_held held names texts team c.in_ok-texts.ensures.texts h)
+    c.factors_of_texts.ensures.factors
+
+pub returns-clause-read : goal.returns-clause-read
+returns-clause-read g c =
+    let held = g.S.Source.held c.args.source.now in
+    let names = map names_of c.args.names.now in
+    let items = c.in_ok-texts.texts.items in
+    weaker c.factors_of_texts.result _ (λ team. IsReadTeam held names team)
+    (λ team h. record {
+      texts = map texts_of items;
+      fetched = c.in_ok-texts.ensures.texts;
+      one_each = length-map items texts_of ∙ c.in_ok-texts.ensures.number ∙ sym (length-map c.args.names.now names_of);
+      reads = h;
+    })
     c.factors_of_texts.ensures.factors
 
 pub returns-clause-number : goal.returns-clause-number

@@ -16,9 +16,8 @@ returns g c ws asks =
     let named : map names_of c.as_slice-3.result.now ≡ agents_of w.names =
     ap (map names_of) c.as_slice-3.ensures.value ∙ c.in-Ok.ensures
     ∙ ap (λ ns. agents_of (map (λ name. name.now) ns)) c.as_slice.ensures.value in
-    kept c.one_first.ensures.one c.one_first.ensures.none _ (audits w) c.decide_audit-decided.result (c.args.request.now.certificate.now ∷ c.args.request.now.plan.now ∷ []) (map names_of c.as_slice-3.result.now)
+    kept _ (audits w) c.decide_audit-decided.result (c.args.request.now.certificate.now ∷ c.args.request.now.plan.now ∷ []) (map names_of c.as_slice-3.result.now)
     asks (λ r. ap (λ agents. line_of (c.args.request.now.certificate.now ∷ c.args.request.now.plan.now ∷ []) agents r) named)
     c.decide_audit-decided.ensures.outcome c.decide_audit-decided.ensures.cause c.decide_audit-decided.ensures.no_fault c.decide_audit-decided.ensures.fault
     c.decide_audit-decided.ensures.acts
-    (λ report text s is outcome. absurd is)
     c.end.ensures.outcome c.end.ensures.refusal

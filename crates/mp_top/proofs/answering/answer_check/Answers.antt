@@ -16,9 +16,8 @@ returns g c ws asks =
     let named : map names_of c.as_slice-3.result.now ≡ agents_of w.names =
     ap (map names_of) c.as_slice-3.ensures.value ∙ c.in-Ok.ensures
     ∙ ap (λ ns. agents_of (map (λ name. name.now) ns)) c.as_slice.ensures.value in
-    kept c.one_first.ensures.one c.one_first.ensures.none _ (checks w) c.decide_check-decided.result (c.args.request.now.plan.now ∷ []) (map names_of c.as_slice-3.result.now)
+    kept _ (checks w) c.decide_check-decided.result (c.args.request.now.plan.now ∷ []) (map names_of c.as_slice-3.result.now)
     asks (λ r. ap (λ agents. line_of (c.args.request.now.plan.now ∷ []) agents r) named)
     c.decide_check-decided.ensures.outcome c.decide_check-decided.ensures.cause c.decide_check-decided.ensures.no_fault c.decide_check-decided.ensures.fault
     c.decide_check-decided.ensures.acts
-    (λ report text s is outcome. absurd is)
     c.end.ensures.outcome c.end.ensures.refusal

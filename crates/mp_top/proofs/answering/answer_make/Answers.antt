@@ -18,10 +18,9 @@ returns g c ws asks =
     let w = make_by c.args.request in
     let named : map names_of c.as_slice.result.now ≡ map made_name (range_with_len 1 w.size) =
     ap (map names_of) c.as_slice.ensures.value ∙ c.in-Ok.ensures ∙ ap (λ n. map made_name (range_with_len 1 n)) c.size_of.ensures in
-    kept c.one_first.ensures.one c.one_first.ensures.none _ (makes w) c.decide_make-decided.result [] (map names_of c.as_slice.result.now)
+    kept _ (makes w) c.decide_make-decided.result [] (map names_of c.as_slice.result.now)
     asks (λ r. ap (λ agents. line_of [] agents r) named)
     (c.decide_make-decided.ensures.outcome _) (c.decide_make-decided.ensures.cause _) (always_ok c.decide_make-decided.result _ refl)
     (always_err c.decide_make-decided.result _ (λ r risen. absurd (omega (arith, risen))))
     (nothing_read [] _ _ refl)
-    (λ report text s is outcome. c.undecided_is_spent.ensures _ (makes w) report text s c.requires.keeps is outcome)
     c.end.ensures.outcome c.end.ensures.refusal

@@ -16,9 +16,8 @@ returns g c ws asks =
     let named : map names_of c.as_slice-3.result.now ≡ agents_of w.names =
     ap (map names_of) c.as_slice-3.ensures.value ∙ c.in-Ok.ensures
     ∙ ap (λ ns. agents_of (map (λ name. name.now) ns)) c.as_slice.ensures.value in
-    kept c.one_first.ensures.one c.one_first.ensures.none _ (replays w) c.decide_replay-decided.result (c.args.request.now.schedule.now ∷ []) (map names_of c.as_slice-3.result.now)
+    kept _ (replays w) c.decide_replay-decided.result (c.args.request.now.schedule.now ∷ []) (map names_of c.as_slice-3.result.now)
     asks (λ r. ap (λ agents. line_of (c.args.request.now.schedule.now ∷ []) agents r) named)
     c.decide_replay-decided.ensures.outcome c.decide_replay-decided.ensures.cause c.decide_replay-decided.ensures.no_fault c.decide_replay-decided.ensures.fault
     c.decide_replay-decided.ensures.acts
-    (λ report text s is outcome. c.undecided_is_spent.ensures _ (replays w) report text s c.requires is outcome)
     c.end.ensures.outcome c.end.ensures.refusal

@@ -16,9 +16,8 @@ returns g c ws asks =
     let named : map names_of c.as_slice-3.result.now ≡ agents_of w.names =
     ap (map names_of) c.as_slice-3.ensures.value ∙ c.in-Ok.ensures
     ∙ ap (λ ns. agents_of (map (λ name. name.now) ns)) c.as_slice.ensures.value in
-    kept c.one_first.ensures.one c.one_first.ensures.none _ (solves w) c.decide_solve-decided.result [] (map names_of c.as_slice-3.result.now)
+    kept _ (solves w) c.decide_solve-decided.result [] (map names_of c.as_slice-3.result.now)
     asks (λ r. ap (λ agents. line_of [] agents r) named)
     c.decide_solve-decided.ensures.outcome c.decide_solve-decided.ensures.cause c.decide_solve-decided.ensures.no_fault c.decide_solve-decided.ensures.fault
     c.decide_solve-decided.ensures.acts
-    (λ report text s is outcome. c.undecided_is_spent.ensures _ (solves w) report text s c.requires.keeps is outcome)
     c.end.ensures.outcome c.end.ensures.refusal

@@ -1,9 +1,8 @@
-use Rattle.std.proofs.Common.{[], ◌∷◌, ◌∙◌, All, IfSome, length, map, refl, subst}
+use Rattle.std.proofs.Common.{[], ◌∷◌, ◌∙◌, IfSome, map, refl, subst}
 use Rattle.mp_files.specs.Cause.{Rests as FilesRest, seen_source}
 use Rattle.mp_files.specs.Fetched.{names_of}
-use Rattle.mp_files.specs.Team.{HoldsTeam}
+use Rattle.mp_files.specs.Team.{HoldsTeam, IsReadTeam}
 use Rattle.mp_files.proofs.Each.{handed_on}
-use Rattle.mp_grounder.specs.Checked.{IsChecked}
 use Rattle.mp_outside.specs.Acts.{FileAsked}
 use Rattle.mp_top.specs.Asked.{agents_of, longest_certificate, longest_plan, team_request}
 use Rattle.mp_top.specs.Asked.Work.{audited}
@@ -11,7 +10,7 @@ use Rattle.mp_top.specs.Cause.{Rests}
 use Rattle.mp_top.specs.Decided.{AuditsFor, Decides, IsRefusedTeam}
 use Rattle.mp_top.specs.FirstText.{IsTextOf}
 use Rattle.mp_top.proofs.Acts.{one_of_two, two_alone, two_and_agents}
-use Rattle.mp_top.proofs.Decided.{as_many, decided_audit, files_rest, team_rests, weaker, weaker_err}
+use Rattle.mp_top.proofs.Decided.{decided_audit, files_rest, team_rests, weaker, weaker_err}
 use Rattle.mp_top.proofs.TwoTexts.{both_fit, first_fits, seen_behind, seen_second}
 use Rattle.mp_words.specs.Reads.{audit_by}
 use Rattle.mp_words.specs.Requests.Wanted.{audits}
@@ -80,12 +79,12 @@ returns-clause-cause g c =
     let fit = both_fit held faults at old mid after new same calm certificate c.in_ok-certificate.certificate.items c.in_ok-certificate.ensures.text plan c.in_ok-plan.plan.items c.in_ok-plan.ensures.text in
     let holds : IfSome (held old) (λ files. HoldsTeam files (map names_of c.args.files.now) c.in-Ok.team) =
     subst (λ o. IfSome o (λ files. HoldsTeam files (map names_of c.args.files.now) c.in-Ok.team)) (c.in_ok-plan.ensures.held ∙ same) c.in-Ok.ensures.team in
-    weaker_err c.audit_for.result (IsRefusedTeam audited c.as_slice-2.result.now (c.as_slice-3.result.now ∷ c.as_slice-4.result.now ∷ [])) (Rests (seen_source held faults at old new) request)
+    weaker_err c.audit_for.result (IsRefusedTeam audited c.as_slice.result.now (c.as_slice-2.result.now ∷ c.as_slice-3.result.now ∷ [])) (Rests (seen_source held faults at old new) request)
     (λ r h. team_rests (seen_source held faults at old new) request texts c.in-Ok.team r fit
     (subst (λ ns. IfSome (held old) (λ files. HoldsTeam files ns c.in-Ok.team)) c.requires.names holds)
-    (subst (λ t. IsRefusedTeam audited c.in-Ok.team (t ∷ c.in_ok-plan.plan.items ∷ []) r) c.as_slice-3.ensures.value
-    (subst (λ t. IsRefusedTeam audited c.in-Ok.team (c.as_slice-3.result.now ∷ t ∷ []) r) c.as_slice-4.ensures.value
-    (subst (λ t. IsRefusedTeam audited t (c.as_slice-3.result.now ∷ c.as_slice-4.result.now ∷ []) r) c.as_slice-2.ensures h))))
+    (subst (λ t. IsRefusedTeam audited c.in-Ok.team (t ∷ c.in_ok-plan.plan.items ∷ []) r) c.as_slice-2.ensures.value
+    (subst (λ t. IsRefusedTeam audited c.in-Ok.team (c.as_slice-2.result.now ∷ t ∷ []) r) c.as_slice-3.ensures.value
+    (subst (λ t. IsRefusedTeam audited t (c.as_slice-2.result.now ∷ c.as_slice-3.result.now ∷ []) r) c.as_slice.ensures h))))
     c.audit_for.ensures.refused
 
 pub returns-clause-outcome : goal.returns-clause-outcome
@@ -97,16 +96,15 @@ returns-clause-outcome g c =
     let plan : FileAsked = record { name = w.plan; longest = longest_plan } in
     let certificate_text = c.in_ok-certificate.certificate.items in
     let plan_text = c.in_ok-plan.plan.items in
-    let holds : IfSome (held old) (λ files. HoldsTeam files (map names_of c.args.files.now) c.in-Ok.team) =
-    subst (λ o. IfSome o (λ files. HoldsTeam files (map names_of c.args.files.now) c.in-Ok.team)) (c.in_ok-plan.ensures.held ∙ same) c.in-Ok.ensures.team in
-    let all : All IsChecked c.in-Ok.team = subst (All IsChecked) c.as_slice.ensures c.checked_factors_are_checked.ensures in
-    weaker c.audit_for.result (AuditsFor c.as_slice-3.result.now c.as_slice-4.result.now c.as_slice-2.result.now) (Decides (held old) (audits w))
+    let read : IsReadTeam (held old) (map names_of c.args.files.now) c.in-Ok.team =
+    subst (λ o. IsReadTeam o (map names_of c.args.files.now) c.in-Ok.team) (c.in_ok-plan.ensures.held ∙ same) c.in-Ok.ensures.read in
+    weaker c.audit_for.result (AuditsFor c.as_slice-2.result.now c.as_slice-3.result.now c.as_slice.result.now) (Decides (held old) (audits w))
     (λ d h. decided_audit (held old) w (map names_of c.args.files.now) certificate_text plan_text c.in-Ok.team d c.requires.names c.in_ok-certificate.ensures.text
     (subst (λ o. IsTextOf o plan plan_text) same c.in_ok-plan.ensures.text)
-    holds (as_many names_of c.args.files.now (map names_of c.args.files.now) (length c.in-Ok.team) refl c.in-Ok.ensures.number) all
-    (subst (λ t. AuditsFor t plan_text c.in-Ok.team d) c.as_slice-3.ensures.value
-    (subst (λ t. AuditsFor c.as_slice-3.result.now t c.in-Ok.team d) c.as_slice-4.ensures.value
-    (subst (λ t. AuditsFor c.as_slice-3.result.now c.as_slice-4.result.now t d) c.as_slice-2.ensures h))))
+    read
+    (subst (λ t. AuditsFor t plan_text c.in-Ok.team d) c.as_slice-2.ensures.value
+    (subst (λ t. AuditsFor c.as_slice-2.result.now t c.in-Ok.team d) c.as_slice-3.ensures.value
+    (subst (λ t. AuditsFor c.as_slice-2.result.now c.as_slice-3.result.now t d) c.as_slice.ensures h))))
     c.audit_for.ensures.outcome
 
 pub returns-in_err-certificate-clause-acts : goal.returns-in_err-certificate-clause-acts

@@ -1,11 +1,9 @@
-use Rattle.std.proofs.Common.{All, IfSome, length, map, refl, subst}
+use Rattle.std.proofs.Common.{map, subst}
 use Rattle.mp_files.specs.Fetched.{names_of}
-use Rattle.mp_files.specs.Team.{HoldsTeam}
-use Rattle.mp_grounder.specs.Checked.{IsChecked}
 use Rattle.mp_top.specs.Asked.{agents_of}
 use Rattle.mp_top.specs.Decided.{CertifiesFor}
 use Rattle.mp_top.proofs.Acts.{agents_read}
-use Rattle.mp_top.proofs.Decided.{as_many, decided_certify}
+use Rattle.mp_top.proofs.Decided.{decided_certify}
 use Rattle.mp_top.proofs.deciding.decide_certify.Goals as goal
 use Rattle.mp_words.specs.Reads.{certify_by}
 
@@ -22,8 +20,5 @@ returns-in-Ok-certify_for-clause-outcome g c =
     let w = certify_by c.args.request.now in
     let held = g.S.Source.held c.args.source.now in
     let d = c.in-Ok-certify_for.decision in
-    let holds : IfSome held (λ files. HoldsTeam files (map names_of c.args.files.now) c.in-Ok.team) = c.in-Ok.ensures.team in
-    let all : All IsChecked c.in-Ok.team = subst (All IsChecked) c.as_slice.ensures c.checked_factors_are_checked.ensures in
-    decided_certify held w (map names_of c.args.files.now) c.in-Ok.team d c.requires.names holds
-    (as_many names_of c.args.files.now (map names_of c.args.files.now) (length c.in-Ok.team) refl c.in-Ok.ensures.number) all
-    (subst (λ t. CertifiesFor w.limit t d) c.as_slice-2.ensures c.in-Ok-certify_for.ensures.outcome)
+    decided_certify held w (map names_of c.args.files.now) c.in-Ok.team d c.requires.names c.in-Ok.ensures.read
+    (subst (λ t. CertifiesFor w.limit t d) c.as_slice.ensures c.in-Ok-certify_for.ensures.outcome)

@@ -1,15 +1,14 @@
-use Rattle.std.proofs.Common.{[], ◌∷◌, All, IfSome, length, map, refl, subst}
+use Rattle.std.proofs.Common.{[], ◌∷◌, IfSome, map, refl, subst}
 use Rattle.mp_files.specs.Cause.{Rests as FilesRest, seen_source}
 use Rattle.mp_files.specs.Fetched.{names_of}
-use Rattle.mp_files.specs.Team.{HoldsTeam}
+use Rattle.mp_files.specs.Team.{HoldsTeam, IsReadTeam}
 use Rattle.mp_files.proofs.Each.{handed_on}
-use Rattle.mp_grounder.specs.Checked.{IsChecked}
 use Rattle.mp_top.specs.Asked.{longest_plan, agents_of, team_request}
 use Rattle.mp_top.specs.Asked.Work.{checked}
 use Rattle.mp_top.specs.Cause.{Rests}
 use Rattle.mp_top.specs.Decided.{ChecksFor, Decides, IsRefusedTeam}
 use Rattle.mp_top.proofs.Acts.{first_alone, first_and_agents}
-use Rattle.mp_top.proofs.Decided.{as_many, decided_check, files_rest, seen_later, team_rests, weaker, weaker_err}
+use Rattle.mp_top.proofs.Decided.{decided_check, files_rest, seen_later, team_rests, weaker, weaker_err}
 use Rattle.mp_words.specs.Reads.{check_by}
 use Rattle.mp_words.specs.Requests.Wanted.{checks}
 use Rattle.mp_top.proofs.deciding.decide_check.Goals as goal
@@ -41,25 +40,24 @@ returns-clause-cause g c =
     let held = g.S.Source.held c.args.source.now in
     let holds : IfSome held (λ files. HoldsTeam files (map names_of c.args.files.now) c.in-Ok.team) =
     subst (λ o. IfSome o (λ files. HoldsTeam files (map names_of c.args.files.now) c.in-Ok.team)) c.in_ok-text.ensures.held c.in-Ok.ensures.team in
-    weaker_err c.check_for.result (IsRefusedTeam checked c.as_slice-2.result.now (c.as_slice-3.result.now ∷ [])) (Rests source request)
+    weaker_err c.check_for.result (IsRefusedTeam checked c.as_slice.result.now (c.as_slice-2.result.now ∷ [])) (Rests source request)
     (λ r h. team_rests source request (c.in_ok-text.text.items ∷ []) c.in-Ok.team r (c.in_ok-text.ensures.text, tt)
     (subst (λ ns. IfSome held (λ files. HoldsTeam files ns c.in-Ok.team)) c.requires.names holds)
-    (subst (λ t. IsRefusedTeam checked c.in-Ok.team (t ∷ []) r) c.as_slice-3.ensures.value
-    (subst (λ t. IsRefusedTeam checked t (c.as_slice-3.result.now ∷ []) r) c.as_slice-2.ensures h)))
+    (subst (λ t. IsRefusedTeam checked c.in-Ok.team (t ∷ []) r) c.as_slice-2.ensures.value
+    (subst (λ t. IsRefusedTeam checked t (c.as_slice-2.result.now ∷ []) r) c.as_slice.ensures h)))
     c.check_for.ensures.refused
 
 pub returns-clause-outcome : goal.returns-clause-outcome
 returns-clause-outcome g c =
     let w = check_by c.args.request.now in
     let held = g.S.Source.held c.args.source.now in
-    let holds : IfSome held (λ files. HoldsTeam files (map names_of c.args.files.now) c.in-Ok.team) =
-    subst (λ o. IfSome o (λ files. HoldsTeam files (map names_of c.args.files.now) c.in-Ok.team)) c.in_ok-text.ensures.held c.in-Ok.ensures.team in
-    let all : All IsChecked c.in-Ok.team = subst (All IsChecked) c.as_slice.ensures c.checked_factors_are_checked.ensures in
-    weaker c.check_for.result (ChecksFor w.steps c.as_slice-3.result.now c.as_slice-2.result.now) (Decides held (checks w))
+    let read : IsReadTeam held (map names_of c.args.files.now) c.in-Ok.team =
+    subst (λ o. IsReadTeam o (map names_of c.args.files.now) c.in-Ok.team) c.in_ok-text.ensures.held c.in-Ok.ensures.read in
+    weaker c.check_for.result (ChecksFor w.steps c.as_slice-2.result.now c.as_slice.result.now) (Decides held (checks w))
     (λ d h. decided_check held w (map names_of c.args.files.now) c.in_ok-text.text.items c.in-Ok.team d c.requires.names c.in_ok-text.ensures.text
-    holds (as_many names_of c.args.files.now (map names_of c.args.files.now) (length c.in-Ok.team) refl c.in-Ok.ensures.number) all
-    (subst (λ t. ChecksFor w.steps t c.in-Ok.team d) c.as_slice-3.ensures.value
-    (subst (λ t. ChecksFor w.steps c.as_slice-3.result.now t d) c.as_slice-2.ensures h)))
+    read
+    (subst (λ t. ChecksFor w.steps t c.in-Ok.team d) c.as_slice-2.ensures.value
+    (subst (λ t. ChecksFor w.steps c.as_slice-2.result.now t d) c.as_slice.ensures h)))
     c.check_for.ensures.outcome
 
 pub returns-in_err-text-clause-acts : goal.returns-in_err-text-clause-acts
