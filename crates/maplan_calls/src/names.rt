@@ -5,9 +5,8 @@ use crate::lines::{long, part, short, split_word};
 use crate::states::agent_at;
 use mp_joint::{NamedFact, PlanStep};
 use mp_list::{Copied, List, OutOfMemory};
-use mp_names::NameTable;
 use mp_sets::Agent;
-use mp_sexp::{Name, NameList};
+use mp_sexp::{Name, NameList, NameTable};
 use std::alloc::Global;
 
 /// The names of a text.

@@ -11,7 +11,7 @@ use Rattle.mp_factor.specs.declared.atom_values.Term.{Term}
 use Rattle.mp_factor.specs.declared.atom_values.Term.TheVariants as terms
 use Rattle.mp_factor.specs.declared.atom_values.Atom.{Atom}
 use Rattle.mp_factor.specs.declared.factor.Factor.{Factor}
-use Rattle.mp_names.specs.Numbers.{is_named, number_in}
+use Rattle.mp_sexp.specs.Numbers.{is_named, number_in}
 use Rattle.mp_joint.specs.declared.fact.NamedFact.{NamedFact}
 use Rattle.mp_joint.specs.Fact.{Text, Privates, is_listed}
 use Rattle.mp_joint.specs.FactorContribution.{privates_of, facts_of}

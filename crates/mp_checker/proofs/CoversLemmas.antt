@@ -7,7 +7,7 @@ use Rattle.std.proofs.lemmas.Bool.{or_left, or_right}
 use Rattle.std.proofs.lemmas.List.Folds.{list_any-append}
 use Rattle.std.proofs.lemmas.Option.{none-some}
 use Rattle.std.proofs.lemmas.Slice.Eq.{bytes_eq-Decides}
-use Rattle.mp_names.specs.Numbers.{is_named}
+use Rattle.mp_sexp.specs.Numbers.{is_named}
 use Rattle.mp_joint.specs.Fact.{Text}
 use Rattle.mp_checker.specs.AgentView.{Covers}
 

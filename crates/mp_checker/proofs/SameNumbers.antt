@@ -9,9 +9,9 @@ use Rattle.std.proofs.lemmas.Bool.{false≢true, cases_Bool}
 use Rattle.std.proofs.lemmas.Bool.Decides.{Decides-and, Decides-like}
 use Rattle.std.proofs.lemmas.Slice.Eq.{bytes_eq-Decides, slice_eq-Decides}
 use Rattle.mp_list.proofs.Bools.{same_tests}
-use Rattle.mp_names.specs.Numbers.{is_named, name_at, number_in, place_in}
-use Rattle.mp_names.proofs.NamesAt.{name_at_number, number_below}
-use Rattle.mp_names.proofs.Places.{has_place}
+use Rattle.mp_sexp.specs.Numbers.{is_named, name_at, number_in, place_in}
+use Rattle.mp_sexp.proofs.NamesAt.{name_at_number, number_below}
+use Rattle.mp_sexp.proofs.Places.{has_place}
 use Rattle.mp_joint.specs.declared.fact.NamedFact.{NamedFact}
 use Rattle.mp_joint.specs.Fact.{Text, same_owner, same_fact, is_among}
 use Rattle.mp_checker.specs.declared.fact.FactNumbers.{FactNumbers}

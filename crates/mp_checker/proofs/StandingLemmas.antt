@@ -11,9 +11,9 @@ use Rattle.mp_list.proofs.Bools.{same_tests}
 use Rattle.mp_list.proofs.Members.{any_from, some_member}
 use Rattle.mp_factor.specs.declared.typed_values.Typed.{Typed}
 use Rattle.mp_factor.specs.declared.factor.Factor.{Factor}
-use Rattle.mp_names.specs.Numbers.{is_named, number_in, place_in}
-use Rattle.mp_names.proofs.NamesAt.{name_at_number, number_below}
-use Rattle.mp_names.proofs.Places.{has_place, is_name}
+use Rattle.mp_sexp.specs.Numbers.{is_named, number_in, place_in}
+use Rattle.mp_sexp.proofs.NamesAt.{name_at_number, number_below}
+use Rattle.mp_sexp.proofs.Places.{has_place, is_name}
 use Rattle.mp_typing.specs.Names.{names_of}
 use Rattle.mp_typing.specs.ObjectList.{object_list}
 use Rattle.mp_typing.specs.Places.{numbers_where}

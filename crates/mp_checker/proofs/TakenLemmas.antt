@@ -11,8 +11,8 @@ use Rattle.mp_factor.specs.Limits.{SchemaFits, ProblemFits, names_of_atom}
 use Rattle.mp_factor.specs.declared.typed_values.Typed.{Typed}
 use Rattle.mp_factor.specs.declared.schema_values.Schema.{Schema}
 use Rattle.mp_factor.specs.declared.factor.Factor.{Factor}
-use Rattle.mp_names.specs.Numbers.{place_in}
-use Rattle.mp_names.proofs.Places.{is_name}
+use Rattle.mp_sexp.specs.Numbers.{place_in}
+use Rattle.mp_sexp.proofs.Places.{is_name}
 use Rattle.mp_joint.specs.declared.plan.PlanStep.{PlanStep}
 use Rattle.mp_joint.specs.declared.fact.SignedFact.{SignedFact}
 use Rattle.mp_joint.specs.Fact.{Text}

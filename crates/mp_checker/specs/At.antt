@@ -1,7 +1,7 @@
 -- Facts in numbers: those of numbered atoms where objects stand for the parameters, and which are true.
 use Rattle.std.specs.Prelude.{ℕ, Bool, false, ◌||◌, not, List, map, Option, Some, None, slice_index_or, if◌then◌else◌}
 use Rattle.std.specs.List.{list_any}
-use Rattle.mp_names.specs.Numbers.{number_in}
+use Rattle.mp_sexp.specs.Numbers.{number_in}
 use Rattle.mp_joint.specs.declared.fact.NamedFact.{NamedFact}
 use Rattle.mp_joint.specs.Fact.{Text}
 use Rattle.mp_joint.specs.Instance.{State}

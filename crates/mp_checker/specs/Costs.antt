@@ -4,7 +4,7 @@ use Rattle.std.specs.Map.{lookup}
 use Rattle.std.specs.Option.{option_map}
 use Rattle.mp_factor.specs.Limits.{name_of_term}
 use Rattle.mp_factor.specs.declared.init_values.Value.{Value as FunctionValue}
-use Rattle.mp_names.specs.Numbers.{number_in}
+use Rattle.mp_sexp.specs.Numbers.{number_in}
 use Rattle.mp_joint.specs.Fact.{Text}
 use Rattle.mp_checker.specs.declared.fact.FactNumbers.{FactNumbers}
 use Rattle.mp_checker.specs.declared.numbered.ObjectNumber.{ObjectNumber}

@@ -11,7 +11,7 @@ use Rattle.mp_factor.specs.declared.effect_values.Increase.{Increase}
 use Rattle.mp_factor.specs.declared.effect_values.Increase.TheVariants as increases
 use Rattle.mp_factor.specs.declared.schema_values.Schema.{Schema}
 use Rattle.mp_factor.specs.declared.factor.Factor.{Factor}
-use Rattle.mp_names.specs.Numbers.{number_in}
+use Rattle.mp_sexp.specs.Numbers.{number_in}
 use Rattle.mp_typing.specs.Names.{names_of}
 use Rattle.mp_typing.specs.ObjectList.{object_list}
 use Rattle.mp_typing.specs.Places.{numbers_where}

@@ -1,7 +1,7 @@
 -- Objects that may stand for parameters, by flags for each parameter and each object in object order.
 use Rattle.std.specs.Prelude.{Bool, true, false, ◌&&◌, List, [], ◌∷◌, map, slice_index_or}
 use Rattle.std.specs.Option.{option_map_or}
-use Rattle.mp_names.specs.Numbers.{number_in, place_in}
+use Rattle.mp_sexp.specs.Numbers.{number_in, place_in}
 use Rattle.mp_joint.specs.Fact.{Text}
 use Rattle.mp_checker.specs.declared.numbered.ObjectNumber.{ObjectNumber}
 use Rattle.mp_checker.specs.At.{nothing}

@@ -12,7 +12,7 @@ use crate::numbered::{Amount, NumberedAction};
 use crate::privates::PrivateNames;
 use mp_factor::{Atom, Increase, IncreaseList, Schema, SchemaList, TypedList};
 use mp_list::{List, OutOfMemory};
-use mp_names::NameTable;
+use mp_sexp::NameTable;
 use mp_typing::CheckedFactor;
 use std::alloc::Global;
 

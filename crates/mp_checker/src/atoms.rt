@@ -8,8 +8,7 @@ use crate::numbered::{NumberedAtom, NumberedLiteral, ObjectNumber, TermNumber};
 use crate::privates::PrivateNames;
 use mp_factor::{Atom, AtomList, Literal, LiteralList, Term, TermList, TypedList};
 use mp_list::{List, OutOfMemory, to_u32};
-use mp_names::NameTable;
-use mp_sexp::Name;
+use mp_sexp::{Name, NameTable};
 use std::alloc::Global;
 
 /// An object in numbers.

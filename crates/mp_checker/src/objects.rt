@@ -11,8 +11,7 @@ use crate::numbered::ObjectNumber;
 use crate::privates::PrivateNames;
 use mp_factor::{Typed, TypedList};
 use mp_list::{List, OutOfMemory};
-use mp_names::NameTable;
-use mp_sexp::Name;
+use mp_sexp::{Name, NameTable};
 use std::alloc::Global;
 
 /// Adds the name of an object, where it is not there yet.

@@ -6,7 +6,7 @@ ghost use Rattle.mp_checker.specs.Private.{private_in};
 
 use mp_factor::{Factor, SignatureList, TypedList};
 use mp_list::OutOfMemory;
-use mp_names::NameTable;
+use mp_sexp::NameTable;
 use std::alloc::Global;
 
 /// The predicates and the objects that are private in a factor.

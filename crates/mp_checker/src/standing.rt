@@ -2,7 +2,7 @@
 
 ghost use Rattle.std.specs.Prelude.{◌≡◌, ◌++◌, true, slice_index_or, IfOk, IfSome};
 ghost use Rattle.std.specs.Option.{is_some};
-ghost use Rattle.mp_names.specs.Numbers.{number_in};
+ghost use Rattle.mp_sexp.specs.Numbers.{number_in};
 ghost use Rattle.mp_checker.specs.At.{nothing};
 ghost use Rattle.mp_checker.specs.Standing.{is_flagged as is_flagged_in, are_flagged, numbers_at};
 
@@ -10,11 +10,10 @@ use crate::at::object_in;
 use crate::members::ObjectFlags;
 use crate::numbered::ObjectNumber;
 use mp_list::OutOfMemory;
-use mp_names::NameTable;
-use mp_sexp::Name;
+use mp_sexp::{Name, NameTable};
 
 /// The object of a factor that has a name, where it may stand for a parameter.
-#[tactic(auto, unfolding(mp_names::specs::Numbers::number_in))]
+#[tactic(auto, unfolding(mp_sexp::specs::Numbers::number_in))]
 fn flagged_object(
     objects: &NameTable<'_>,
     numbers: &[ObjectNumber],

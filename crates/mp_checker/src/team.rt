@@ -8,8 +8,8 @@ ghost use Rattle.mp_checker.specs.Words.{names_of_factor};
 
 use crate::factor::AgentFactor;
 use mp_list::OutOfMemory;
-use mp_names::NameTable;
 use mp_sets::Agent;
+use mp_sexp::NameTable;
 use mp_typing::CheckedFactor;
 use std::alloc::Global;
 

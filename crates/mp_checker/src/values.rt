@@ -3,7 +3,7 @@
 ghost use Rattle.std.specs.Prelude.{◌≡◌, ◌++◌, ◌∷◌, [], ℕ, map, List as ListOf, IfOk, OnOk};
 ghost use Rattle.mp_factor.specs.Limits.{name_of_term};
 ghost use Rattle.mp_factor.specs.declared.init_values.Value.{Value as FunctionValue};
-ghost use Rattle.mp_names.specs.Numbers.{number_in};
+ghost use Rattle.mp_sexp.specs.Numbers.{number_in};
 ghost use Rattle.mp_checker.specs.Costs.{HasValues, numbers_of_value};
 
 use crate::fact::FactNumbers;
@@ -11,7 +11,7 @@ use crate::words::name_in;
 use indexmap::IndexMap;
 use mp_factor::{TermList, Value, ValueList};
 use mp_list::{List, OutOfMemory, to_u32};
-use mp_names::NameTable;
+use mp_sexp::NameTable;
 use std::alloc::Global;
 
 /// The numbers of names.

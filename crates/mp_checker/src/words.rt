@@ -7,8 +7,7 @@ ghost use Rattle.mp_checker.specs.Words.{names_of_schema, names_of_value, names_
 
 use mp_factor::{Atom, AtomList, Factor, Schema, SchemaList, Term, TermList, TypedList, ValueList};
 use mp_list::OutOfMemory;
-use mp_names::NameTable;
-use mp_sexp::Name;
+use mp_sexp::{Name, NameTable};
 use mp_typing::CheckedFactor;
 use std::alloc::Global;
 

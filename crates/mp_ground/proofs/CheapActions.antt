@@ -11,8 +11,8 @@ use Rattle.mp_lifted.specs.declared.lifted.GroundValue.{GroundValue}
 use Rattle.mp_lifted.specs.declared.lifted.LiftedAction.{LiftedAction}
 use Rattle.mp_lifted.specs.declared.lifted.LiftedFactor.{LiftedFactor}
 use Rattle.mp_bindings.specs.Bindings.{product}
-use Rattle.mp_atoms.specs.Binding.{ActionBinding}
-use Rattle.mp_atoms.specs.Atoms.{atom_at, same_atom}
+use Rattle.mp_lifted.specs.Binding.{ActionBinding}
+use Rattle.mp_lifted.specs.Atoms.{atom_at, same_atom}
 use Rattle.mp_instances.specs.Costs.{value_of, amount_at, cost_at, IsSmall, IsCheap, HasSmallCosts}
 use Rattle.mp_instances.specs.Instances.{suits, binding_of, instances_of, instances}
 

@@ -15,8 +15,8 @@ use Rattle.std.proofs.lemmas.Map.Text.{is_eq-slice_cmp}
 use Rattle.std.proofs.lemmas.Option.{slice_get-map, slice_get-get_or, slice_get_within, get_or_from_slice_get, none-some, same_Some}
 use Rattle.std.proofs.lemmas.Slice.Eq.{bytes_eq-Decides}
 use Rattle.mp_list.proofs.Members.{any_from, some_member}
-use Rattle.mp_names.specs.Numbers.{is_named, name_at, number_in}
-use Rattle.mp_names.proofs.NamesAt.{name_at_number, number_below}
+use Rattle.mp_sexp.specs.Numbers.{is_named, name_at, number_in}
+use Rattle.mp_sexp.proofs.NamesAt.{name_at_number, number_below}
 use Rattle.mp_views.specs.Sorted.{sorted_by}
 use Rattle.mp_joint.specs.Fact.{Text}
 use Rattle.mp_typing.specs.Places.{numbers_where}

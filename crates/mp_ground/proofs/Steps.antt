@@ -1,7 +1,7 @@
 -- What ground actions stand for.
 use Rattle.std.proofs.Common.{◌≡◌, List, [], ◌∷◌, map, refl, ap}
 use Rattle.mp_lifted.specs.declared.lifted.LiftedFactor.{LiftedFactor}
-use Rattle.mp_atoms.specs.Binding.{ActionBinding}
+use Rattle.mp_lifted.specs.Binding.{ActionBinding}
 use Rattle.mp_ground_facts.specs.declared.fact.GroundFact.{GroundFact}
 use Rattle.mp_ground_facts.specs.Ground.{ground_action}
 use Rattle.mp_ground.specs.Numbered.{binding_at}

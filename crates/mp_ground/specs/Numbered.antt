@@ -3,12 +3,12 @@
 use Rattle.std.specs.Prelude.{ℕ, ◌-◌, nat_lt, Bool, not, List, map, filter, length, drop, None, slice_index_or}
 use Rattle.std.specs.Ordering.{nat_cmp}
 use Rattle.mp_factor.specs.declared.factor.Factor.{Factor}
-use Rattle.mp_names.specs.Numbers.{name_at, number_in}
+use Rattle.mp_sexp.specs.Numbers.{name_at, number_in}
 use Rattle.mp_joint.specs.Fact.{Text}
 use Rattle.mp_task.specs.declared.act.Act.{Act}
 use Rattle.mp_lifted.specs.Texts.{signed_text}
 use Rattle.mp_lifted.specs.Vocabulary.{vocabulary_of}
-use Rattle.mp_atoms.specs.Binding.{ActionBinding}
+use Rattle.mp_lifted.specs.Binding.{ActionBinding}
 use Rattle.mp_ground_facts.specs.declared.fact.GroundFact.{GroundFact}
 use Rattle.mp_ground_facts.specs.Ground.{GroundAction, GroundFactor}
 use Rattle.mp_views.specs.Sorted.{sorted_by, sorted_once}

@@ -1,7 +1,6 @@
 //! The grounded factor of one agent.
 
-use mp_atoms::ActionBindingList;
-use mp_lifted::FactTexts;
+use mp_lifted::{ActionBindingList, FactTexts};
 use mp_sets::{Agent, FactList};
 use mp_task::ActList;
 

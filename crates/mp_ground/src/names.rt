@@ -3,13 +3,12 @@
 ghost use Rattle.std.specs.Prelude.{◌≡◌, ◌++◌, ◌∷◌, [], List as ListOf, map, IfOk, OnOk};
 ghost use Rattle.mp_factor.specs.declared.typed_values.Typed.{Typed as Declaration};
 ghost use Rattle.mp_lifted.specs.Vocabulary.{declared_names};
-ghost use Rattle.mp_names.specs.Numbers.{name_at};
+ghost use Rattle.mp_sexp.specs.Numbers.{name_at};
 ghost use Rattle.mp_ground.specs.Numbered.{fact_names as names_of_facts};
 
 use mp_factor::{Factor, SignatureList, Typed, TypedList};
 use mp_list::{Copied, List, OutOfMemory};
-use mp_names::NameTable;
-use mp_sexp::{Name, NameList};
+use mp_sexp::{Name, NameList, NameTable};
 use std::alloc::Global;
 
 /// The names of predicates, as they are declared, and of objects in object order. Their places are their numbers.

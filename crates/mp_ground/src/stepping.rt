@@ -1,14 +1,14 @@
 //! Own actions by their names.
 
 ghost use Rattle.std.specs.Prelude.{◌≡◌, map, IfOk};
-ghost use Rattle.mp_atoms.specs.Bound.{binding};
-ghost use Rattle.mp_names.specs.Numbers.{name_at};
+ghost use Rattle.mp_lifted.specs.Bound.{binding};
+ghost use Rattle.mp_sexp.specs.Numbers.{name_at};
 ghost use Rattle.mp_grounder.specs.Named.{step_of};
 
 use crate::names::{copied_names, object_names};
-use mp_atoms::BoundAction;
 use mp_factor::SchemaList;
 use mp_joint::PlanStep;
+use mp_lifted::BoundAction;
 use mp_list::{Copied, OutOfMemory};
 use mp_sets::Agent;
 use mp_sexp::Name;

@@ -1,7 +1,7 @@
 //! The texts of public facts, and the places of facts by them.
 
 ghost use Rattle.std.specs.Prelude.{◌≡◌, ◌≤◌, ◌++◌, ◌∷◌, codes, length, map, not, filter, IfOk, OnOk};
-ghost use Rattle.mp_names.specs.Numbers.{name_at, number_in};
+ghost use Rattle.mp_sexp.specs.Numbers.{name_at, number_in};
 ghost use Rattle.mp_sexp.specs.Bytes.{folded};
 ghost use Rattle.mp_lifted.specs.Texts.{bracketed};
 ghost use Rattle.mp_views.specs.Lines.{spaced};
@@ -13,8 +13,7 @@ use crate::places::Places;
 use mp_ground_facts::GroundFact;
 use mp_lifted::FactTexts;
 use mp_list::{Copied, List, OutOfMemory};
-use mp_names::NameTable;
-use mp_sexp::{Name, NameList};
+use mp_sexp::{Name, NameList, NameTable};
 use mp_views::sorted_once;
 use std::alloc::Global;
 

@@ -9,7 +9,7 @@ use Rattle.std.proofs.lemmas.Bool.{false≢true}
 use Rattle.std.proofs.lemmas.Map.Made.{is_member-Decides}
 use Rattle.indexmap.specs.IndexSet.{insert_all}
 use Rattle.mp_lifted.specs.declared.lifted.LiftedFactor.{LiftedFactor}
-use Rattle.mp_atoms.specs.Binding.{ActionBinding}
+use Rattle.mp_lifted.specs.Binding.{ActionBinding}
 use Rattle.mp_ground_facts.specs.declared.fact.GroundFact.{GroundFact}
 use Rattle.mp_ground_facts.specs.Facts.{fact_cmp, same_fact}
 use Rattle.mp_ground_facts.specs.Touched.{counted}

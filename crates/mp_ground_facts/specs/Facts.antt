@@ -3,7 +3,7 @@ use Rattle.std.specs.Prelude.{Bool, true, false, not, if◌then◌else◌}
 use Rattle.std.specs.declared.cmp.Ordering.{Ordering}
 use Rattle.mp_lifted.specs.declared.lifted.GroundAtom.{GroundAtom}
 use Rattle.mp_lifted.specs.declared.lifted.LiftedFactor.{LiftedFactor}
-use Rattle.mp_atoms.specs.Start.{is_private, is_so, is_true_at_start}
+use Rattle.mp_lifted.specs.Start.{is_private, is_so, is_true_at_start}
 use Rattle.mp_ground_facts.specs.declared.fact.GroundFact.{GroundFact}
 use Rattle.mp_ground_facts.specs.contracts.fact.GroundFactOrd.TheImpl as facts
 use Rattle.mp_ground_facts.specs.contracts.fact.GroundFactPartialEq.TheImpl as facts_eq

@@ -4,7 +4,7 @@ use Rattle.std.specs.List.{position_or_len}
 use Rattle.std.specs.FinMap.{from_entries, keys}
 use Rattle.mp_typing.specs.Places.{numbers_where}
 use Rattle.mp_lifted.specs.declared.lifted.LiftedFactor.{LiftedFactor}
-use Rattle.mp_atoms.specs.Binding.{ActionBinding}
+use Rattle.mp_lifted.specs.Binding.{ActionBinding}
 use Rattle.mp_ground_facts.specs.declared.fact.GroundFact.{GroundFact}
 use Rattle.mp_ground_facts.specs.Facts.{fact_cmp, is_initial, same_fact}
 use Rattle.mp_ground_facts.specs.Touched.{needed, added, deleted, of_action, goal_facts, counted}

@@ -6,8 +6,8 @@ use Rattle.std.specs.Option.{option_map_or}
 use Rattle.mp_lifted.specs.declared.lifted.GroundAtom.{GroundAtom}
 use Rattle.mp_lifted.specs.declared.lifted.LiftedAction.{LiftedAction}
 use Rattle.mp_lifted.specs.declared.lifted.LiftedFactor.{LiftedFactor}
-use Rattle.mp_atoms.specs.Binding.{ActionBinding}
-use Rattle.mp_atoms.specs.Atoms.{atoms_at, is_among}
+use Rattle.mp_lifted.specs.Binding.{ActionBinding}
+use Rattle.mp_lifted.specs.Atoms.{atoms_at, is_among}
 use Rattle.mp_ground_facts.specs.declared.fact.GroundFact.{GroundFact}
 use Rattle.mp_ground_facts.specs.Facts.{plain, complement, has_complement}
 

@@ -1,12 +1,11 @@
 //! Which atoms of an action change complements.
 
 ghost use Rattle.std.specs.Prelude.{◌≡◌, ◌&&◌, not};
-ghost use Rattle.mp_atoms.specs.Atoms.{atom_at, atoms_at, is_among};
-ghost use Rattle.mp_atoms.specs.Start.{is_so};
+ghost use Rattle.mp_lifted.specs.Atoms.{atom_at, atoms_at, is_among};
+ghost use Rattle.mp_lifted.specs.Start.{is_so};
 ghost use Rattle.mp_ground_facts.specs.Facts.{has_complement};
 
-use mp_atoms::is_among_at;
-use mp_lifted::{LiftedAtom, LiftedFactor};
+use mp_lifted::{LiftedAtom, LiftedFactor, is_among_at};
 
 /// Whether something is so of the predicate with a number.
 fn is_flagged(flags: &[bool], predicate: u32) -> bool

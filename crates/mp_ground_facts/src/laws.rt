@@ -3,7 +3,7 @@
 ghost use Rattle.std.specs.Prelude.{◌≡◌, ◌↔◌, ℕ, List, Contains, Some, slice_get};
 ghost use Rattle.std.specs.List.Sorted.{IsStrictlySortedBy};
 ghost use Rattle.mp_lifted.specs.declared.lifted.LiftedFactor.{LiftedFactor};
-ghost use Rattle.mp_atoms.specs.Binding.{ActionBinding};
+ghost use Rattle.mp_lifted.specs.Binding.{ActionBinding};
 ghost use Rattle.mp_ground_facts.specs.declared.fact.GroundFact.{GroundFact};
 ghost use Rattle.mp_ground_facts.specs.Facts.{fact_cmp};
 ghost use Rattle.mp_ground_facts.specs.Touched.{counted};

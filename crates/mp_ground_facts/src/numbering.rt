@@ -11,8 +11,7 @@ use crate::numbers::add_fact_numbers;
 use crate::refusal::FactRefusal;
 use crate::touched::sorted_facts;
 use indexmap::IndexSet;
-use mp_atoms::{ActionBindingList, StartFacts};
-use mp_lifted::LiftedFactor;
+use mp_lifted::{ActionBindingList, LiftedFactor, StartFacts};
 use mp_list::{List, OutOfMemory};
 use std::alloc::Global;
 

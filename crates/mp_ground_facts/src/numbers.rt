@@ -1,7 +1,7 @@
 //! The numbers of the facts of atoms.
 
 ghost use Rattle.std.specs.Prelude.{◌≡◌, ◌∷◌, ◌++◌, [], ◌≤◌, map, length, OnOk};
-ghost use Rattle.mp_atoms.specs.Atoms.{atom_at, atoms_at};
+ghost use Rattle.mp_lifted.specs.Atoms.{atom_at, atoms_at};
 ghost use Rattle.mp_ground_facts.specs.Facts.{fact_of, complement};
 ghost use Rattle.mp_ground_facts.specs.Touched.{with_complements};
 ghost use Rattle.mp_ground_facts.specs.Ground.{number_of, numbers_of};
@@ -10,8 +10,7 @@ use crate::among::changes_complement;
 use crate::fact::GroundFact;
 use crate::key::FactKey;
 use indexmap::IndexSet;
-use mp_atoms::{add_objects, is_private};
-use mp_lifted::{GroundAtom, LiftedAtom, LiftedFactor};
+use mp_lifted::{GroundAtom, LiftedAtom, LiftedFactor, add_objects, is_private};
 use mp_list::{List, OutOfMemory};
 
 /// The place of a fact, or of the complement of one.

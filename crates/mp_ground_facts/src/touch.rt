@@ -2,7 +2,7 @@
 
 ghost use Rattle.std.specs.Prelude.{◌≡◌, ◌∷◌, [], map, IfOk, OnOk};
 ghost use Rattle.indexmap.specs.IndexSet.{insert_key, insert_all};
-ghost use Rattle.mp_atoms.specs.Atoms.{atom_at, atoms_at};
+ghost use Rattle.mp_lifted.specs.Atoms.{atom_at, atoms_at};
 ghost use Rattle.mp_ground_facts.specs.Facts.{fact_of, complement, same_fact};
 ghost use Rattle.mp_ground_facts.specs.Touched.{with_complements};
 
@@ -10,8 +10,7 @@ use crate::among::changes_complement;
 use crate::fact::GroundFact;
 use crate::key::FactKey;
 use indexmap::IndexSet;
-use mp_atoms::{add_objects, is_private};
-use mp_lifted::{GroundAtom, LiftedAtom, LiftedFactor};
+use mp_lifted::{GroundAtom, LiftedAtom, LiftedFactor, add_objects, is_private};
 use mp_list::{List, OutOfMemory};
 use std::alloc::Global;
 

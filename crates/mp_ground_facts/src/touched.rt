@@ -10,8 +10,7 @@ ghost use Rattle.mp_ground_facts.specs.Ground.{facts_of};
 use crate::fact::GroundFact;
 use crate::touch::{touch_atoms, touch_complements, touch_facts};
 use indexmap::IndexSet;
-use mp_atoms::ActionBindingList;
-use mp_lifted::{LiftedAction, LiftedFactor};
+use mp_lifted::{ActionBindingList, LiftedAction, LiftedFactor};
 use mp_list::OutOfMemory;
 use std::alloc::Global;
 

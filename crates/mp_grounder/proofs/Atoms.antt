@@ -10,9 +10,9 @@ use Rattle.mp_factor.specs.declared.atom_values.Term.{Term}
 use Rattle.mp_factor.specs.declared.atom_values.Term.TheVariants.{Variable, Object}
 use Rattle.mp_factor.specs.declared.atom_values.Atom.{Atom}
 use Rattle.mp_factor.specs.declared.factor.Factor.{Factor}
-use Rattle.mp_names.specs.Numbers.{is_named, name_at, number_in}
-use Rattle.mp_names.proofs.NamesAt.{name_at_number, number_below}
-use Rattle.mp_names.proofs.Places.{swapped}
+use Rattle.mp_sexp.specs.Numbers.{is_named, name_at, number_in}
+use Rattle.mp_sexp.proofs.NamesAt.{name_at_number, number_below}
+use Rattle.mp_sexp.proofs.Places.{swapped}
 use Rattle.mp_typing.specs.Lookups.{objects_of as declared_objects, is_object}
 use Rattle.mp_typing.specs.Uses.{is_declared}
 use Rattle.mp_joint.specs.declared.fact.NamedFact.{NamedFact}
@@ -24,7 +24,7 @@ use Rattle.mp_lifted.specs.Factors.{ground_atom}
 use Rattle.mp_lifted.specs.Lifting.{parameter_in, lifted_term, lifted_atom, lifted_where}
 use Rattle.mp_lifted.specs.Vocabulary.{vocabulary_of}
 use Rattle.mp_lifted.proofs.DeclaredNames.{first_named}
-use Rattle.mp_atoms.specs.Atoms.{object_at, atom_at, atoms_at}
+use Rattle.mp_lifted.specs.Atoms.{object_at, atom_at, atoms_at}
 use Rattle.mp_grounder.specs.Named.{named_fact, named_objects, IsBinding, IsInRange}
 use Rattle.mp_grounder.proofs.Distinct.{names_in}
 use Rattle.mp_grounder.proofs.Lists.{filter_of_map, all_some}

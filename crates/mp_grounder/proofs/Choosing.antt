@@ -9,7 +9,7 @@ use Rattle.std.specs.Option.{option_map_or}
 use Rattle.std.specs.Str.{bytes_eq}
 use Rattle.mp_factor.specs.declared.typed_values.Typed.{Typed}
 use Rattle.mp_factor.specs.declared.factor.Factor.{Factor}
-use Rattle.mp_names.specs.Numbers.{is_named, name_at}
+use Rattle.mp_sexp.specs.Numbers.{is_named, name_at}
 use Rattle.mp_typing.specs.Names.{names_of}
 use Rattle.mp_typing.specs.ObjectList.{object_list}
 use Rattle.mp_typing.specs.Places.{numbers_where}

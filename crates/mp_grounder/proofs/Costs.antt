@@ -15,7 +15,7 @@ use Rattle.mp_factor.specs.declared.effect_values.Increase.TheVariants.{Number, 
 use Rattle.mp_factor.specs.declared.init_values.Value.{Value}
 use Rattle.mp_factor.specs.declared.schema_values.Schema.{Schema}
 use Rattle.mp_factor.specs.declared.factor.Factor.{Factor}
-use Rattle.mp_names.specs.Numbers.{is_named, number_in}
+use Rattle.mp_sexp.specs.Numbers.{is_named, number_in}
 use Rattle.mp_joint.specs.Fact.{Text}
 use Rattle.mp_joint.specs.Grounding.{objects_of, gives, amount_of, total_of, cost_of}
 use Rattle.mp_lifted.specs.declared.lifted.GroundAtom.{GroundAtom}
@@ -23,7 +23,7 @@ use Rattle.mp_lifted.specs.declared.lifted.GroundValue.{GroundValue}
 use Rattle.mp_lifted.specs.Factors.{ground_value}
 use Rattle.mp_lifted.specs.Lifting.{is_total_cost, lifted_term, lifted_amount, amounts_of}
 use Rattle.mp_lifted.specs.Vocabulary.{vocabulary_of}
-use Rattle.mp_atoms.specs.Atoms.{object_at, same_atom}
+use Rattle.mp_lifted.specs.Atoms.{object_at, same_atom}
 use Rattle.mp_instances.specs.Costs.{amount_at, cost_at}
 use Rattle.mp_grounder.specs.Named.{named_objects, IsBinding}
 use Rattle.mp_grounder.proofs.Atoms.{AreNumbers, terms_stand, ground_terms_stand}

@@ -15,8 +15,8 @@ use Rattle.mp_lifted.specs.Lifting.{members_of, lifted_atom, lifted_where}
 use Rattle.mp_lifted.specs.Views.{is_changed}
 use Rattle.mp_lifted.specs.Vocabulary.{vocabulary_of}
 use Rattle.mp_bindings.specs.Bindings.{product}
-use Rattle.mp_atoms.specs.Binding.{ActionBinding}
-use Rattle.mp_atoms.specs.Atoms.{atoms_at, is_among}
+use Rattle.mp_lifted.specs.Binding.{ActionBinding}
+use Rattle.mp_lifted.specs.Atoms.{atoms_at, is_among}
 use Rattle.mp_instances.specs.Costs.{cost_at}
 use Rattle.mp_instances.specs.Instances.{suits, binding_of, instances_of, instances}
 use Rattle.mp_ground_facts.specs.Facts.{plain, complement, has_complement}

@@ -9,7 +9,7 @@ use Rattle.mp_factor.proofs.NoFaults.{not_empty}
 use Rattle.mp_factor.specs.declared.files.File.{File}
 use Rattle.mp_factor.specs.declared.word.Word.{Word}
 use Rattle.mp_factor.specs.declared.typed_values.Typed.{Typed}
-use Rattle.mp_names.specs.Numbers.{is_named}
+use Rattle.mp_sexp.specs.Numbers.{is_named}
 use Rattle.mp_typing.specs.declared.fault.FaultKind.TheVariants.{Twice}
 use Rattle.mp_typing.specs.Faults.{fault_at}
 use Rattle.mp_typing.specs.ObjectList.{others, first_declared}

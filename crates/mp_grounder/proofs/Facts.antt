@@ -6,13 +6,13 @@ use Rattle.std.proofs.lemmas.Slice.Eq.{bytes_eq-Decides, slice_eq-Decides}
 use Rattle.std.specs.Cmp.Lexicographic.{pointwise}
 use Rattle.std.specs.Str.{bytes_eq}
 use Rattle.mp_factor.specs.declared.factor.Factor.{Factor}
-use Rattle.mp_names.specs.Numbers.{name_at}
+use Rattle.mp_sexp.specs.Numbers.{name_at}
 use Rattle.mp_typing.specs.Lookups.{objects_of}
 use Rattle.mp_joint.specs.Fact as joint
 use Rattle.mp_joint.specs.FactorContribution.{privates_of}
 use Rattle.mp_lifted.specs.declared.lifted.GroundAtom.{GroundAtom}
 use Rattle.mp_lifted.specs.Vocabulary.{vocabulary_of}
-use Rattle.mp_atoms.specs.Atoms.{same_atom, is_among}
+use Rattle.mp_lifted.specs.Atoms.{same_atom, is_among}
 use Rattle.mp_grounder.specs.Named.{named_fact, named_objects, IsInRange}
 use Rattle.mp_grounder.proofs.Distinct.{AreDistinct, first_distinct}
 use Rattle.mp_grounder.proofs.Numbered.{same_places, same_lists}

@@ -8,7 +8,7 @@ use Rattle.std.specs.Option.{option_map, option_map_or}
 use Rattle.std.specs.Prelude.{option_and_then}
 use Rattle.mp_factor.specs.declared.schema_values.Schema.{Schema}
 use Rattle.mp_factor.specs.declared.factor.Factor.{Factor}
-use Rattle.mp_names.specs.Numbers.{name_at}
+use Rattle.mp_sexp.specs.Numbers.{name_at}
 use Rattle.mp_joint.specs.FactorContribution.{instance_with}
 use Rattle.mp_joint.specs.Grounded as named
 use Rattle.mp_joint.specs.Grounding.{cost_of}

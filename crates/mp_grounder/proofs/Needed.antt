@@ -7,7 +7,7 @@ use Rattle.mp_factor.specs.declared.typed_values.Typed.{Typed}
 use Rattle.mp_factor.specs.declared.atom_values.Atom.{Atom}
 use Rattle.mp_factor.specs.declared.schema_values.Schema.{Schema}
 use Rattle.mp_factor.specs.declared.factor.Factor.{Factor}
-use Rattle.mp_names.specs.Numbers.{name_at}
+use Rattle.mp_sexp.specs.Numbers.{name_at}
 use Rattle.mp_joint.specs.declared.fact.NamedFact.{NamedFact}
 use Rattle.mp_joint.specs.Fact as joint
 use Rattle.mp_joint.specs.FactorContribution.{instance_with, facts_of}
@@ -20,8 +20,8 @@ use Rattle.mp_lifted.specs.Factors.{lifted_factor}
 use Rattle.mp_lifted.specs.Lifting.{lifted_atom, lifted_where}
 use Rattle.mp_lifted.specs.Views.{is_changed, has_complements, setting_of}
 use Rattle.mp_lifted.specs.Vocabulary.{vocabulary_of}
-use Rattle.mp_atoms.specs.Atoms.{atoms_at, is_among}
-use Rattle.mp_atoms.specs.Start.{is_so}
+use Rattle.mp_lifted.specs.Atoms.{atoms_at, is_among}
+use Rattle.mp_lifted.specs.Start.{is_so}
 use Rattle.mp_ground_facts.specs.Facts.{plain, complement, has_complement}
 use Rattle.mp_ground_facts.specs.Touched.{needed, added, deleted, goal_facts}
 use Rattle.mp_grounder.specs.Named.{named_fact, named_objects, signed_fact, numbered_action, IsBinding, IsInRange}

@@ -8,9 +8,9 @@ use Rattle.std.specs.List.{position_from}
 use Rattle.std.specs.Option.{option_map_or}
 use Rattle.std.specs.Str.{bytes_eq}
 use Rattle.mp_list.proofs.Bools.{same_tests}
-use Rattle.mp_names.specs.Numbers.{is_named, name_at, number_in}
-use Rattle.mp_names.proofs.NamesAt.{name_at_number}
-use Rattle.mp_names.proofs.Places.{is_name}
+use Rattle.mp_sexp.specs.Numbers.{is_named, name_at, number_in}
+use Rattle.mp_sexp.proofs.NamesAt.{name_at_number}
+use Rattle.mp_sexp.proofs.Places.{is_name}
 use Rattle.mp_joint.specs.Fact.{Text}
 use Rattle.mp_grounder.proofs.Distinct.{AreDistinct}
 

@@ -6,7 +6,7 @@ use Rattle.std.specs.Option.{option_map_or}
 use Rattle.std.specs.Ordering.{ordering_then, bool_cmp, nat_cmp}
 use Rattle.std.specs.Cmp.Lexicographic.{slice_cmp}
 use Rattle.mp_factor.specs.declared.factor.Factor.{Factor}
-use Rattle.mp_names.specs.Numbers.{number_in}
+use Rattle.mp_sexp.specs.Numbers.{number_in}
 use Rattle.mp_joint.specs.declared.fact.SignedFact.{SignedFact}
 use Rattle.mp_lifted.specs.declared.lifted.GroundAtom.{GroundAtom}
 use Rattle.mp_lifted.specs.declared.lifted.LiftedAction.{LiftedAction}
@@ -15,8 +15,8 @@ use Rattle.mp_lifted.specs.declared.view.OpenView.{OpenView}
 use Rattle.mp_lifted.specs.Factors.{lifted_factor}
 use Rattle.mp_lifted.specs.Views.{setting_of}
 use Rattle.mp_lifted.specs.Vocabulary.{vocabulary_of}
-use Rattle.mp_atoms.specs.Binding.{ActionBinding}
-use Rattle.mp_atoms.specs.Start.{is_private}
+use Rattle.mp_lifted.specs.Binding.{ActionBinding}
+use Rattle.mp_lifted.specs.Start.{is_private}
 use Rattle.mp_instances.specs.Instances.{instances}
 use Rattle.mp_ground_facts.specs.declared.fact.GroundFact.{GroundFact}
 use Rattle.mp_ground_facts.specs.Facts.{fact_cmp, atom_of}

@@ -19,8 +19,8 @@ use Rattle.mp_factor.specs.declared.effect_values.Increase.TheVariants.{Number, 
 use Rattle.mp_factor.specs.declared.init_values.Value.{Value}
 use Rattle.mp_factor.specs.declared.schema_values.Schema.{Schema}
 use Rattle.mp_factor.specs.declared.factor.Factor.{Factor}
-use Rattle.mp_names.specs.Numbers.{is_named}
-use Rattle.mp_names.proofs.Places.{swapped}
+use Rattle.mp_sexp.specs.Numbers.{is_named}
+use Rattle.mp_sexp.proofs.Places.{swapped}
 use Rattle.mp_typing.specs.declared.fault.FaultKind.TheVariants.{Unknown, Arity}
 use Rattle.mp_typing.specs.Faults.{fault_at}
 use Rattle.mp_typing.specs.Lookups.{arity_of, objects_of}

@@ -3,7 +3,7 @@ use Rattle.std.proofs.Common.{◌≡◌, ℕ, Bool, true, false, not, ◌||◌, 
 use Rattle.std.proofs.lemmas.List.Elements.{All-head, All-tail}
 use Rattle.std.specs.List.{list_any}
 use Rattle.mp_factor.specs.declared.factor.Factor.{Factor}
-use Rattle.mp_names.specs.Numbers.{name_at}
+use Rattle.mp_sexp.specs.Numbers.{name_at}
 use Rattle.mp_joint.specs.Fact as joint
 use Rattle.mp_joint.specs.FactorContribution.{privates_of, facts_of}
 use Rattle.mp_lifted.specs.declared.lifted.GroundAtom.{GroundAtom}
@@ -12,8 +12,8 @@ use Rattle.mp_lifted.specs.Factors.{lifted_factor, ground_atom, known_atoms}
 use Rattle.mp_lifted.specs.Texts.{fact_text}
 use Rattle.mp_lifted.specs.Views.{is_initial}
 use Rattle.mp_lifted.specs.Vocabulary.{vocabulary_of}
-use Rattle.mp_atoms.specs.Atoms.{is_among}
-use Rattle.mp_atoms.specs.Start.{is_so, is_private, is_true_at_start}
+use Rattle.mp_lifted.specs.Atoms.{is_among}
+use Rattle.mp_lifted.specs.Start.{is_so, is_private, is_true_at_start}
 use Rattle.mp_grounder.specs.Checked.{IsChecked}
 use Rattle.mp_grounder.specs.Named.{named_fact, named_objects, IsInRange}
 use Rattle.mp_grounder.proofs.Atoms.{ground_atoms_stand}

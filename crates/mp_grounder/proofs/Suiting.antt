@@ -22,8 +22,8 @@ use Rattle.mp_lifted.specs.Factors.{lifted_factor}
 use Rattle.mp_lifted.specs.Lifting.{parameter_in, lifted_term, lifted_atom, lifted_where, is_not}
 use Rattle.mp_lifted.specs.Views.{is_changed, setting_of}
 use Rattle.mp_lifted.specs.Vocabulary.{vocabulary_of}
-use Rattle.mp_atoms.specs.Atoms.{atom_at}
-use Rattle.mp_atoms.specs.Start.{is_true_at_start}
+use Rattle.mp_lifted.specs.Atoms.{atom_at}
+use Rattle.mp_lifted.specs.Start.{is_true_at_start}
 use Rattle.mp_instances.specs.Instances.{is_known_term, is_known, suits}
 use Rattle.mp_grounder.specs.Checked.{IsChecked}
 use Rattle.mp_grounder.specs.Named.{named_objects, numbered_action, IsBinding}

@@ -15,15 +15,15 @@ use Rattle.mp_factor.specs.Named.{IsName, IsTypedOf, IsSignatureOf, IsVariable}
 use Rattle.mp_factor.specs.declared.typed_values.Typed.{Typed}
 use Rattle.mp_factor.specs.declared.signature_values.Signature.{Signature}
 use Rattle.mp_factor.specs.declared.factor.Factor.{Factor}
-use Rattle.mp_names.specs.Numbers.{name_at, number_in}
+use Rattle.mp_sexp.specs.Numbers.{name_at, number_in}
 use Rattle.mp_typing.specs.ObjectList.{first_declared}
 use Rattle.mp_joint.specs.Fact.{Text, is_listed}
 use Rattle.mp_lifted.specs.declared.lifted.GroundAtom.{GroundAtom}
 use Rattle.mp_lifted.specs.Factors.{between_brackets, has_brackets, words_of, can_be_named, named_atom, known_atom, known_atoms}
 use Rattle.mp_lifted.specs.Texts.{bracketed, fact_text}
 use Rattle.mp_lifted.specs.Vocabulary.{vocabulary_of}
-use Rattle.mp_atoms.specs.Atoms.{same_atom, is_among}
-use Rattle.mp_names.proofs.NamesAt.{name_at_number}
+use Rattle.mp_lifted.specs.Atoms.{same_atom, is_among}
+use Rattle.mp_sexp.proofs.NamesAt.{name_at_number}
 use Rattle.mp_grounder.specs.Checked.{IsChecked}
 use Rattle.mp_grounder.specs.Named.{named_fact, named_objects, IsInRange}
 use Rattle.mp_grounder.proofs.Distinct.{AreDistinct}

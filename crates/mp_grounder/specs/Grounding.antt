@@ -14,7 +14,7 @@ use Rattle.mp_joint.specs.FactorContribution.{instance_of_schema}
 use Rattle.mp_joint.specs.Grounded.{Setting, suits_start, needed, added, deleted}
 use Rattle.mp_joint.specs.Instance.{Instance}
 use Rattle.mp_lifted.specs.declared.lifted.LiftedFactor.{LiftedFactor}
-use Rattle.mp_atoms.specs.Binding.{ActionBinding}
+use Rattle.mp_lifted.specs.Binding.{ActionBinding}
 use Rattle.mp_ground_facts.specs.Touched as numbered
 use Rattle.mp_grounder.specs.Named.{step_of, signed_fact}
 

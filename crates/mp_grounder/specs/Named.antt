@@ -3,7 +3,7 @@ use Rattle.std.specs.Prelude.{ℕ, ◌≡◌, ◌<◌, not, List, map, length, A
 use Rattle.mp_factor.specs.declared.factor.Factor.{Factor}
 use Rattle.mp_factor.specs.declared.typed_values.Typed.{Typed}
 use Rattle.mp_factor.specs.declared.schema_values.Schema.{Schema}
-use Rattle.mp_names.specs.Numbers.{name_at}
+use Rattle.mp_sexp.specs.Numbers.{name_at}
 use Rattle.mp_joint.specs.declared.fact.NamedFact.{NamedFact}
 use Rattle.mp_joint.specs.declared.fact.SignedFact.{SignedFact}
 use Rattle.mp_joint.specs.declared.plan.PlanStep.{PlanStep}
@@ -16,8 +16,8 @@ use Rattle.mp_lifted.specs.Factors.{lifted_factor}
 use Rattle.mp_lifted.specs.Lifting.{lifted_action}
 use Rattle.mp_lifted.specs.Views.{is_changed}
 use Rattle.mp_lifted.specs.Vocabulary.{vocabulary_of}
-use Rattle.mp_atoms.specs.Binding.{ActionBinding}
-use Rattle.mp_atoms.specs.Start.{is_private}
+use Rattle.mp_lifted.specs.Binding.{ActionBinding}
+use Rattle.mp_lifted.specs.Start.{is_private}
 use Rattle.mp_ground_facts.specs.declared.fact.GroundFact.{GroundFact}
 use Rattle.mp_ground_facts.specs.Facts.{atom_of}
 

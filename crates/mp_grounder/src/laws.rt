@@ -8,7 +8,7 @@ ghost use Rattle.mp_joint.specs.FactorContribution.{factor_contribution, instanc
 ghost use Rattle.mp_joint.specs.Grounded.{needed, added, deleted};
 ghost use Rattle.mp_joint.specs.Instance.{holds};
 ghost use Rattle.mp_lifted.specs.Views.{setting_of};
-ghost use Rattle.mp_atoms.specs.Start.{is_true_at_start};
+ghost use Rattle.mp_lifted.specs.Start.{is_true_at_start};
 ghost use Rattle.mp_ground_facts.specs.declared.fact.GroundFact.{GroundFact};
 ghost use Rattle.mp_ground_facts.specs.Facts.{atom_of, fact_cmp, is_initial};
 ghost use Rattle.mp_ground_facts.specs.Touched.{needed as needed_in_numbers, added as added_in_numbers, deleted as deleted_in_numbers, goal_facts, counted};

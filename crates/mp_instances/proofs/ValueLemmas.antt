@@ -6,9 +6,9 @@ use Rattle.std.specs.Option.{is_some, option_or, option_map}
 use Rattle.std.proofs.lemmas.List.Folds.{find-append}
 use Rattle.mp_lifted.specs.declared.lifted.GroundAtom.{GroundAtom}
 use Rattle.mp_lifted.specs.declared.lifted.GroundValue.{GroundValue}
-use Rattle.mp_atoms.specs.Atoms.{same_atom}
-use Rattle.mp_atoms.specs.Held.{fact_of}
-use Rattle.mp_atoms.proofs.Keeping.{equal}
+use Rattle.mp_lifted.specs.Atoms.{same_atom}
+use Rattle.mp_lifted.specs.Held.{fact_of}
+use Rattle.mp_lifted.proofs.Keeping.{equal}
 use Rattle.mp_instances.specs.Costs.{value_of}
 use Rattle.mp_instances.specs.Tables.{HasValues}
 

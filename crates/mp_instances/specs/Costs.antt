@@ -7,7 +7,7 @@ use Rattle.mp_lifted.specs.declared.lifted.GroundAtom.{GroundAtom}
 use Rattle.mp_lifted.specs.declared.lifted.GroundValue.{GroundValue}
 use Rattle.mp_lifted.specs.declared.lifted.LiftedAction.{LiftedAction}
 use Rattle.mp_lifted.specs.declared.lifted.LiftedFactor.{LiftedFactor}
-use Rattle.mp_atoms.specs.Atoms.{atom_at, same_atom}
+use Rattle.mp_lifted.specs.Atoms.{atom_at, same_atom}
 
 -- the value of a function at objects: none where it has none
 abbrev pub value_of : List GroundValue → GroundAtom → Option ℕ

@@ -4,8 +4,8 @@ use Rattle.std.specs.Borrow.{Bor}
 use Rattle.std.specs.Map.{lookup}
 use Rattle.mp_lifted.specs.declared.lifted.GroundAtom.{GroundAtom}
 use Rattle.mp_lifted.specs.declared.lifted.GroundValue.{GroundValue}
-use Rattle.mp_atoms.specs.Atoms.{same_atom}
-use Rattle.mp_atoms.specs.Held.{fact_of}
+use Rattle.mp_lifted.specs.Atoms.{same_atom}
+use Rattle.mp_lifted.specs.Held.{fact_of}
 use Rattle.mp_instances.specs.Costs.{value_of}
 
 -- each function with a value is kept with the first one, and no other

@@ -4,8 +4,7 @@ ghost use Rattle.std.specs.Prelude.{◌≡◌, IfOk};
 ghost use Rattle.mp_instances.specs.Costs.{amount_at as amount_of, cost_at as cost_of};
 
 use crate::values::FunctionValues;
-use mp_atoms::add_objects;
-use mp_lifted::Amount;
+use mp_lifted::{Amount, add_objects};
 use mp_list::{OutOfMemory, does_not_fit};
 use std::alloc::Global;
 

@@ -6,7 +6,7 @@ use Rattle.std.proofs.lemmas.List.{append-nil, map-append}
 use Rattle.std.proofs.lemmas.List.Elements.{filter-append}
 use Rattle.std.proofs.lemmas.Slice.Eq.{bytes_eq-Decides}
 use Rattle.mp_factor.specs.declared.typed_values.Typed.{Typed}
-use Rattle.mp_names.specs.Numbers.{is_named}
+use Rattle.mp_sexp.specs.Numbers.{is_named}
 use Rattle.mp_typing.specs.ObjectList.{others, first_declared}
 use Rattle.mp_joint.specs.Fact.{Text}
 use Rattle.mp_lifted.specs.Vocabulary.{declared_names}

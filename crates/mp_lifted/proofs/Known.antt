@@ -5,8 +5,8 @@ use Rattle.std.specs.List.{list_all}
 use Rattle.std.specs.Option.{is_some, option_map_or}
 use Rattle.std.proofs.lemmas.List.{append-nil, drop_more}
 use Rattle.std.proofs.lemmas.Option.{cond_some}
-use Rattle.mp_names.specs.Numbers.{place_in, number_in}
-use Rattle.mp_names.proofs.Places.{has_place}
+use Rattle.mp_sexp.specs.Numbers.{place_in, number_in}
+use Rattle.mp_sexp.proofs.Places.{has_place}
 use Rattle.mp_joint.specs.Fact.{Text, is_listed}
 use Rattle.mp_lifted.specs.declared.lifted.GroundAtom.{GroundAtom}
 use Rattle.mp_lifted.specs.declared.vocabulary.Vocabulary.{Vocabulary}

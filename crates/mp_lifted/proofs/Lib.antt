@@ -13,3 +13,7 @@ pub mod Words
 pub mod Parts
 -- a factor in numbers, put together from its parts
 pub mod Assembled
+-- facts that are kept, one by one
+pub mod Keeping
+-- flat bindings, with one more, and one at a place
+pub mod FlatLemmas

@@ -5,8 +5,8 @@ ghost use Rattle.mp_joint.specs.Grounding.{asked_atoms, negated_atoms};
 ghost use Rattle.mp_lifted.specs.Lifting.{lifted_amount as amount_of, amounts_of, lifted_atom as atom_of, lifted_where as atoms_where, lifted_action as action_of};
 ghost use Rattle.mp_lifted.specs.Views.{is_of};
 
-use crate::atoms::{has_sign, lifted_amount, lifted_with};
 use crate::lifted::{Amount, LiftedAction, LiftedAtom};
+use crate::lifted_atoms::{has_sign, lifted_amount, lifted_with};
 use crate::members::all_members;
 use crate::shown::Shown;
 use crate::vocabulary::Vocabulary;

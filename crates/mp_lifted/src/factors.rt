@@ -9,8 +9,8 @@ ghost use Rattle.mp_lifted.specs.Factors.{ground_atom as atom_of, ground_value a
 ghost use Rattle.mp_lifted.specs.Views.{is_of};
 
 use crate::actions::lifted_action;
-use crate::atoms::{ground_with, has_sign, is_total_cost};
 use crate::lifted::{GroundAtom, GroundValue, LiftedAction, LiftedFactor};
+use crate::lifted_atoms::{ground_with, has_sign, is_total_cost};
 use crate::shown::{Shown, changed, negated};
 use crate::texts::known_atoms;
 use crate::view::OpenView;
@@ -19,8 +19,7 @@ use mp_factor::{
     AtomList, Factor, LiteralList, Problem, SchemaList, SignatureList, TypedList, ValueList,
 };
 use mp_list::{List, OutOfMemory};
-use mp_names::NameTable;
-use mp_sexp::Name;
+use mp_sexp::{Name, NameTable};
 use mp_typing::CheckedFactor;
 use std::alloc::Global;
 

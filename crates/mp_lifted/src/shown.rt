@@ -9,8 +9,7 @@ ghost use Rattle.mp_lifted.specs.Views.{predicates_of, changed_predicates, negat
 use crate::view::OpenView;
 use mp_factor::{AtomList, Factor, LiteralList, SchemaList, SignatureList};
 use mp_list::OutOfMemory;
-use mp_names::NameTable;
-use mp_sexp::{Name, NameList};
+use mp_sexp::{Name, NameList, NameTable};
 use std::alloc::Global;
 
 /// The predicates of which something is so: the private ones, those that the own factor says, and those that agents

@@ -3,14 +3,14 @@
 ghost use Rattle.std.specs.Prelude.{◌≡◌, ◌<◌, ◌==◌, ◌∷◌, [], true, false, Some, None, length, map, MatchOption, IfOk, IfNone, IfSome, if◌then◌else◌};
 ghost use Rattle.std.specs.List.{list_all, position, slice_split};
 ghost use Rattle.mp_joint.specs.Fact.{is_listed};
-ghost use Rattle.mp_names.specs.Numbers.{number_in};
+ghost use Rattle.mp_sexp.specs.Numbers.{number_in};
 ghost use Rattle.mp_lifted.specs.Factors.{between_brackets as between, has_brackets, can_be_named, named_atom as atom_named, known_atom, known_atoms as atoms_known};
 
 use crate::lifted::GroundAtom;
 use crate::view::FactTexts;
 use crate::vocabulary::Vocabulary;
 use mp_list::{List, OutOfMemory, to_u32};
-use mp_names::NameTable;
+use mp_sexp::NameTable;
 use std::alloc::Global;
 
 /// What stands between the brackets of a text: none where it has no brackets.

@@ -6,7 +6,7 @@ ghost use Rattle.mp_lifted.specs.Vocabulary.{declared_names, vocabulary_of};
 
 use mp_factor::{Factor, SignatureList, Typed, TypedList};
 use mp_list::OutOfMemory;
-use mp_names::NameTable;
+use mp_sexp::NameTable;
 use std::alloc::Global;
 
 /// The names of a factor's objects in object order, and of its predicates and functions as they are declared. Their

@@ -2,7 +2,7 @@
 use Rattle.std.proofs.Common.{◌≡◌, ℕ, zero, suc, ◌+◌, List, [], ◌∷◌, map, Some, None, refl, arith}
 use Rattle.std.specs.Prelude.{slice_get}
 use Rattle.mp_factor.specs.declared.factor.Factor.{Factor}
-use Rattle.mp_atoms.specs.Binding.{ActionBinding}
+use Rattle.mp_lifted.specs.Binding.{ActionBinding}
 use Rattle.mp_grounder.specs.Named.{step_of}
 use Rattle.mp_text.specs.Outcome.{names_at}
 use Rattle.mp_outcome.specs.Names.{names_from}

@@ -5,9 +5,9 @@ ghost use Rattle.mp_grounder.specs.Named.{step_of};
 ghost use Rattle.mp_outcome.specs.Renumbered.{IsRenumbered};
 ghost use Rattle.mp_trail.specs.declared.steps.Timed.{Timed as TimedOf};
 
-use mp_atoms::ActionBindingList;
 use mp_ground::step_name;
 use mp_joint::Names;
+use mp_lifted::ActionBindingList;
 use mp_list::{List, OutOfMemory, to_u32};
 use mp_sets::Agent;
 use mp_trail::{Share, Timed};

@@ -8,8 +8,8 @@ ghost use Rattle.mp_outcome.specs.Names.{names_of};
 ghost use Rattle.mp_outcome.specs.Renumbered.{AreRenumbered};
 
 use crate::named::{Named, named_share};
-use mp_atoms::ActionBindingList;
 use mp_joint::Names;
+use mp_lifted::ActionBindingList;
 use mp_list::{List, OutOfMemory};
 use mp_messages::{Bytes, Log};
 use mp_sets::Agent;

@@ -10,11 +10,11 @@ ghost use Rattle.mp_world.specs.RoundRobin.{is_over};
 
 use crate::report::push_report;
 use crate::trace::traced;
-use mp_atoms::ActionBindingList;
 use mp_counted::{Count, Counted, counted_machines};
 use mp_ground::GroundRefusal;
 use mp_grounder::laws::checked_factors_are_checked;
 use mp_hmax::Hmax;
+use mp_lifted::ActionBindingList;
 use mp_list::OutOfMemory;
 use mp_lmcut::Cut;
 use mp_outside::Sink;

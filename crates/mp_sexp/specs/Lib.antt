@@ -7,3 +7,5 @@ pub mod Node
 pub mod Part
 pub mod Reading
 pub mod Spelling
+pub mod Numbers
+pub mod Tables

@@ -10,7 +10,7 @@ ghost use Rattle.mp_text.specs.Outcome.{outcome_text};
 ghost use Rattle.mp_world.specs.Answers.{answer_of, outcome_of};
 ghost use Rattle.mp_world.specs.World.{World as WorldOf};
 
-use mp_atoms::ActionBindingList;
+use mp_lifted::ActionBindingList;
 use mp_list::{List, OutOfMemory};
 use mp_machine::Machine;
 use mp_messages::{Bytes, Log, Views};

@@ -9,8 +9,8 @@ use Rattle.std.proofs.lemmas.Cmp.{tied_itself}
 use Rattle.std.specs.Str.{bytes_eq}
 use Rattle.std.proofs.lemmas.Bool.{false≢true}
 use Rattle.std.proofs.lemmas.Map.Keys.{sorted_head, sorted_tail}
-use Rattle.mp_names.specs.Numbers.{number_in}
-use Rattle.mp_names.proofs.Places.{equal, swapped}
+use Rattle.mp_sexp.specs.Numbers.{number_in}
+use Rattle.mp_sexp.proofs.Places.{equal, swapped}
 use Rattle.mp_typing.specs.Places.{numbers_where}
 use Rattle.mp_joint.specs.Fact.{Text, is_listed}
 use Rattle.mp_ground.specs.Places.{text_places_in}

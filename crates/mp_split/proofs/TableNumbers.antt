@@ -7,9 +7,9 @@ use Rattle.std.specs.Option.{is_some, option_map_or}
 use Rattle.std.proofs.lemmas.List.Folds.{list_any-append}
 use Rattle.std.specs.Str.{bytes_eq}
 use Rattle.std.proofs.lemmas.Map.Keys.{sorted_from_strictly_increasing, IsStrictlyIncreasing-from_sorted}
-use Rattle.mp_names.specs.Numbers.{is_named, number_in}
-use Rattle.mp_names.proofs.NamesAt.{number_below}
-use Rattle.mp_names.proofs.Places.{has_place}
+use Rattle.mp_sexp.specs.Numbers.{is_named, number_in}
+use Rattle.mp_sexp.proofs.NamesAt.{number_below}
+use Rattle.mp_sexp.proofs.Places.{has_place}
 use Rattle.mp_typing.specs.Places.{numbers_where}
 use Rattle.mp_joint.specs.Fact.{Text, is_listed}
 use Rattle.mp_ground.specs.Places.{text_places_in}

@@ -14,9 +14,8 @@ ghost use Rattle.mp_split.specs.Common.{PartFits, far_in, parts_in, common_of as
 use crate::numbers::{marked, names_of, numbers_of};
 use mp_lifted::FactTexts;
 use mp_list::{Copied, List, OutOfMemory};
-use mp_names::NameTable;
 use mp_sets::{Agent, FactList};
-use mp_sexp::Name;
+use mp_sexp::{Name, NameTable};
 use mp_task::{Far, FarList, Flags};
 use mp_views::{Part, View, sorted_once};
 use std::alloc::Global;

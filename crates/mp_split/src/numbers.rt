@@ -4,16 +4,15 @@ ghost use Rattle.std.specs.Prelude.{◌≡◌, ◌++◌, ◌≤◌, ◌<◌, ◌
 ghost use Rattle.std.specs.Cmp.Lexicographic.{slice_cmp};
 ghost use Rattle.std.specs.List.Sorted.{IsStrictlyIncreasing, IsStrictlySortedBy};
 ghost use Rattle.std.specs.Ordering.{nat_cmp};
-ghost use Rattle.mp_names.specs.Numbers.{number_in};
+ghost use Rattle.mp_sexp.specs.Numbers.{number_in};
 ghost use Rattle.mp_task.specs.Limits.{AllLess};
 ghost use Rattle.mp_typing.specs.Places.{numbers_where};
 ghost use Rattle.mp_ground.specs.Places.{text_places_in};
 ghost use Rattle.mp_split.specs.Common.{AreOf};
 
 use mp_list::OutOfMemory;
-use mp_names::NameTable;
 use mp_sets::FactList;
-use mp_sexp::Name;
+use mp_sexp::{Name, NameTable};
 use std::alloc::Global;
 
 /// Texts as a table.

@@ -1,6 +1,6 @@
 //! The tasks of a team.
 
-use mp_atoms::ActionBindingList;
+use mp_lifted::ActionBindingList;
 use mp_list::List;
 use mp_messages::Bytes;
 use mp_task::TaskList;

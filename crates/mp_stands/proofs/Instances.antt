@@ -13,8 +13,8 @@ use Rattle.mp_lifted.specs.Lifting.{members_of, lifted_where, is_not}
 use Rattle.mp_lifted.specs.Views.{is_changed}
 use Rattle.mp_lifted.specs.Vocabulary.{vocabulary_of}
 use Rattle.mp_bindings.specs.Bindings.{product}
-use Rattle.mp_atoms.specs.Atoms.{atom_at, atoms_at}
-use Rattle.mp_atoms.specs.Start.{is_true_at_start}
+use Rattle.mp_lifted.specs.Atoms.{atom_at, atoms_at}
+use Rattle.mp_lifted.specs.Start.{is_true_at_start}
 use Rattle.mp_instances.specs.Instances.{is_known, suits, binding_of, instances_of, instances}
 use Rattle.mp_grounder.specs.Checked.{IsChecked}
 use Rattle.mp_grounder.specs.Named.{numbered_action, IsBinding, IsInRange}

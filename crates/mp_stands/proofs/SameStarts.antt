@@ -7,7 +7,7 @@ use Rattle.std.proofs.lemmas.List.Elements.{All-head, All-tail}
 use Rattle.std.proofs.lemmas.Option.{slice_get-get_or}
 use Rattle.std.specs.List.{list_any}
 use Rattle.mp_factor.specs.declared.factor.Factor.{Factor}
-use Rattle.mp_names.specs.Numbers.{name_at}
+use Rattle.mp_sexp.specs.Numbers.{name_at}
 use Rattle.mp_joint.specs.Fact.{Text, is_listed}
 use Rattle.mp_joint.specs.FactorContribution.{privates_of}
 use Rattle.mp_lifted.specs.declared.lifted.GroundAtom.{GroundAtom}
@@ -16,8 +16,8 @@ use Rattle.mp_lifted.specs.declared.view.OpenView.{OpenView}
 use Rattle.mp_lifted.specs.Factors.{lifted_factor}
 use Rattle.mp_lifted.specs.Texts.{bracketed, fact_text}
 use Rattle.mp_lifted.specs.Vocabulary.{vocabulary_of}
-use Rattle.mp_atoms.specs.Atoms.{is_among}
-use Rattle.mp_atoms.specs.Start.{is_so, is_private, is_true_at_start}
+use Rattle.mp_lifted.specs.Atoms.{is_among}
+use Rattle.mp_lifted.specs.Start.{is_so, is_private, is_true_at_start}
 use Rattle.mp_grounder.specs.Checked.{IsChecked}
 use Rattle.mp_grounder.specs.Named.{named_fact, named_objects, IsObject, IsInRange}
 use Rattle.mp_grounder.proofs.Parts.{parts_of}

@@ -7,7 +7,7 @@ use Rattle.std.specs.Option.{option_map}
 use Rattle.mp_factor.specs.declared.factor.Factor.{Factor}
 use Rattle.mp_joint.specs.declared.plan.PlanStep.{PlanStep}
 use Rattle.mp_lifted.specs.declared.view.OpenView.{OpenView}
-use Rattle.mp_atoms.specs.Binding.{ActionBinding}
+use Rattle.mp_lifted.specs.Binding.{ActionBinding}
 use Rattle.mp_views.specs.Lines.{view_text}
 use Rattle.mp_views.specs.Opened.{joined, open_view}
 use Rattle.mp_grounder.specs.Checked.{IsChecked}

@@ -5,7 +5,7 @@ use Rattle.mp_factor.specs.declared.factor.Factor.{Factor}
 use Rattle.mp_lifted.specs.declared.view.OpenView.{OpenView}
 use Rattle.mp_lifted.specs.Factors.{lifted_factor}
 use Rattle.mp_lifted.specs.Texts.{signed_text}
-use Rattle.mp_atoms.specs.Start.{is_private}
+use Rattle.mp_lifted.specs.Start.{is_private}
 use Rattle.mp_ground_facts.specs.declared.fact.GroundFact.{GroundFact}
 use Rattle.mp_ground_facts.specs.Facts.{atom_of, is_initial}
 use Rattle.mp_grounder.specs.Checked.{IsChecked}

@@ -2,7 +2,7 @@
 use Rattle.std.specs.Prelude.{◌≡◌, ◌≢◌, ℕ, ◌+◌, ◌==◌, List, map, length, Some, slice_get, if◌then◌else◌}
 use Rattle.mp_factor.specs.declared.factor.Factor.{Factor}
 use Rattle.mp_joint.specs.declared.plan.PlanStep.{PlanStep}
-use Rattle.mp_atoms.specs.Binding.{ActionBinding}
+use Rattle.mp_lifted.specs.Binding.{ActionBinding}
 use Rattle.mp_grounder.specs.Named.{step_of}
 use Rattle.mp_stands.specs.Renaming.{Renaming, IsRenaming, IsRenamed}
 

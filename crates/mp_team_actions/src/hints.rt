@@ -2,11 +2,10 @@
 
 use crate::lacking::{tell_unmet, tell_unpriced};
 use crate::objects::object_names;
-use mp_atoms::StartFacts;
 use mp_factor::{Factor, Schema};
-use mp_lifted::{LiftedAction, LiftedFactor, OpenView, lift};
+use mp_lifted::{LiftedAction, LiftedFactor, OpenView, StartFacts, lift};
 use mp_list::OutOfMemory;
-use mp_names::NameTable;
+use mp_sexp::NameTable;
 use mp_team_bindings::{
     Counts, Priced, Scratch, Tests, cause_of, count_bindings, empty_scratch, priced_by,
 };

@@ -5,7 +5,7 @@ use mp_factor::{Increase, Schema};
 use mp_hint_lines::{begin_hint, push_atom};
 use mp_hints::text_of;
 use mp_list::OutOfMemory;
-use mp_names::NameTable;
+use mp_sexp::NameTable;
 use mp_team_bindings::{Cause, Counts};
 
 /// Tells that an action has no instances, and why.

@@ -3,7 +3,7 @@
 use mp_factor::{Factor, Typed};
 use mp_hints::text_of;
 use mp_list::OutOfMemory;
-use mp_names::NameTable;
+use mp_sexp::NameTable;
 use std::alloc::Global;
 
 /// Adds the names of objects that are not there yet.

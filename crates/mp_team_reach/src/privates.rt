@@ -1,8 +1,7 @@
 //! The private goals of an agent by their numbers.
 
-use mp_atoms::is_private;
 use mp_factor::Literal;
-use mp_lifted::{GroundAtom, LiftedFactor};
+use mp_lifted::{GroundAtom, LiftedFactor, is_private};
 use mp_list::OutOfMemory;
 use std::alloc::Global;
 use std::collections::BTreeSet;

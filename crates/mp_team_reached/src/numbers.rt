@@ -2,8 +2,7 @@
 
 use mp_ground::Ground;
 use mp_list::{OutOfMemory, to_u32};
-use mp_names::NameTable;
-use mp_sexp::Name;
+use mp_sexp::{Name, NameTable};
 use std::alloc::Global;
 
 /// The number of each of some texts in a table of all.

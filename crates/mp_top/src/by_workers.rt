@@ -17,10 +17,10 @@ ghost use Rattle.mp_world.specs.World.{World};
 
 use crate::decision::Search;
 use crate::finding::{Workers, in_turn};
-use mp_atoms::ActionBindingList;
 use mp_ground::GroundRefusal;
 use mp_grounder::laws::checked_factors_are_checked;
 use mp_hmax::Hmax;
+use mp_lifted::ActionBindingList;
 use mp_list::OutOfMemory;
 use mp_lmcut::Cut;
 use mp_machine::Machine;

@@ -16,8 +16,7 @@ use crate::spelling::atom_text;
 use mp_factor::{Atom, AtomList, Factor, LiteralList, Schema, SchemaList};
 use mp_lifted::{FactTexts, OpenView};
 use mp_list::{Copied, List, OutOfMemory};
-use mp_names::NameTable;
-use mp_sexp::{Name, NameList};
+use mp_sexp::{Name, NameList, NameTable};
 use mp_typing::CheckedFactor;
 use std::alloc::Global;
 

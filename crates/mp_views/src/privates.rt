@@ -10,7 +10,7 @@ ghost use Rattle.std.specs.List.{list_any};
 use crate::spelling::term_name;
 use mp_factor::{Atom, Factor, SignatureList, Term, TypedList};
 use mp_list::OutOfMemory;
-use mp_names::NameTable;
+use mp_sexp::NameTable;
 use std::alloc::Global;
 
 /// The predicates and objects that a factor keeps to itself.

@@ -12,7 +12,7 @@ use Rattle.mp_factor.specs.declared.literal.Literal.{Literal}
 use Rattle.mp_factor.specs.declared.effect_values.Increase.{Increase}
 use Rattle.mp_factor.specs.declared.effect_values.Increase.TheVariants as increases
 use Rattle.mp_factor.specs.declared.factor.Factor.{Factor}
-use Rattle.mp_names.specs.Numbers.{number_in}
+use Rattle.mp_sexp.specs.Numbers.{number_in}
 use Rattle.mp_typing.specs.Uses.{is_declared}
 use Rattle.mp_joint.specs.Fact.{Text}
 use Rattle.mp_joint.specs.Grounding.{asked_atoms, negated_atoms, object_of}

@@ -8,7 +8,7 @@ use Rattle.std.proofs.lemmas.List.{length-map}
 use Rattle.std.proofs.lemmas.List.Elements.{All-nil, All-cons}
 use Rattle.std.proofs.lemmas.Slice.Eq.{bytes_eq-Decides}
 use Rattle.mp_list.proofs.Bools.{same_tests}
-use Rattle.mp_names.specs.Numbers.{number_in, place_in}
+use Rattle.mp_sexp.specs.Numbers.{number_in, place_in}
 use Rattle.mp_joint.specs.Fact.{Text, is_listed}
 use Rattle.mp_stands.specs.Renaming.{IsOneToOne}
 use Rattle.mp_stands.proofs.Naming.Lists.{any_of_map, map_of_map, position_of_map}

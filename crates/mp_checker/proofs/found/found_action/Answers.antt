@@ -5,7 +5,7 @@ use Rattle.mp_factor.specs.FactorParts.{DomainParts}
 use Rattle.mp_factor.specs.Limits.{SchemaFits}
 use Rattle.mp_factor.specs.declared.schema_values.Schema.{Schema}
 use Rattle.mp_factor.specs.declared.factor.Factor.{Factor}
-use Rattle.mp_names.specs.Numbers.{place_in}
+use Rattle.mp_sexp.specs.Numbers.{place_in}
 use Rattle.mp_checker.specs.AgentView.{AgentView, names_of, factor_of}
 use Rattle.mp_checker.specs.Words.{names_of_schema}
 use Rattle.mp_checker.proofs.CoversLemmas.{covers_at}

@@ -1,5 +1,5 @@
 use Rattle.std.proofs.Common.{◌≡◌, map, take}
-use Rattle.mp_names.specs.Numbers.{number_in}
+use Rattle.mp_sexp.specs.Numbers.{number_in}
 use Rattle.mp_ground.proofs.texts.numbers_in.Given as goal
 
 abbrev pub invariant-loop-name : goal.invariant-loop-name

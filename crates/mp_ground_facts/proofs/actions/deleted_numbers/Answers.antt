@@ -1,6 +1,6 @@
 use Rattle.std.proofs.Common.{◌≡◌, map, filter, [], ◌++◌, sym, ◌∙◌}
 use Rattle.std.proofs.lemmas.List.{map-append}
-use Rattle.mp_atoms.specs.Atoms.{atoms_at}
+use Rattle.mp_lifted.specs.Atoms.{atoms_at}
 use Rattle.mp_ground_facts.specs.Touched.{with_complements}
 use Rattle.mp_ground_facts.specs.Facts.{complement, has_complement, plain}
 use Rattle.mp_ground_facts.specs.Ground.{number_of, numbers_of}

@@ -1,6 +1,6 @@
 use Rattle.std.proofs.Common.{ℕ, ◌+◌, ◌&&◌, not, filter, map, List, [], ◌∷◌, ◌++◌, drop, refl, ap, ◌∙◌}
 use Rattle.std.proofs.lemmas.List.{map-append}
-use Rattle.mp_atoms.specs.Atoms.{atom_at, atoms_at, is_among}
+use Rattle.mp_lifted.specs.Atoms.{atom_at, atoms_at, is_among}
 use Rattle.mp_lifted.specs.declared.lifted.GroundAtom.{GroundAtom}
 use Rattle.mp_lifted.specs.declared.lifted.LiftedAtom.{LiftedAtom}
 use Rattle.mp_ground_facts.specs.Facts.{complement, has_complement}

@@ -1,5 +1,5 @@
 use Rattle.std.proofs.Common.{◌≡◌, ◌++◌, map, drop}
-use Rattle.mp_atoms.specs.Atoms.{atoms_at}
+use Rattle.mp_lifted.specs.Atoms.{atoms_at}
 use Rattle.mp_ground_facts.specs.Facts.{complement}
 use Rattle.mp_ground_facts.specs.Touched.{with_complements}
 use Rattle.mp_ground_facts.specs.Ground.{numbers_of}

@@ -1,5 +1,5 @@
 use Rattle.std.proofs.Common.{ℕ, ◌+◌, map, List, ◌++◌, drop, refl, ap, ◌∙◌}
-use Rattle.mp_atoms.specs.Atoms.{atoms_at}
+use Rattle.mp_lifted.specs.Atoms.{atoms_at}
 use Rattle.mp_lifted.specs.declared.lifted.LiftedAtom.{LiftedAtom}
 use Rattle.mp_ground_facts.specs.Facts.{fact_of}
 use Rattle.mp_ground_facts.specs.Ground.{numbers_of}

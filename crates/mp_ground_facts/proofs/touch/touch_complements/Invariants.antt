@@ -1,6 +1,6 @@
 use Rattle.std.proofs.Common.{◌≡◌, map, drop}
 use Rattle.indexmap.specs.IndexSet.{insert_all}
-use Rattle.mp_atoms.specs.Atoms.{atoms_at}
+use Rattle.mp_lifted.specs.Atoms.{atoms_at}
 use Rattle.mp_ground_facts.specs.Facts.{complement, same_fact}
 use Rattle.mp_ground_facts.specs.Touched.{with_complements}
 use Rattle.mp_ground_facts.proofs.touch.touch_complements.Given as goal

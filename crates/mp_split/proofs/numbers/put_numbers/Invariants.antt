@@ -1,5 +1,5 @@
 use Rattle.std.proofs.Common.{◌≡◌, map, take}
-use Rattle.mp_names.specs.Numbers.{number_in}
+use Rattle.mp_sexp.specs.Numbers.{number_in}
 use Rattle.mp_split.proofs.numbers.put_numbers.Given as goal
 
 abbrev pub invariant-loop-text : goal.invariant-loop-text

@@ -1,5 +1,0 @@
-use Rattle.std.proofs.Common.{length}
-use Rattle.mp_atoms.proofs.atoms.+are_same_at.Given as goal
-
-abbrev pub decreases-are_same_at : goal.decreases-are_same_at
-decreases-are_same_at l = length l.terms.now

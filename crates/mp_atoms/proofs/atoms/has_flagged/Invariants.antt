@@ -1,7 +1,0 @@
-use Rattle.std.proofs.Common.{◌≡◌, drop}
-use Rattle.std.specs.List.{list_any}
-use Rattle.mp_atoms.specs.Start.{is_so}
-use Rattle.mp_atoms.proofs.atoms.has_flagged.Given as goal
-
-abbrev pub invariant-loop-object : goal.invariant-loop-object
-invariant-loop-object l = list_any (is_so l.flags) (drop l.object-index l.objects) ≡ list_any (is_so l.flags) l.objects

@@ -1,7 +1,0 @@
-use Rattle.std.proofs.Common.{◌≡◌, map, take}
-use Rattle.mp_factor.specs.Limits.{name_of_term}
-use Rattle.mp_names.specs.Numbers.{number_in}
-use Rattle.mp_lifted.proofs.atoms.ground_with.Given as goal
-
-abbrev pub invariant-loop-term : goal.invariant-loop-term
-invariant-loop-term l = l.args ≡ map (number_in l.vocabulary.objects) (map name_of_term (take l.term-index l.atom.terms))

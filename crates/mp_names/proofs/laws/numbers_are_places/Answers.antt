@@ -1,8 +1,0 @@
-use Rattle.mp_names.proofs.NamesAt.{name_at_number, number_below}
-use Rattle.mp_names.proofs.laws.numbers_are_places.Goals as goal
-
-pub returns-clause-place : goal.returns-clause-place
-returns-clause-place c = name_at_number
-
-pub returns-clause-below : goal.returns-clause-below
-returns-clause-below c = number_below

@@ -1,9 +1,0 @@
-use Rattle.std.proofs.Common.{◌∙◌, ap}
-use Rattle.mp_names.specs.Numbers.{is_named}
-use Rattle.mp_names.proofs.Places.{looked_for}
-use Rattle.mp_names.proofs.table.NameTable.contains.Goals as goal
-
-pub returns : goal.returns
-returns c =
-    c.contains_key.ensures ∙ looked_for (λ k. k.now) _ _ c.self.invariant c.as_slice.result.now
-    ∙ ap (is_named _) c.as_slice.ensures.bytes ∙ ap (λ names. is_named names c.args.name.now) c.self.view_is
