@@ -3,7 +3,7 @@ use Rattle.std.proofs.Common.{◌≡◌, ◌≢◌, ℕ, suc, Bool, true, false,
 use Rattle.std.specs.Prelude.{◌==◌, if◌then◌else◌, is_some, slice_get}
 use Rattle.std.specs.List.{filter_map}
 use Rattle.std.specs.Option.{option_map_or}
-use Rattle.std.proofs.lemmas.Bool.{eq-eqb, eqb-false, eqb-true, false_from_ne_true}
+use Rattle.std.proofs.lemmas.Bool.{eq-eqb, eqb-false, eqb-true}
 use Rattle.std.proofs.lemmas.List.Elements.{filter_map-append}
 use Rattle.std.proofs.lemmas.Option.{same_Some}
 use Rattle.mp_sets.specs.Numbers.{Numbers}
@@ -31,10 +31,10 @@ same_length [] (y ∷ ys) same = let e = same 0 in absurd (let impossible : ⊥ 
 same_length (x ∷ xs) [] same = let e = same 0 in absurd (let impossible : ⊥ = cc in impossible)
 same_length (x ∷ xs) (y ∷ ys) same = ap suc (same_length xs ys (λ k. same (suc k)))
 
-markers_part : IsPart marker_of
+pub markers_part : IsPart marker_of
 markers_part = record { state = λ s. refl; pick = λ n. refl; trace = λ sent back. refl; length = λ n. refl }
 
-reports_part : IsPart report_of
+pub reports_part : IsPart report_of
 reports_part = record { state = λ s. refl; pick = λ n. refl; trace = λ sent back. refl; length = λ n. refl }
 
 module _ (value : AgentTask → Numbers → Numbers → Option ℕ) (publics : ℕ) (tasks : List AgentTask) (team : IsTeamOf publics tasks) (w : World)
@@ -119,13 +119,23 @@ module _ (value : AgentTask → Numbers → Numbers → Option ℕ) (publics : �
           by true = sent_read part is_part (length tasks) publics team.facts j step.step.out fits.fits
           by false = refl
 
-      pub from_others : (i j : ℕ) → IsOf (length tasks) i → IsOf (length tasks) j → i ≢ agent_of event
+      -- where none of these goes out, those are under way that were left
+      pub unsent : (i j : ℕ) → IsOf (length tasks) i → IsOf (length tasks) j
+          → (i ≡ agent_of event → filter_map part (messages_to j step.step.out) ≡ [])
           → filter_map part (messages publics next i j) ≡ filter_map part (left i j)
-      from_others i j is_i is_j off =
-          parts_next i j is_i is_j
-          ∙ ap (λ (b : Bool). filter_map part (left i j) ++ (if b then filter_map part (messages_to j step.step.out) else []))
-          (false_from_ne_true (i == agent_of event) (λ same. off (eqb-true i (agent_of event) same)))
-          ∙ append-nil (filter_map part (left i j))
+      unsent i j is_i is_j none = parts_next i j is_i is_j ∙ by (i == agent_of event) refl
+        where
+          by : (b : Bool) → (i == agent_of event) ≡ b
+              → filter_map part (left i j) ++ (if b then filter_map part (messages_to j step.step.out) else [])
+              ≡ filter_map part (left i j)
+          by true test =
+              ap (λ xs. filter_map part (left i j) ++ xs) (none (eqb-true i (agent_of event) test))
+              ∙ append-nil (filter_map part (left i j))
+          by false test = append-nil (filter_map part (left i j))
+
+      from_others : (i j : ℕ) → IsOf (length tasks) i → IsOf (length tasks) j → i ≢ agent_of event
+          → filter_map part (messages publics next i j) ≡ filter_map part (left i j)
+      from_others i j is_i is_j off = unsent i j is_i is_j (λ same. absurd (off same))
 
       pub from_it : (i j : ℕ) → IsOf (length tasks) i → IsOf (length tasks) j → i ≡ agent_of event
           → filter_map part (messages publics next i j) ≡ filter_map part (left i j) ++ filter_map part (messages_to j step.step.out)

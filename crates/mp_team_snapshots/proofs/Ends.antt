@@ -1,8 +1,8 @@
 -- No end is under way from any agent but agent 1.
-use Rattle.std.proofs.Common.{◌≡◌, ◌≢◌, ℕ, Bool, true, false, List, [], ◌∷◌, ◌++◌, length, Option, Some, None, eqb, refl, sym, ap, subst, ◌∙◌, arith, ◌⊎◌, inl, inr}
+use Rattle.std.proofs.Common.{◌≡◌, ◌≢◌, ℕ, Bool, true, false, List, [], ◌∷◌, length, Option, Some, None, refl, sym, ap, subst, ◌∙◌, arith, ◌⊎◌, inl, inr}
 use Rattle.std.specs.Prelude.{◌==◌, Contains, not}
 use Rattle.std.specs.List.{filter_map}
-use Rattle.std.proofs.lemmas.Bool.{eqb-false, eqb-true}
+use Rattle.std.proofs.lemmas.Bool.{eqb-false}
 use Rattle.mp_sets.specs.Numbers.{Numbers}
 use Rattle.mp_task.specs.AgentTask.{AgentTask}
 use Rattle.mp_messages.specs.declared.history.Event.{Event}
@@ -16,7 +16,7 @@ use Rattle.mp_world.specs.World.{IsTeamWorld, World, agent_at, start_world}
 use Rattle.mp_team_snapshots.specs.Messages.{end_of, ends, messages}
 use Rattle.mp_team_snapshots.specs.Snapshots.{AreEndsOfFirst, AreTwo}
 use Rattle.mp_team_snapshots.specs.Team.{IsTeamOf, SendsFitting}
-use Rattle.mp_team_snapshots.proofs.Changes.{from_it, from_others, left, me_before, messages_before, numbers_next}
+use Rattle.mp_team_snapshots.proofs.Changes.{left, me_before, messages_before, numbers_next, unsent}
 use Rattle.mp_team_snapshots.proofs.Effects.{IsTaken, took_effect}
 use Rattle.mp_team_snapshots.proofs.EndsSent.{local_sends}
 use Rattle.mp_team_snapshots.proofs.Kept.{no_messages}
@@ -73,17 +73,10 @@ module _ {X : Type 0} (part : Message → Option X) (is_part : IsPart part) (Bet
   pub none_next : (event : Event) (next : World) (step : IsStepOf value w event next) → SendsFitting step.step
       → ((j : ℕ) → Between (agent_of event) j → filter_map part (messages_to j step.step.out) ≡ [])
       → (i j : ℕ) → IsOf (length tasks) i → IsOf (length tasks) j → Between i j → filter_map part (messages publics next i j) ≡ []
-  none_next event next step fits silent i j is_i is_j off = by (eqb i (agent_of event)) refl
-    where
-      by : (b : Bool) → eqb i (agent_of event) ≡ b → filter_map part (messages publics next i j) ≡ []
-      by false apart =
-          from_others value publics tasks team w is event next step fits part is_part i j is_i is_j (eqb-false i (agent_of event) apart)
-          ∙ left_none event next step i j is_i is_j off
-      by true test =
-          let same = eqb-true i (agent_of event) test in
-          from_it value publics tasks team w is event next step fits part is_part i j is_i is_j same
-          ∙ ap (λ es. es ++ filter_map part (messages_to j step.step.out)) (left_none event next step i j is_i is_j off)
-          ∙ silent j (subst (λ k. Between k j) same off)
+  none_next event next step fits silent i j is_i is_j off =
+      unsent value publics tasks team w is event next step fits part is_part i j is_i is_j
+      (λ here. silent j (subst (λ k. Between k j) here off))
+      ∙ left_none event next step i j is_i is_j off
 
 -- ---- in worlds
 

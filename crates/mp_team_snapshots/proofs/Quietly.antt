@@ -1,6 +1,6 @@
 -- Events by which no snapshot begins and no marker and no report is taken or sent: expansions, and states and messages of a
 -- walk back that are taken.
-use Rattle.std.proofs.Common.{◌≡◌, ℕ, ◌-◌, ◌≤◌, ◌<◌, Bool, true, false, eqb, List, ◌++◌, length, Option, Some, refl, sym, ap, subst, ◌∙◌, append-nil, arith, inr}
+use Rattle.std.proofs.Common.{◌≡◌, ℕ, ◌-◌, ◌≤◌, ◌<◌, Bool, true, false, eqb, List, length, Option, Some, refl, sym, ap, subst, ◌∙◌, arith, inr}
 use Rattle.std.specs.Prelude.{nat_lt, not, if◌then◌else◌}
 use Rattle.std.specs.List.{filter_map}
 use Rattle.std.proofs.lemmas.Bool.{and_parts, eqb-false, eqb-true, false_from_ne_true}
@@ -17,7 +17,7 @@ use Rattle.mp_world.specs.World.{IsTeamWorld, World}
 use Rattle.mp_team_snapshots.specs.Messages.{marker_of, markers, report_of, reports}
 use Rattle.mp_team_snapshots.specs.Snapshots.{AreNotesOf}
 use Rattle.mp_team_snapshots.specs.Team.{IsTeamOf, SendsFitting}
-use Rattle.mp_team_snapshots.proofs.Changes.{left, markers_from_it, markers_from_others, note_after, note_before, note_other, reports_from_it, reports_from_others}
+use Rattle.mp_team_snapshots.proofs.Changes.{left, markers_part, note_after, note_before, note_other, reports_part, unsent}
 use Rattle.mp_team_snapshots.proofs.Counting.{Counts, counted_sound, counts_nothing}
 use Rattle.mp_team_snapshots.proofs.Due.{apart_bools, not_true}
 use Rattle.mp_team_snapshots.proofs.Places.{whole_has}
@@ -81,33 +81,13 @@ module _ (value : AgentTask → Numbers → Numbers → Option ℕ) (publics : �
           counts_nothing (note_at w i) (note_at next i)
           (note_other value publics tasks team w is event next step i (eqb-false i (agent_of event) test))
 
-  markers_same : (i j : ℕ) → IsOf (length tasks) i → IsOf (length tasks) j → markers publics next i j ≡ markers publics w i j
-  markers_same i j is_i is_j = by (eqb i (agent_of event)) refl
-    where
-      by : (b : Bool) → eqb i (agent_of event) ≡ b → markers publics next i j ≡ markers publics w i j
-      by true test =
-          markers_from_it value publics tasks team w is event next step fits i j is_i is_j (eqb-true i (agent_of event) test)
-          ∙ ap (λ ms. filter_map marker_of (left value publics tasks team w is event next step i j) ++ ms) (silent.markers j)
-          ∙ append-nil (filter_map marker_of (left value publics tasks team w is event next step i j))
-          ∙ left_markers i j is_i is_j
-      by false test =
-          markers_from_others value publics tasks team w is event next step fits i j is_i is_j (eqb-false i (agent_of event) test)
-          ∙ left_markers i j is_i is_j
-
-  reports_same : (i j : ℕ) → IsOf (length tasks) i → IsOf (length tasks) j → reports publics next i j ≡ reports publics w i j
-  reports_same i j is_i is_j = by (eqb i (agent_of event)) refl
-    where
-      by : (b : Bool) → eqb i (agent_of event) ≡ b → reports publics next i j ≡ reports publics w i j
-      by true test =
-          reports_from_it value publics tasks team w is event next step fits i j is_i is_j (eqb-true i (agent_of event) test)
-          ∙ ap (λ ms. filter_map report_of (left value publics tasks team w is event next step i j) ++ ms) (silent.reports j)
-          ∙ append-nil (filter_map report_of (left value publics tasks team w is event next step i j))
-          ∙ left_reports i j is_i is_j
-      by false test =
-          reports_from_others value publics tasks team w is event next step fits i j is_i is_j (eqb-false i (agent_of event) test)
-          ∙ left_reports i j is_i is_j
-
   pub quietly_sound : Sound (length tasks) (view publics next)
   quietly_sound =
-      counted_sound (length tasks) (view publics w) (view publics next) before counts_each (λ i j is_i is_j off. markers_same i j is_i is_j)
-      (λ i is_i off. reports_same i 1 is_i (first_of (length tasks) i is_i))
+      counted_sound (length tasks) (view publics w) (view publics next) before counts_each
+      (λ i j is_i is_j off.
+      unsent value publics tasks team w is event next step fits marker_of markers_part i j is_i is_j (λ here. silent.markers j)
+      ∙ left_markers i j is_i is_j)
+      (λ i is_i off.
+      let is_1 = first_of (length tasks) i is_i in
+      unsent value publics tasks team w is event next step fits report_of reports_part i 1 is_i is_1 (λ here. silent.reports 1)
+      ∙ left_reports i 1 is_i is_1)

@@ -1,7 +1,6 @@
 -- A marker is taken in a world.
-use Rattle.std.proofs.Common.{◌≡◌, ◌≢◌, ℕ, ◌+◌, ◌≤◌, Bool, true, false, List, [], ◌∷◌, ◌++◌, length, Option, Some, eqb, refl, sym, ap, subst, ◌∙◌, append-nil, ◌⊎◌, inr}
+use Rattle.std.proofs.Common.{◌≡◌, ◌≢◌, ℕ, ◌+◌, ◌≤◌, List, [], ◌∷◌, ◌++◌, length, Option, Some, refl, sym, ap, subst, ◌∙◌, ◌⊎◌, inr}
 use Rattle.std.specs.List.{filter_map}
-use Rattle.std.proofs.lemmas.Bool.{eqb-false, eqb-true}
 use Rattle.mp_sets.specs.Numbers.{Numbers}
 use Rattle.mp_task.specs.AgentTask.{AgentTask}
 use Rattle.mp_messages.specs.declared.history.Event.TheVariants.{Take}
@@ -20,7 +19,7 @@ use Rattle.mp_team_snapshots.specs.Messages.{marker_of, markers, report_of, repo
 use Rattle.mp_team_snapshots.specs.Snapshots.{one_if_due}
 use Rattle.mp_team_snapshots.specs.Team.{IsTeamOf, SendsFitting}
 use Rattle.mp_team_snapshots.proofs.Beginning.{begun_sound}
-use Rattle.mp_team_snapshots.proofs.Changes.{left, markers_from_it, markers_from_others, me_before, note_after, note_before, note_other, reports_from_it, reports_from_others}
+use Rattle.mp_team_snapshots.proofs.Changes.{left, markers_from_it, markers_from_others, markers_part, me_before, note_after, note_before, note_other, reports_from_it, reports_from_others, unsent}
 use Rattle.mp_team_snapshots.proofs.Effects.{IsBegun, IsMarkedOn}
 use Rattle.mp_team_snapshots.proofs.Marking.{marked_sound}
 use Rattle.mp_team_snapshots.proofs.Protocol.{IsOf, Sound, first_of}
@@ -95,13 +94,9 @@ module _ (value : AgentTask → Numbers → Numbers → Option ℕ) (publics : �
       (λ other. report_it (one_if_due (is_whole (note_at next b)) (own (note_at next b))) (effect.reports (λ first. other (sym me ∙ first)) ∙ in_now))
     where
       markers_now : (i j : ℕ) → IsOf (length tasks) i → IsOf (length tasks) j → i ≢ j → (i ≢ a) ⊎ (j ≢ b) → markers publics next i j ≡ markers publics w i j
-      markers_now i j is_i is_j off other = by (eqb i b) refl
-        where
-          by : (test : Bool) → eqb i b ≡ test → markers publics next i j ≡ markers publics w i j
-          by true same =
-              markers_from_it value publics tasks team w is (Take b a) next step fits i j is_i is_j (eqb-true i b same)
-              ∙ ap (λ ms. filter_map marker_of (left_ i j) ++ ms) (effect.markers j) ∙ append-nil (filter_map marker_of (left_ i j)) ∙ markers_left i j is_i is_j other
-          by false apart_b = markers_others i j is_i is_j (eqb-false i b apart_b) other
+      markers_now i j is_i is_j off other =
+          unsent value publics tasks team w is (Take b a) next step fits marker_of markers_part i j is_i is_j (λ here. effect.markers j)
+          ∙ markers_left i j is_i is_j other
 
   -- each other agent is sent a marker, and agent 1 no report before that of the receiver
   gets : (j : ℕ) → IsOf (length tasks) j → j ≢ b → messages_to j (to_others step.agent.task (Marker number)) ≡ Marker number ∷ []

@@ -1,7 +1,6 @@
 -- A report is taken in a world.
-use Rattle.std.proofs.Common.{◌≡◌, ◌≢◌, ℕ, Bool, true, false, List, ◌∷◌, ◌++◌, length, Option, Some, eqb, refl, sym, ap, subst, ◌∙◌, append-nil, inl}
+use Rattle.std.proofs.Common.{◌≡◌, ◌≢◌, ℕ, List, ◌∷◌, length, Option, Some, refl, sym, ap, subst, ◌∙◌, inl}
 use Rattle.std.specs.List.{filter_map}
-use Rattle.std.proofs.lemmas.Bool.{eqb-false, eqb-true}
 use Rattle.mp_sets.specs.Numbers.{Numbers}
 use Rattle.mp_task.specs.AgentTask.{AgentTask}
 use Rattle.mp_messages.specs.declared.history.Event.TheVariants.{Take}
@@ -15,7 +14,7 @@ use Rattle.mp_world.specs.Steps.{IsStepOf}
 use Rattle.mp_world.specs.World.{IsTeamWorld, World}
 use Rattle.mp_team_snapshots.specs.Messages.{marker_of, markers, report_of, reports}
 use Rattle.mp_team_snapshots.specs.Team.{IsTeamOf, SendsFitting}
-use Rattle.mp_team_snapshots.proofs.Changes.{left, markers_from_it, markers_from_others, note_after, note_before, note_other, reports_from_others}
+use Rattle.mp_team_snapshots.proofs.Changes.{left, markers_part, note_after, note_before, note_other, reports_from_others, unsent}
 use Rattle.mp_team_snapshots.proofs.Effects.{IsReported}
 use Rattle.mp_team_snapshots.proofs.Protocol.{IsOf, Sound, first_of}
 use Rattle.mp_team_snapshots.proofs.Reporting.{reported_sound}
@@ -62,17 +61,9 @@ module _ (value : AgentTask → Numbers → Numbers → Option ℕ) (publics : �
       note_after value publics tasks team w is (Take b a) next step ∙ effect.snapshot ∙ sym (ap (λ s. after_report s a found) was)
 
   markers_same : (i j : ℕ) → IsOf (length tasks) i → IsOf (length tasks) j → i ≢ j → markers publics next i j ≡ markers publics w i j
-  markers_same i j is_i is_j off = by (eqb i b) refl
-    where
-      same_left : filter_map marker_of (left_ i j) ≡ markers publics w i j
-      same_left = markers_left value publics tasks team w is b a next step (Report found) read refl i j is_i is_j
-
-      by : (test : Bool) → eqb i b ≡ test → markers publics next i j ≡ markers publics w i j
-      by true same =
-          markers_from_it value publics tasks team w is (Take b a) next step fits i j is_i is_j (eqb-true i b same)
-          ∙ ap (λ ms. filter_map marker_of (left_ i j) ++ ms) (effect.silent.markers j) ∙ append-nil (filter_map marker_of (left_ i j)) ∙ same_left
-      by false apart_b =
-          markers_from_others value publics tasks team w is (Take b a) next step fits i j is_i is_j (eqb-false i b apart_b) ∙ same_left
+  markers_same i j is_i is_j off =
+      unsent value publics tasks team w is (Take b a) next step fits marker_of markers_part i j is_i is_j (λ here. effect.silent.markers j)
+      ∙ markers_left value publics tasks team w is b a next step (Report found) read refl i j is_i is_j
 
   pub report_taken_sound : Sound (length tasks) (view publics next)
   report_taken_sound =

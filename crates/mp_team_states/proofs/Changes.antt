@@ -1,12 +1,14 @@
 -- What a search does is one change after another: an entry is closed, kept or sent.
-use Rattle.std.proofs.Common.{◌≡◌, ℕ, zero, suc, get_or, ◌<◌, ◌^◌, Bool, true, false, cond, ◌&&◌, List, [], ◌∷◌, ◌++◌, length, map, All, refl, subst, arith, Some}
-use Rattle.std.specs.Prelude.{Contains, slice_get}
-use Rattle.std.proofs.lemmas.List.Elements.{All-map, All-push, All-weaker}
-use Rattle.std.proofs.lemmas.Option.{slice_get_within}
+use Rattle.std.proofs.Common.{◌≡◌, ℕ, zero, suc, get_or, ◌<◌, ◌^◌, Bool, true, false, cond, ◌&&◌, List, [], ◌∷◌, ◌++◌, length, map, All, refl, subst, arith, Option, Some, None}
+use Rattle.std.specs.Prelude.{Contains, slice_get, slice_set}
+use Rattle.std.specs.Option.{option_map_or}
+use Rattle.std.proofs.lemmas.List.Elements.{All-map, All-push, All-set, All-weaker}
+use Rattle.std.proofs.lemmas.Option.{get_or_from_slice_get, slice_get_within}
 use Rattle.mp_list.proofs.Members.{no_member}
 use Rattle.mp_task.specs.AgentTask.{AgentTask}
 use Rattle.mp_store.specs.declared.entry.Entry.{Entry}
-use Rattle.mp_store.specs.declared.entry.Mark.TheVariants.{Open, Replaced}
+use Rattle.mp_store.specs.declared.entry.Mark.{Mark}
+use Rattle.mp_store.specs.declared.entry.Mark.TheVariants.{Expanded, Open, Replaced}
 use Rattle.mp_store.specs.Laws.{IsEarlier, IsSound}
 use Rattle.mp_store.specs.Minima.{closed}
 use Rattle.mp_store.specs.Record.{Record, f, gives_way, is_known, is_open, kept}
@@ -14,7 +16,6 @@ use Rattle.mp_store.proofs.Sound.{closed_sound, kept_sound, sent_sound}
 use Rattle.mp_search.specs.declared.answer.Sending.{Sending}
 use Rattle.mp_search.specs.AgentState.{AgentState, same_state}
 use Rattle.mp_search.specs.Sending.{message_of}
-use Rattle.mp_search.proofs.KeyedStates.{closed_all}
 use Rattle.mp_team_states.specs.Growing.{HasGrown}
 use Rattle.mp_team_states.specs.Sent.{IsSentIn}
 use Rattle.mp_team_states.proofs.Growth.{grown_closed, grown_kept, grown_not, grown_sent, grown_then, sent_stays}
@@ -70,24 +71,43 @@ module _ (Comes : Record AgentState → Entry AgentState → Type 0) (t : AgentT
   changes_sound r s out (sends _ _ others n e to there rest) sound =
       changes_sound (with_number n r) s others rest (sent_sound same_state n r (slice_get_within r.entries n e there) sound)
 
-  -- what holds of the keys of all entries
-  module _ (P : AgentState → Type 0) (comes : (r : Record AgentState) (new : Entry AgentState) → Comes r new → All (λ e. P e.key) r.entries → P new.key) where
-    kept_all : (new : Entry AgentState) (r : Record AgentState) → P new.key → All (λ e. P e.key) r.entries → All (λ e. P e.key) (kept same_state new r).entries
-    kept_all new r here all =
-        All-push (λ (e : Entry AgentState). P e.key) (map (gives_way same_state new.key) r.entries) new
-        (All-map (λ (e : Entry AgentState). P e.key) (gives_way same_state new.key) r.entries
-        (All-weaker (λ e. P e.key) (λ e. P (gives_way same_state new.key e).key) (λ e h. gives (same_state e.key new.key && is_open e.mark) e h) r.entries all)) here
+  -- what holds of all entries, whatever their marks are
+  module _ (P : Entry AgentState → Type 0) (marks : (e : Entry AgentState) (mark : Mark) → P e → P (record e { mark = mark }))
+      (comes : (r : Record AgentState) (new : Entry AgentState) → f new < 2 ^ 60 → Comes r new → All P r.entries → P new) where
+    closed_have : (n : ℕ) (r : Record AgentState) → All P r.entries → All P (closed n r).entries
+    closed_have n r all = by (slice_get r.entries n) refl
       where
-        gives : (b : Bool) (e : Entry AgentState) → P e.key → P (cond b (record e { mark = Replaced }) e).key
-        gives true e h = h
+        by : (o : Option (Entry AgentState)) → slice_get r.entries n ≡ o
+            → All P (option_map_or (λ (e : Entry AgentState). record r { entries = slice_set r.entries n (record e { mark = Expanded }) }) o r).entries
+        by None is = all
+        by (Some e) is =
+            All-set P r.entries n (record e { mark = Expanded })
+            (marks e Expanded (subst P (get_or_from_slice_get r.entries n e e is) (all n e (slice_get_within r.entries n e is)))) all
+
+    kept_have : (new : Entry AgentState) (r : Record AgentState) → P new → All P r.entries
+        → All P (kept same_state new r).entries
+    kept_have new r here all =
+        All-push P (map (gives_way same_state new.key) r.entries) new
+        (All-map P (gives_way same_state new.key) r.entries
+        (All-weaker P (λ e. P (gives_way same_state new.key e)) (λ e h. gives (same_state e.key new.key && is_open e.mark) e h)
+        r.entries all)) here
+      where
+        gives : (b : Bool) (e : Entry AgentState) → P e → P (cond b (record e { mark = Replaced }) e)
+        gives true e h = marks e Replaced h
         gives false e h = h
 
-    pub changes_all : (r s : Record AgentState) (out : List Sending) → Changes r out s → All (λ e. P e.key) r.entries → All (λ e. P e.key) s.entries
-    changes_all r s out (nothing _) all = all
-    changes_all r s out (closes _ _ _ n rest) all = changes_all (closed n r) s out rest (closed_all same_state P n r all)
-    changes_all r s out (keeps _ _ _ new fresh c rest) all =
-        changes_all (kept same_state new r) s out rest (kept_all new r (comes r new c all) all)
-    changes_all r s out (sends _ _ others n e to there rest) all = changes_all (with_number n r) s others rest all
+    pub changes_have : (r s : Record AgentState) (out : List Sending) → Changes r out s → All P r.entries → All P s.entries
+    changes_have r s out (nothing _) all = all
+    changes_have r s out (closes _ _ _ n rest) all = changes_have (closed n r) s out rest (closed_have n r all)
+    changes_have r s out (keeps _ _ _ new fresh c rest) all =
+        changes_have (kept same_state new r) s out rest (kept_have new r (comes r new fresh.bounded c all) all)
+    changes_have r s out (sends _ _ others n e to there rest) all = changes_have (with_number n r) s others rest all
+
+  -- what holds of their keys
+  pub changes_all : (P : AgentState → Type 0)
+      → ((r : Record AgentState) (new : Entry AgentState) → Comes r new → All (λ e. P e.key) r.entries → P new.key)
+      → (r s : Record AgentState) (out : List Sending) → Changes r out s → All (λ e. P e.key) r.entries → All (λ e. P e.key) s.entries
+  changes_all P comes = changes_have (λ e. P e.key) (λ e mark h. h) (λ r new low. comes r new)
 
   -- what goes out is sent
   pub changes_sent : (r s : Record AgentState) (out : List Sending) → Changes r out s → IsSound same_state r → (x : Sending) → Contains out x → IsSentIn t s x.state

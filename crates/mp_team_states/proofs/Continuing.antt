@@ -1,31 +1,30 @@
 -- What own actions and receipts do to what an agent keeps and sent, one after another.
-use Rattle.std.proofs.Common.{◌≡◌, ℕ, ◌+◌, ◌^◌, ◌⊎◌, Bool, true, false, cond, ◌&&◌, List, [], ◌∷◌, ◌++◌, length, map, Option, Some, None, refl, sym, ap, subst, ◌∙◌, inl, inr}
-use Rattle.std.specs.Prelude.{Contains, nat_lt, option_map, slice_get}
-use Rattle.std.specs.Option.{option_map_or}
+use Rattle.std.proofs.Common.{◌≡◌, ℕ, ◌+◌, ◌⊎◌, Bool, true, false, cond, ◌&&◌, List, [], ◌∷◌, ◌++◌, length, map, Option, Some, None, refl, sym, ap, subst, ◌∙◌, inl, inr}
+use Rattle.std.specs.Prelude.{Contains, option_map, slice_get}
 use Rattle.std.proofs.lemmas.Bool.{and_right}
 use Rattle.std.proofs.lemmas.List.Elements.{Contains-append_left, Contains-append_right}
-use Rattle.std.proofs.lemmas.Option.{none-some, same_Some, slice_get-get_or, slice_get-map}
-use Rattle.mp_list.specs.First.{leftmost}
-use Rattle.mp_list.proofs.FirstLemmas.{found_first}
+use Rattle.std.proofs.lemmas.Option.{none-some, same_Some, slice_get-map}
 use Rattle.mp_list.proofs.Members.{contains_head}
 use Rattle.mp_task.specs.AgentTask.{AgentTask}
 use Rattle.mp_store.specs.declared.entry.Entry.{Entry}
 use Rattle.mp_store.specs.declared.entry.Mark.TheVariants.{Open, Expanded, Replaced}
-use Rattle.mp_store.specs.declared.entry.Offer.TheVariants.{Kept, Worse}
 use Rattle.mp_store.specs.declared.entry.Origin.{Origin}
-use Rattle.mp_store.specs.Minima.{Numbered, best, is_cheaper, those}
-use Rattle.mp_store.specs.Record.{Record, gives_way, is_known, is_open, kept, new_entry, offered}
-use Rattle.mp_store.specs.Sent.{sent_if_new, was_sent}
-use Rattle.mp_store.proofs.RankLemmas.{cheaper_strict, those_have}
-use Rattle.mp_search.specs.declared.answer.Received.TheVariants as receptions
+use Rattle.mp_store.specs.Record.{Record, gives_way, is_open, kept}
 use Rattle.mp_search.specs.declared.answer.Sending.{Sending}
 use Rattle.mp_search.specs.AgentState.{AgentState, is_goal_state, same_state}
 use Rattle.mp_search.specs.Concern.{receivers}
-use Rattle.mp_search.specs.Offering.{by_keep_rule, offered_at, offered_with}
-use Rattle.mp_search.specs.Sending.{message_of, sending_of, sent_best, sent_entry_of}
-use Rattle.mp_search.proofs.KeyedStates.{Decides-state}
+use Rattle.mp_search.specs.Offering.{offered_at}
+use Rattle.mp_search.specs.Sending.{message_of}
 use Rattle.mp_team_states.specs.Growing.{HasGrown}
-use Rattle.mp_team_states.proofs.Changes.{with_number}
+use Rattle.mp_sets.specs.Numbers.{Numbers}
+use Rattle.mp_task.specs.declared.act.Act.{Act}
+use Rattle.mp_store.specs.declared.entry.Origin.TheVariants.{Own}
+use Rattle.mp_search.specs.AgentState.{successor}
+use Rattle.mp_search.specs.Expansion.{Parent, with_actions}
+use Rattle.mp_search.specs.Offering.{own_value}
+use Rattle.mp_search.specs.Sending.{sent_if_due}
+use Rattle.mp_team_states.proofs.Changes.{sending, with_number}
+use Rattle.mp_team_states.proofs.Keeping.{IsKeepable, KeepingCases, actions_hold, due_holds, offered_holds}
 use Rattle.mp_team_states.proofs.Growth.{grown_kept, grown_not, grown_sent, grown_then, stays_at}
 use Rattle.mp_team_states.proofs.Members.{pushed_back, pushed_place}
 
@@ -172,49 +171,11 @@ module _ (t : AgentTask) where
           g.goal ∙ flags n g.entry g.at ∙ ap (is_goal_state t) (sym g.key)
       flagged flags n e (inr same) = subst (λ (x : Entry AgentState). x.goal ≡ is_goal_state t x.key) same flag
 
-  -- a state is offered
-  module _ (s : AgentState) (g : ℕ) (origin : Origin) (r : Record AgentState) where
-    offer_continues : (h : ℕ) → Continues t r [] (offered_with t s g h origin r).1
-    unfolding offered_with
-    offer_continues h = by (nat_lt (g + h) (2 ^ 60))
-      where
-        new : Entry AgentState
-        new = new_entry s g h origin (is_goal_state t s)
-
-        chosen : (b : Bool) → Continues t r [] (by_keep_rule (cond b (Worse, r) (Kept (length r.entries), kept same_state new r))).1
-        chosen true = continues_same r
-        chosen false = continues_kept new r refl refl
-
-        by : (b : Bool) → Continues t r [] (cond b (by_keep_rule (offered same_state new r)) (receptions.Worse, r)).1
-        by true = chosen (is_known same_state new.key new.g r.entries)
-        by false = continues_same r
-
-    pub offered_continues : (value : Option ℕ) → Continues t r [] (offered_at t s g value origin r).1
-    offered_continues None = continues_same r
-    offered_continues (Some h) = offer_continues h
-
-  -- ---- a state is sent
-
-  best_has_key : (s : AgentState) (r : Record AgentState) (n : ℕ) (e : Entry AgentState) → best same_state s r ≡ Some n → slice_get r.entries n ≡ Some e → e.key ≡ s
-  best_has_key s r n e is at = by (leftmost is_cheaper None (those has_key r.entries)) refl is
-    where
-      has_key : Entry AgentState → Bool
-      has_key e = same_state e.key s
-
-      by : (o : Option (Numbered AgentState)) → leftmost is_cheaper None (those has_key r.entries) ≡ o → option_map (λ x. x.0) o ≡ Some n → e.key ≡ s
-      by None found none = absurd (none-some n none)
-      by (Some x) found some =
-          let first = found_first is_cheaper cheaper_strict (those has_key r.entries) x found in
-          let that = those_have has_key r.entries x first.among in
-          let number : x.0 ≡ n = same_Some x.0 n some in
-          let there : slice_get r.entries x.0 ≡ Some x.1 = slice_get-get_or r.entries x.0 x.1 that.inside ∙ ap Some that.is in
-          let same : x.1 ≡ e = same_Some x.1 e (sym there ∙ ap (slice_get r.entries) number ∙ at) in
-          ap (λ (x : Entry AgentState). x.key) (sym same) ∙ (Decides-state x.1.key s).0 that.passes
-
-  continues_sent : (s : AgentState) (n : ℕ) (e : Entry AgentState) (r : Record AgentState) → slice_get r.entries n ≡ Some e → e.key ≡ s
-      → Continues t r (record { state = message_of t (with_number n r) (length r.sent) e; to = receivers t s } ∷ []) (with_number n r)
+  -- an entry is sent
+  continues_sent : (r : Record AgentState) (n : ℕ) (e : Entry AgentState) → slice_get r.entries n ≡ Some e
+      → Continues t r (sending t n r e (receivers t e.key) ∷ []) (with_number n r)
   unfolding message_of
-  continues_sent s n e r at key = record {
+  continues_sent r n e at = record {
     grown = grown_sent n r;
     expanded = λ m x there is. record { entry = x; at = there; is = is };
     still = λ m was. record { entry = was.entry; at = was.at; is = was.is };
@@ -223,7 +184,7 @@ module _ (t : AgentTask) where
   }
     where
       x : Sending
-      x = record { state = message_of t (with_number n r) (length r.sent) e; to = receivers t s }
+      x = sending t n r e (receivers t e.key)
 
       by : (k m : ℕ) → (slice_get r.sent k ≡ Some m) ⊎ ((length r.sent ≡ k) × (n ≡ m)) → (slice_get r.sent k ≡ Some m) ⊎ GoesOut t (with_number n r) (x ∷ []) k m
       by k m (inl old) = inl old
@@ -233,29 +194,28 @@ module _ (t : AgentTask) where
         number = new.0;
         entry = e;
         at = ap (slice_get r.entries) (sym new.1) ∙ at;
-        to = ap (receivers t) (sym key);
+        to = refl;
       })
 
-  module _ (s : AgentState) (r : Record AgentState) where
-    entry_continues : (n : ℕ) (e : Entry AgentState) → slice_get r.entries n ≡ Some e → e.key ≡ s
-        → Continues t r (sending_of t s e (sent_if_new same_state n e r)).0 (sending_of t s e (sent_if_new same_state n e r)).1
-    entry_continues n e at key = by (was_sent same_state e.key e.g r)
-      where
-        by : (b : Bool) → Continues t r (sending_of t s e (cond b (None, r) (Some (length r.sent), with_number n r))).0 (sending_of t s e (cond b (None, r) (Some (length r.sent), with_number n r))).1
-        by true = continues_same r
-        by false = continues_sent s n e r at key
+  continuing : KeepingCases t (Continues t)
+  continuing = record { same = continues_same; after = continues_then; sends = continues_sent }
 
-    pub best_continues : Continues t r (sent_best t s r).0 (sent_best t s r).1
-    unfolding sent_entry_of
-    best_continues = by (best same_state s r) refl
-      where
-        out : ℕ → Option (Entry AgentState) → List Sending × Record AgentState
-        out n o = option_map_or (λ e. sending_of t s e (option_map_or (λ e. sent_if_new same_state n e r) o (None, r))) o ([], r)
+  keeps_on : (s : AgentState) (g : ℕ) (value : Option ℕ) (origin : Origin) (r : Record AgentState) (new : Entry AgentState)
+      → IsKeepable t s g value origin r new → Continues t r [] (kept same_state new r)
+  keeps_on s g value origin r new k = continues_kept new r k.mark (k.is.goal ∙ ap (is_goal_state t) (sym k.is.key))
 
-        at_entry : (n : ℕ) → best same_state s r ≡ Some n → (o : Option (Entry AgentState)) → slice_get r.entries n ≡ o → Continues t r (out n o).0 (out n o).1
-        at_entry n is None none = continues_same r
-        at_entry n is (Some e) at = entry_continues n e at (best_has_key s r n e is at)
+  pub offered_continues : (s : AgentState) (g : ℕ) (origin : Origin) (r : Record AgentState) (value : Option ℕ)
+      → Continues t r [] (offered_at t s g value origin r).1
+  offered_continues s g origin r value =
+      offered_holds t (Continues t) continuing s g value origin r (keeps_on s g value origin r)
 
-        by : (o : Option ℕ) → best same_state s r ≡ o → Continues t r (sent_entry_of t s o r).0 (sent_entry_of t s o r).1
-        by None is = continues_same r
-        by (Some n) is = at_entry n is (slice_get r.entries n) refl
+  pub due_continues : (act : Act) (s reached : AgentState) (r : Record AgentState)
+      → Continues t r (sent_if_due t act s reached r).0 (sent_if_due t act s reached r).1
+  due_continues = due_holds t (Continues t) continuing
+
+  pub actions_continue : (value : Numbers → Numbers → Option ℕ) (parent : Parent) (number : ℕ) (acts : List Act) (r : Record AgentState)
+      → Continues t r (with_actions t value parent number acts r).0 (with_actions t value parent number acts r).1
+  actions_continue value parent number acts r =
+      actions_hold t (Continues t) continuing value parent number acts r
+      (λ k act at r may.
+      keeps_on (successor act parent.state) (parent.g + act.cost) (own_value t value (successor act parent.state)) (Own (number + k) parent.number) r)

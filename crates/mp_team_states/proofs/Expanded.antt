@@ -23,7 +23,7 @@ use Rattle.mp_search.specs.Search.{SearchRecord}
 use Rattle.mp_search.specs.Sending.{is_due, sent_best, sent_if_due}
 use Rattle.mp_team_states.specs.Growing.{HasGrown}
 use Rattle.mp_team_states.proofs.Growth.{grown_closed, grown_then}
-use Rattle.mp_team_states.proofs.Continuing.{Continues, GoesOut, HaveFlags, WasExpanded, best_continues, continues_same, continues_then, offered_continues}
+use Rattle.mp_team_states.proofs.Continuing.{Continues, GoesOut, HaveFlags, WasExpanded, actions_continue, continues_same, due_continues, offered_continues}
 use Rattle.mp_team_states.proofs.Members.{set_back, set_other, set_same, set_there}
 use Rattle.mp_team_states.proofs.Kept.{IsKept, WasSent, best_is_sent, kept_stays, offered_is_kept, sent_stays}
 
@@ -87,14 +87,6 @@ module _ (t : AgentTask) (value : Numbers → Numbers → Option ℕ) where
 
   -- ---- an own action
 
-  due_continues : (act : Act) (s reached : AgentState) (r : Record AgentState) → Continues t r (sent_if_due t act s reached r).0 (sent_if_due t act s reached r).1
-  unfolding sent_if_due
-  due_continues act s reached r = by (is_due t act s reached)
-    where
-      by : (b : Bool) → Continues t r (cond b (sent_best t reached r) ([], r)).0 (cond b (sent_best t reached r) ([], r)).1
-      by true = best_continues t reached r
-      by false = continues_same t r
-
   due_is_sent : (act : Act) (s reached : AgentState) (r : Record AgentState) (cost : ℕ) → IsKept r reached cost → is_due t act s reached ≡ true → WasSent (sent_if_due t act s reached r).1 reached cost
   unfolding sent_if_due
   due_is_sent act s reached r cost kept due = by (is_due t act s reached) due
@@ -110,17 +102,6 @@ module _ (t : AgentTask) (value : Numbers → Numbers → Option ℕ) where
     offer : Record AgentState
     offer = (offered_at t reached (parent.g + act.cost) (own_value t value reached) (Own number parent.number) r).1
 
-    action_continues : Continues t r (with_action t value parent number act r).0 (with_action t value parent number act r).1
-    unfolding with_action with_successor reached offer
-    action_continues = by (applies act parent.state)
-      where
-        by : (b : Bool) → Continues t r (cond b (with_successor t value parent number act reached r) ([], r)).0 (cond b (with_successor t value parent number act reached r) ([], r)).1
-        by true =
-            let last = sent_if_due t act parent.state reached offer in
-            continues_then t r offer last.1 [] last.0 (offered_continues t reached (parent.g + act.cost) (Own number parent.number) r (own_value t value reached))
-            (due_continues act parent.state reached offer)
-        by false = continues_same t r
-
     action_is_offered : ((h : ℕ) → own_value t value (successor act parent.state) ≡ Some h → parent.g + act.cost + h < 2 ^ 60) → applies act parent.state ≡ true
         → IsOffered t value act parent.state (parent.g + act.cost) (with_action t value parent number act r).1
     unfolding with_action with_successor reached offer
@@ -132,7 +113,7 @@ module _ (t : AgentTask) (value : Numbers → Numbers → Option ℕ) where
         by true is (inl none) = inl none
         by true is (inr kept) =
             let cost = parent.g + act.cost in
-            let grown = (due_continues act parent.state reached offer).grown in
+            let grown = (due_continues t act parent.state reached offer).grown in
             inr (
               kept_stays offer (sent_if_due t act parent.state reached offer).1 reached cost grown kept,
               λ due. due_is_sent act parent.state reached offer cost kept due,
@@ -140,14 +121,6 @@ module _ (t : AgentTask) (value : Numbers → Numbers → Option ℕ) where
         by false is any = absurd (false≢true is)
 
   -- ---- all own actions
-
-  pub actions_continue : (parent : Parent) (number : ℕ) (acts : List Act) (r : Record AgentState) → Continues t r (with_actions t value parent number acts r).0 (with_actions t value parent number acts r).1
-  unfolding with_actions
-  actions_continue parent number [] r = continues_same t r
-  actions_continue parent number (act ∷ acts) r =
-      let now = with_action t value parent number act r in
-      let later = with_actions t value parent (number + 1) acts now.1 in
-      continues_then t r now.1 later.1 now.0 later.0 (action_continues parent number act r) (actions_continue parent (number + 1) acts now.1)
 
   actions_are_offered : (parent : Parent) (number : ℕ) (acts : List Act) (r : Record AgentState)
       → ((act : Act) (h : ℕ) → Contains acts act → own_value t value (successor act parent.state) ≡ Some h → parent.g + act.cost + h < 2 ^ 60)
@@ -160,7 +133,7 @@ module _ (t : AgentTask) (value : Numbers → Numbers → Option ℕ) where
       let later = with_actions t value parent (number + 1) acts now.1 in
       let here = action_is_offered parent number first r (λ h is. small first h (contains_head first acts) is) (ap (λ (a : Act). applies a parent.state) (same_Some first act at) ∙ may) in
       subst (λ (a : Act). IsOffered t value a parent.state (parent.g + a.cost) later.1) (same_Some first act at)
-      (offered_stays first parent.state (parent.g + first.cost) now.1 later.1 (actions_continue parent (number + 1) acts now.1).grown here)
+      (offered_stays first parent.state (parent.g + first.cost) now.1 later.1 (actions_continue t value parent (number + 1) acts now.1).grown here)
   actions_are_offered parent number (first ∷ acts) r small (suc k) act at may =
       actions_are_offered parent (number + 1) acts (with_action t value parent number first r).1 (λ a h there is. small a h (contains_tail first acts a there) is) k act at may
 
@@ -198,7 +171,7 @@ module _ (t : AgentTask) (value : Numbers → Numbers → Option ℕ) where
           after = with_actions t value parent 0 t.acts (closed n r.kept)
 
           goes : Continues t (closed n r.kept) after.0 after.1
-          goes = actions_continue parent 0 t.acts (closed n r.kept)
+          goes = actions_continue t value parent 0 t.acts (closed n r.kept)
 
           offers : AreOffered t value e after.1
           offers k act at may = actions_are_offered parent 0 t.acts (closed n r.kept) (λ a h there found. small n e a h is there found) k act at may
@@ -248,7 +221,7 @@ module _ (t : AgentTask) (value : Numbers → Numbers → Option ℕ) where
       parent = record { number = n; state = e.key; g = e.g }
 
       goes : Continues t (closed n r.kept) (with_actions t value parent 0 t.acts (closed n r.kept)).0 (with_actions t value parent 0 t.acts (closed n r.kept)).1
-      goes = actions_continue parent 0 t.acts (closed n r.kept)
+      goes = actions_continue t value parent 0 t.acts (closed n r.kept)
 
       shut_there : WasExpanded (closed n r.kept) n
       shut_there =
@@ -262,7 +235,7 @@ module _ (t : AgentTask) (value : Numbers → Numbers → Option ℕ) where
     where
       at_entry : (n : ℕ) (e : Entry AgentState) → slice_get r.kept.entries n ≡ Some e → WasExpanded (expanded_entry t value n e r).1.kept m
       at_entry n e is =
-          (actions_continue (record { number = n; state = e.key; g = e.g }) 0 t.acts (closed n r.kept)).still m (closed_still n e r.kept is m was)
+          (actions_continue t value (record { number = n; state = e.key; g = e.g }) 0 t.acts (closed n r.kept)).still m (closed_still n e r.kept is m was)
 
       of_entry : ℕ → Option (Entry AgentState) → List Sending × SearchRecord
       of_entry n o = option_map_or (λ e. expanded_entry t value n e r) o ([], r)

@@ -1,6 +1,8 @@
--- in reading order: what grows; a search as changes one after another; expansions and receipts as such changes
+-- in reading order: what grows; a search as changes one after another; what it keeps and sends, by cases;
+-- expansions and receipts as such changes
 pub mod Growth
 pub mod Changes
+pub mod Keeping
 pub mod Expanding
 pub mod Quiet
 pub mod WorldsGrow

@@ -41,9 +41,9 @@ use Rattle.mp_team_states.proofs.StartSound.{start_states_sound}
 use Rattle.mp_team_states.proofs.StepsSound.{agent_sound, states_stay_sound}
 use Rattle.mp_team_states.specs.Expansions.{ExpandsOnce, nothing_known}
 use Rattle.mp_team_states.proofs.Adding.{Adds, WasThere, actions_add, offered_adds}
-use Rattle.mp_team_states.proofs.Expanded.{actions_continue, closed_is, one_expanded}
+use Rattle.mp_team_states.proofs.Expanded.{closed_is, one_expanded}
 use Rattle.mp_team_states.proofs.Members.{set_back, set_same}
-use Rattle.mp_team_states.proofs.Continuing.{Continues, WasExpanded, offered_continues}
+use Rattle.mp_team_states.proofs.Continuing.{Continues, WasExpanded, actions_continue, offered_continues}
 use Rattle.mp_team_states.proofs.SoundWorlds.{states_known}
 use Rattle.mp_team_states.proofs.Worth.{IsWorth, falls, worth}
 

@@ -1,7 +1,6 @@
 -- The entries of an agent: its messages go to other agents of its team.
-use Rattle.std.proofs.Common.{◌≡◌, ◌≤◌, ℕ, Bool, true, false, ◌&&◌, List, [], ◌∷◌, map, length, Option, refl, sym, subst, arith}
-use Rattle.std.specs.Prelude.{◌==◌, All, Contains, Ok, nat_le, not}
-use Rattle.std.proofs.lemmas.Bool.{and_parts, eqb-false, leb-true}
+use Rattle.std.proofs.Common.{◌≡◌, ◌≤◌, ℕ, true, List, [], ◌∷◌, map, length, Option, refl, subst, arith}
+use Rattle.std.specs.Prelude.{All, Contains, Ok}
 use Rattle.std.proofs.lemmas.List.Elements.{All-append, All-cons, All-contains, All-head, All-nil, All-tail, All-weaker}
 use Rattle.mp_sets.specs.Numbers.{Numbers}
 use Rattle.mp_task.specs.AgentTask.{AgentTask}
@@ -9,9 +8,8 @@ use Rattle.mp_messages.specs.declared.history.Entry.{Entry}
 use Rattle.mp_messages.specs.declared.history.Event.{Event}
 use Rattle.mp_messages.specs.declared.history.Event.TheVariants.{Expand, Take, Start}
 use Rattle.mp_messages.specs.History.{part}
-use Rattle.mp_machine.specs.declared.event.Local.TheVariants as locals
-use Rattle.mp_machine.specs.AgentRecord.{AgentRecord, is_going, new_record}
-use Rattle.mp_machine.specs.LocalStep.{is_another, local, may}
+use Rattle.mp_machine.specs.AgentRecord.{AgentRecord, new_record}
+use Rattle.mp_machine.specs.LocalStep.{local, may}
 use Rattle.mp_machine.specs.Outgoing.{Outgoing, Step, in_bytes}
 use Rattle.mp_world.specs.Events.{agent_of, local_of, sent_in}
 use Rattle.mp_world.specs.Logs.{HasDone, IsLog, entries_of, entry_of, put_by}
@@ -24,38 +22,12 @@ use Rattle.mp_team_verdicts.specs.Others.{IsAnother, IsOfAgent}
 use Rattle.mp_team_verdicts.proofs.Bytes.{spelled_bytes, spelled_some}
 use Rattle.mp_team_verdicts.proofs.Expansions.{GoOut, GoesOut}
 use Rattle.mp_team_verdicts.proofs.Others.{start_of_others}
-use Rattle.mp_team_verdicts.proofs.StepMessages.{IsFromOther, IsSound, IsSoundStep, local_goes}
+use Rattle.mp_team_verdicts.proofs.StepMessages.{IsSound, local_goes, taken_from_other}
 
 another_is : (t : AgentTask) (agent : ℕ) → IsReceiver t agent → IsAnother t agent
 another_is t agent is = record { from_1 = is.from_1; in_team = is.in_team; another = is.another }
 
--- an agent takes messages of other agents of its team
-taken_from_other : (r : AgentRecord) (from : ℕ) → may r (locals.Take from) ≡ true → IsReceiver r.task from
-taken_from_other r from allowed =
-    let now = and_parts (is_going r.ending) (is_another r.task from) allowed in
-    let other = and_parts (nat_le 1 from && nat_le from r.task.agents) (not (from == r.task.me)) now.1 in
-    let range = and_parts (nat_le 1 from) (nat_le from r.task.agents) other.0 in
-    record {
-      from_1 = leb-true 1 from range.0;
-      in_team = leb-true from r.task.agents range.1;
-      another = eqb-false from r.task.me (flipped (from == r.task.me) other.1);
-    }
-  where
-    flipped : (b : Bool) → not b ≡ true → b ≡ false
-    flipped true h = sym h
-    flipped false h = refl
-
-from_other : (r : AgentRecord) (event : Event) → may r (local_of event) ≡ true → IsFromOther r.task (local_of event)
-from_other r (Expand agent) allowed = tt
-from_other r (Take by from) allowed = taken_from_other r from allowed
-from_other r Start allowed = tt
-
 module _ (value : Numbers → Numbers → Option ℕ) where
-  step_sound : (r : AgentRecord) (event : Event) (bytes : List ℕ) (s : Step) → IsSound r
-      → may r (local_of event) ≡ true → local value r (local_of event) bytes ≡ Ok s → IsSoundStep r.task s
-  step_sound r event bytes s sound allowed did =
-      local_goes value r s (local_of event) bytes sound (from_other r event allowed) did
-
   -- ---- the entries of one step
 
   own_of_agent : (r : AgentRecord) (event : Event) (bytes : List ℕ) → agent_of event ≡ r.task.me
@@ -77,13 +49,13 @@ module _ (value : Numbers → Numbers → Option ℕ) where
   done_sound : (r last : AgentRecord) (log : List Entry) → HasDone value r log last → IsSound r → IsSound last
   done_sound _ _ _ (nothing r) sound = sound
   done_sound _ last _ (onward r _ event bytes s later mine allowed did rest) sound =
-      done_sound s.after last later rest (step_sound r event bytes s sound allowed did).after
+      done_sound s.after last later rest (local_goes value r s (local_of event) bytes sound allowed did).after
 
   done_of_agent : (r last : AgentRecord) (log : List Entry) → HasDone value r log last → IsSound r
       → All (IsOfAgent r.task) log
   done_of_agent _ _ _ (nothing r) sound = All-nil (IsOfAgent r.task)
   done_of_agent _ last _ (onward r _ event bytes s later mine allowed did rest) sound =
-      let stepped = step_sound r event bytes s sound allowed did in
+      let stepped = local_goes value r s (local_of event) bytes sound allowed did in
       All-append (IsOfAgent r.task) (entries_of event bytes (sent_in s)) later
       (All-cons (IsOfAgent r.task) (entry_of event bytes) (map (put_by (agent_of event)) (sent_in s))
       (own_of_agent r event bytes mine allowed)
@@ -104,7 +76,7 @@ module _ (value : Numbers → Numbers → Option ℕ) where
         → local value r (local_of event) bytes ≡ Ok s → All (λ x. IsAnother t x.to) s.out
     step_goes log r event bytes s done allowed did =
         let same : r.task ≡ t = done_task value (new_record t value limit) r log done in
-        let stepped = step_sound r event bytes s (done_sound (new_record t value limit) r log done start_sound) allowed did in
+        let stepped = local_goes value r s (local_of event) bytes (done_sound (new_record t value limit) r log done start_sound) allowed did in
         subst (λ (u : AgentTask). All (λ (x : Outgoing). IsAnother u x.to) s.out) same
         (All-weaker (GoesOut r.task) (λ (x : Outgoing). IsAnother r.task x.to) (λ x is. another_is r.task x.to is)
         s.out stepped.out)

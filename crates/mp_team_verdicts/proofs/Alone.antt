@@ -1,9 +1,9 @@
 -- An agent that is alone, with a heuristic that knows nothing, expands each state once at most, so that it is spent only where it may
 -- expand fewer entries than there are states.
 use Rattle.std.proofs.Common.{◌≡◌, ℕ, ◌+◌, ◌-◌, ◌<◌, ◌≤◌, ◌^◌, ◌⊎◌, Bool, true, false, List, [], ◌∷◌, ◌++◌, length, map, Option, Some, All, refl, sym, ap, subst, ◌∙◌, arith, inl, inr}
-use Rattle.std.specs.Prelude.{Contains, Ok, ◌==◌, if◌then◌else◌, not, slice_get, slice_index_or}
+use Rattle.std.specs.Prelude.{Contains, ◌==◌, if◌then◌else◌, not, slice_get, slice_index_or}
 use Rattle.std.specs.Option.{option_map_or}
-use Rattle.std.proofs.lemmas.Bool.{and_parts, cases_eq, cases_lt, eqb-true, false≢true}
+use Rattle.std.proofs.lemmas.Bool.{and_parts, cases_lt, eqb-true, false≢true}
 use Rattle.std.proofs.lemmas.List.{length-map}
 use Rattle.std.proofs.lemmas.Option.{get_or_from_slice_get, none-some, same_Some, slice_get_within}
 use Rattle.mp_list.proofs.Members.{contains_cases, no_member}
@@ -17,15 +17,16 @@ use Rattle.mp_store.specs.declared.entry.Mark.TheVariants.{Expanded, Open}
 use Rattle.mp_store.specs.Laws.{IsSound}
 use Rattle.mp_store.specs.Record.{is_open}
 use Rattle.mp_search.specs.AgentState.{AgentState, no_tag, same_state}
-use Rattle.mp_search.specs.Expansion.{expanded}
 use Rattle.mp_search.specs.Search.{SearchRecord, is_open_below, is_spent, may_expand}
 use Rattle.mp_search.proofs.KeyedStates.{Decides-state}
 use Rattle.mp_snapshot.specs.declared.verdict.Verdict.TheVariants.{Spent}
 use Rattle.mp_machine.specs.AgentRecord.{AgentRecord, given_verdict, is_going}
-use Rattle.mp_machine.specs.LocalStep.{with_search}
+use Rattle.mp_machine.specs.declared.event.Local.{Local}
+use Rattle.mp_machine.specs.declared.event.Local.TheVariants as locals
+use Rattle.mp_machine.specs.LocalStep.{may}
 use Rattle.mp_machine.specs.Outgoing.{Step}
-use Rattle.mp_machine.specs.Snapshots.{started}
-use Rattle.mp_world.specs.Events.{agent_of, run}
+use Rattle.mp_machine.specs.Taking.{with_state}
+use Rattle.mp_world.specs.Events.{agent_of, local_of, run, taken}
 use Rattle.mp_world.specs.Steps.{IsStepOf}
 use Rattle.mp_world.specs.World.{IsTeamWorld, World, agent_at}
 use Rattle.mp_world.proofs.Agents.{agree_numbered, member_of, sender_of}
@@ -34,7 +35,6 @@ use Rattle.mp_world.proofs.Runs.{run_has, run_has_history, run_of_team}
 use Rattle.mp_world.proofs.Stepping.{team_size}
 use Rattle.mp_team_states.specs.Paths.{IsEntryAt}
 use Rattle.mp_team_states.specs.Sound.{AreStatesSound}
-use Rattle.mp_team_states.proofs.Quiet.{quiet_started}
 use Rattle.mp_team_states.proofs.Reached.{has_it}
 use Rattle.mp_team_states.proofs.StartReached.{task_is}
 use Rattle.mp_team_states.proofs.StartSound.{start_states_sound}
@@ -46,9 +46,11 @@ use Rattle.mp_team_states.proofs.Members.{from_map}
 use Rattle.mp_team_states.proofs.Once.{HasRisingCosts, rising_first, rising_later}
 use Rattle.mp_team_states.proofs.SoundWorlds.{IsHeuristic, later_cheaper, states_known}
 use Rattle.mp_team_states.proofs.StillExpanded.{stays_expanded}
+use Rattle.mp_team_states.proofs.WorldsGrow.{search_holds}
 use Rattle.mp_team_states.proofs.Worth.{expands_one, worth}
 use Rattle.mp_team_verdicts.specs.Right.{IsUndecided}
 use Rattle.mp_team_verdicts.proofs.Counts.{count_by, count_more, counted_in_runs, is_by}
+use Rattle.mp_team_verdicts.proofs.EachAgent.{each_agent}
 use Rattle.mp_team_verdicts.proofs.FewStates.{AreApart, IsAloneState, few_apart, map_apart, same_states, state_number, state_number_below}
 use Rattle.mp_team_verdicts.proofs.Verdicts.{verdict_right}
 
@@ -151,40 +153,36 @@ module _ (tasks : List AgentTask) (agree : Agree tasks) (limits : All IsWithinLi
       HaveRising w = AreStatesSound tasks w × ((agent : ℕ) (r : AgentRecord) → agent_at w agent ≡ Some r → HasRisingCosts r.search.kept)
 
       step_rising : (w next : World) → IsTeamWorld tasks w → HaveRising w → (event : Event) (is : IsStepOf nothing_known w event next) → HasRisingCosts is.step.after.search.kept
-      step_rising w next team all (Expand agent) is =
+      unfolding with_state
+      step_rising w next team all event is =
           let r = is.agent in
-          let d = expanded r.task (nothing_known r.task) r.search in
-          let same : with_search r d ≡ is.step = let done : Ok (with_search r d) ≡ Ok is.step = is.local in cc in
-          let may = and_parts (is_going r.ending) (may_expand r.limit r.search) is.may in
-          let below = and_parts (not (is_spent r.limit r.search)) (is_open_below r.search.kept) may.1 in
-          subst (λ (s : Step). HasRisingCosts s.after.search.kept) same
-          (rising_later r.task r.search (agent_sound tasks agree limits w team all.0 agent r is.there).kept (all.1 agent r is.there) (worth r.search.kept below.1))
-      step_rising w next team all (Take by from) is =
-          let sender = sender_of tasks (agree_numbered tasks agree) w team by from is.agent is.there is.may in
-          let receiver = agent_of_team w by is.agent is.there in
-          let size = team_size tasks w team in
-          let a = sender.0.from_1 in
-          let b = sender.0.at_most in
-          let c = receiver.from_1 in
-          let d = receiver.at_most in
-          absurd (sender.1 (let same : from ≡ by = omega arith in same))
-      step_rising w next team all Start is =
-          let r = is.agent in
-          let same : started r ≡ is.step = let done : Ok (started r) ≡ Ok is.step = is.local in cc in
-          subst (λ (s : Step). HasRisingCosts s.after.search.kept) same
-          (subst (λ (x : SearchRecord). HasRisingCosts x.kept) (sym (quiet_started r).search_is) (all.1 1 r is.there))
+          let old = all.1 (agent_of event) r is.there in
+          search_holds (nothing_known r.task) r (local_of event) (taken w event) (λ (s : Step). HasRisingCosts s.after.search.kept) (record {
+            expands = λ at.
+                let allowed : may r locals.Expand ≡ true = subst (λ (e : Local). may r e ≡ true) at is.may in
+                let now = and_parts (is_going r.ending) (may_expand r.limit r.search) allowed in
+                let below = and_parts (not (is_spent r.limit r.search)) (is_open_below r.search.kept) now.1 in
+                rising_later r.task r.search (agent_sound tasks agree limits w team all.0 (agent_of event) r is.there).kept old
+                (worth r.search.kept below.1);
+            receives = λ from m at reads.
+                let allowed = subst (λ (e : Local). may r e ≡ true) at is.may in
+                let sender = sender_of tasks (agree_numbered tasks agree) w team (agent_of event) from r is.there allowed in
+                let receiver = agent_of_team w (agent_of event) r is.there in
+                let size = team_size tasks w team in
+                let a = sender.0.from_1 in
+                let b = sender.0.at_most in
+                let c = receiver.from_1 in
+                let d = receiver.at_most in
+                absurd (sender.1 (let same : from ≡ agent_of event = omega arith in same));
+            quiet = λ s quiet. subst (λ (x : SearchRecord). HasRisingCosts x.kept) (sym quiet.search_is) old;
+          }) is.step is.local
 
       rising_next : (w : World) (event : Event) (next : World) → IsTeamWorld tasks w → HaveRising w → IsStepOf nothing_known w event next → HaveRising next
       rising_next w event next team all is = (
         states_stay_sound tasks agree limits w team all.0 nothing_known next event is,
-        λ agent r there. by agent r there (cases_eq agent (agent_of event)),
+        each_agent nothing_known w event next is (λ agent r. HasRisingCosts r.search.kept) (step_rising w next team all event is)
+            (λ agent r there other. all.1 agent r there),
       )
-        where
-          by : (agent : ℕ) (r : AgentRecord) → agent_at next agent ≡ Some r → (agent ≡ agent_of event) ⊎ (agent ≡ agent_of event → ⊥) → HasRisingCosts r.search.kept
-          by agent r there (inl same) =
-              subst (λ (r : AgentRecord). HasRisingCosts r.search.kept) (same_Some is.step.after r (sym is.after ∙ ap (agent_at next) (sym same) ∙ there))
-              (step_rising w next team all event is)
-          by agent r there (inr other) = all.1 agent r (sym (is.others agent other) ∙ there)
 
       rising_in_runs : (schedule : List Event) (w : World) → run nothing_known limit tasks schedule ≡ Some w → HaveRising w
       rising_in_runs =

@@ -24,7 +24,8 @@ use Rattle.mp_team_snapshots.proofs.Changes.{note_after, note_before, note_other
 use Rattle.mp_team_snapshots.proofs.Protocol.{IsOf}
 use Rattle.mp_team_snapshots.proofs.Worlds.{note_at}
 use Rattle.mp_team_verdicts.specs.Ending.{HasEnded}
-use Rattle.mp_team_verdicts.proofs.Frames.{IsKnownWorld, each_next, ended_stays}
+use Rattle.mp_team_verdicts.proofs.EachAgent.{each_agent}
+use Rattle.mp_team_verdicts.proofs.Frames.{IsKnownWorld, ended_stays}
 use Rattle.mp_team_snapshots.proofs.Taken.{its_notes}
 use Rattle.mp_team_verdicts.specs.Quiet.{are_quiet, is_quiet}
 use Rattle.mp_team_verdicts.proofs.Fresh.{IsSilent, silent_next}
@@ -247,7 +248,7 @@ module _ (value : AgentTask → Numbers → Numbers → Option ℕ) (limit publi
             let kept = keeps_search value publics tasks team x is event next step pass old.0 in (
               λ a b is_a is_b off. none_next value publics tasks team x is event next step pass a b is_a is_b (old.0 a b is_a is_b off),
               λ r there.
-                  each_next value publics tasks team x is event next step (λ k r. k ≡ i → may_expand r.limit r.search ≡ false)
+                  each_agent value x event next step (λ k r. k ≡ i → may_expand r.limit r.search ≡ false)
                   (λ same. (λ h. may_expand (kept.1 h) (kept.0 h)) ∙ old.1 step.agent (sym (ap (agent_at x) same) ∙ step.there))
                   (λ k r there off same. old.1 r (sym (ap (agent_at x) same) ∙ there)) i r there refl,
             )

@@ -26,7 +26,8 @@ use Rattle.mp_team_verdicts.specs.Ending.{AgentAt, HasNoPart, HasShare, HasWalke
 use Rattle.mp_team_verdicts.specs.Ending.Stage.{over, picking, searching, walking, without_plan}
 use Rattle.mp_team_verdicts.proofs.EndMessages.{IsNoEnd, none_to}
 use Rattle.mp_team_verdicts.proofs.Fitting.{HasEndRoom, ends_next, no_end_has_room}
-use Rattle.mp_team_verdicts.proofs.Frames.{IsKnownWorld, agent_stays, each_next, ended_stays, first_next, leads_stays, of_agent_next, of_next, proved_stays}
+use Rattle.mp_team_verdicts.proofs.EachAgent.{each_agent}
+use Rattle.mp_team_verdicts.proofs.Frames.{IsKnownWorld, agent_stays, ended_stays, first_next, leads_stays, of_agent_next, of_next, proved_stays}
 use Rattle.mp_team_verdicts.proofs.EndSteps.{IsCalm}
 use Rattle.mp_team_verdicts.proofs.WalkOn.{ComesTo, team_fits}
 
@@ -112,7 +113,7 @@ module _ (value : AgentTask → Numbers → Numbers → Option ℕ) (publics : �
       -- the receiver goes on if it did
       was : (j : ℕ) (y : AgentRecord) → agent_at next j ≡ Some y → (x : AgentRecord) × (agent_at w j ≡ Some x) × (is_going y.ending ≡ is_going x.ending)
       was =
-          each_next value publics tasks team w known.team event next step (λ j y. (x : AgentRecord) × (agent_at w j ≡ Some x) × (is_going y.ending ≡ is_going x.ending))
+          each_agent value w event next step (λ j y. (x : AgentRecord) × (agent_at w j ≡ Some x) × (is_going y.ending ≡ is_going x.ending))
           (step.agent, step.there, ap is_going calm.ending)
           (λ j y there other. (y, there, refl))
 
@@ -127,7 +128,7 @@ module _ (value : AgentTask → Numbers → Numbers → Option ℕ) (publics : �
               there = first_now.1;
               verdict = verdict_now stage old.verdict;
               agents =
-                  each_next value publics tasks team w known.team event next step (λ i y. AgentAt stage y)
+                  each_agent value w event next step (λ i y. AgentAt stage y)
                   (agent_calm stage step.agent step.step calm (old.agents (agent_of event) step.agent step.there))
                   (λ i y there other. old.agents i y there);
               mail = λ i j y agent there.

@@ -4,6 +4,7 @@ use Rattle.std.specs.Prelude.{not, nat_lt, slice_index_or}
 use Rattle.std.specs.List.{list_all}
 use Rattle.std.proofs.lemmas.Bool.{and_from, and_parts, eqb-false, eqb-true}
 use Rattle.mp_snapshot.specs.Rules.{has, is_complete, is_whole, own}
+use Rattle.mp_world.proofs.LocalCases.{not_false}
 use Rattle.mp_team_snapshots.specs.Snapshots.{one_if_due}
 use Rattle.mp_team_snapshots.proofs.Due.{begun_in, begun_is}
 use Rattle.mp_team_snapshots.proofs.Protocol.{IsOf, Sound, View, each, first_of}
@@ -17,10 +18,6 @@ not_due false x is = refl
 pub other_false : (a b : Bool) → (a && b) ≡ false → a ≡ true → b ≡ false
 other_false true b is on = is
 other_false false b is on = absurd (let impossible : ⊥ = cc in impossible)
-
-pub not_false : (b : Bool) → not b ≡ false → b ≡ true
-not_false true e = refl
-not_false false e = sym e
 
 all_taken : (flags : List Bool) (n : ℕ) → n ≤ length flags → ((k : ℕ) → k < n → slice_index_or flags k false ≡ true)
     → list_all (λ b. b) (take n flags) ≡ true

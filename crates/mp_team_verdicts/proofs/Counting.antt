@@ -1,10 +1,8 @@
 -- Each expansion counts as one, so that all but few rounds are without one.
-use Rattle.std.proofs.Common.{◌≡◌, ℕ, zero, suc, ◌+◌, ◌-◌, ◌≤◌, true, false, ◌&&◌, List, [], ◌∷◌, get_or, Option, Some, All, refl, sym, ap, ◌∙◌, arith, ◌⊎◌, inl, inr}
-use Rattle.std.specs.Prelude.{slice_get, slice_set}
-use Rattle.std.specs.List.{sum_by}
-use Rattle.std.proofs.lemmas.Bool.{cases_eq, false≢true}
-use Rattle.std.proofs.lemmas.List.Sums.{sum_by-set}
-use Rattle.std.proofs.lemmas.Option.{get_or_from_slice_get, none-some, same_Some, slice_get_within}
+use Rattle.std.proofs.Common.{◌≡◌, ℕ, ◌+◌, ◌≤◌, true, false, ◌&&◌, List, [], ◌∷◌, Option, All, sym, ap, ◌∙◌, arith, ◌⊎◌, inl, inr}
+use Rattle.std.specs.Prelude.{slice_get}
+use Rattle.std.proofs.lemmas.Bool.{false≢true}
+use Rattle.std.proofs.lemmas.Option.{same_Some}
 use Rattle.mp_runs.proofs.Runs.{run_parts}
 use Rattle.mp_sets.specs.Numbers.{Numbers}
 use Rattle.mp_task.specs.Agree.{Agree}
@@ -20,10 +18,9 @@ use Rattle.mp_search.specs.Search.{SearchRecord}
 use Rattle.mp_machine.specs.AgentRecord.{AgentRecord}
 use Rattle.mp_machine.specs.LocalStep.{with_search}
 use Rattle.mp_machine.specs.Outgoing.{Step}
-use Rattle.mp_world.specs.Events.{after_event, agent_of}
+use Rattle.mp_world.specs.Events.{after_event}
 use Rattle.mp_world.specs.Steps.{IsStepOf}
-use Rattle.mp_world.specs.World.{World, agent_at, with_agent}
-use Rattle.mp_world.proofs.Mail.{agent_at-other, agent_at-same}
+use Rattle.mp_world.specs.World.{World}
 use Rattle.mp_team_snapshots.specs.Team.{IsTeamOf}
 use Rattle.mp_team_snapshots.proofs.Effects.{same_step}
 use Rattle.mp_team_states.specs.Room.{expanded_by_all}
@@ -36,47 +33,11 @@ use Rattle.mp_team_states.proofs.Worth.{expands_one}
 use Rattle.mp_team_verdicts.proofs.Frames.{IsKnownWorld}
 use Rattle.mp_team_verdicts.specs.Quiet.{are_quiet, is_quiet}
 use Rattle.mp_team_verdicts.proofs.Calm.{Goes, Reached}
+use Rattle.mp_team_verdicts.proofs.Short.{sum_more}
 use Rattle.mp_team_verdicts.proofs.Reached.{all_pass, known, onward, reached_next, step_of}
 
 count : AgentRecord → ℕ
 count r = r.search.expansions
-
-same_by_get : {X : Type 0} (xs ys : List X) → ((k : ℕ) → slice_get xs k ≡ slice_get ys k) → xs ≡ ys
-same_by_get [] [] same = refl
-same_by_get [] (y ∷ ys) same = absurd (none-some y (same 0))
-same_by_get (x ∷ xs) [] same = absurd (none-some x (sym (same 0)))
-same_by_get (x ∷ xs) (y ∷ ys) same =
-    let first = same_Some x y (same 0) in
-    let rest = same_by_get xs ys (λ k. same (suc k)) in
-    λ j. first j ∷ rest j
-
-module _ (value : AgentTask → Numbers → Numbers → Option ℕ) (w next : World) (event : Event) (is : IsStepOf value w event next) where
-  agents_are : next.agents ≡ (with_agent w (agent_of event) is.step.after).agents
-  agents_are = same_by_get next.agents (with_agent w (agent_of event) is.step.after).agents (λ k. by k (cases_eq (suc k) (agent_of event)))
-    where
-      by : (k : ℕ) → (suc k ≡ agent_of event) ⊎ (suc k ≡ agent_of event → ⊥)
-          → agent_at next (suc k) ≡ agent_at (with_agent w (agent_of event) is.step.after) (suc k)
-      by k (inl same) =
-          ap (agent_at next) same ∙ is.after
-          ∙ sym (ap (agent_at (with_agent w (agent_of event) is.step.after)) same ∙ agent_at-same w (agent_of event) is.agent is.step.after is.there)
-      by k (inr other) = is.others (suc k) other ∙ sym (agent_at-other w (agent_of event) (suc k) is.agent is.step.after is.there other)
-
-  -- all agents together: what the event's agent expanded more
-  counts_more : expanded_by_all next + is.agent.search.expansions ≡ expanded_by_all w + is.step.after.search.expansions
-  counts_more =
-      ap (λ (rs : List AgentRecord). sum_by (λ r. r.search.expansions) rs + is.agent.search.expansions) agents_are ∙ by (agent_of event) is.there
-    where
-      by : (a : ℕ) → agent_at w a ≡ Some is.agent
-          → sum_by (λ r. r.search.expansions) (slice_set w.agents (a - 1) is.step.after) + is.agent.search.expansions
-          ≡ sum_by (λ r. r.search.expansions) w.agents + is.step.after.search.expansions
-      by zero there = absurd (none-some is.agent there)
-      by (suc k) there =
-          let place : suc k - 1 ≡ k = omega arith in
-          let inside = slice_get_within w.agents k is.agent there in
-          let at : get_or w.agents (suc k - 1) is.agent ≡ is.agent =
-          ap (λ (i : ℕ). get_or w.agents i is.agent) place ∙ get_or_from_slice_get w.agents k is.agent is.agent there in
-          ap (λ (r : AgentRecord). sum_by (λ (x : AgentRecord). x.search.expansions) (slice_set w.agents (suc k - 1) is.step.after) + r.search.expansions) (sym at)
-          ∙ sum_by-set (λ (x : AgentRecord). x.search.expansions) w.agents (suc k - 1) is.step.after is.agent (omega arith)
 
 module _ (value : AgentTask → Numbers → Numbers → Option ℕ) (limit publics : ℕ) (tasks : List AgentTask)
     (agree : Agree tasks) (limits : All IsWithinLimits tasks) (most : limit ≤ 10000000)
@@ -126,7 +87,7 @@ module _ (value : AgentTask → Numbers → Numbers → Option ℕ) (limit publi
   pub expansion_counts : (w next : World) (agent : ℕ) → At w → IsStepOf value w (Expand agent) next
       → expanded_by_all next ≡ expanded_by_all w + 1
   expansion_counts w next agent at step =
-      let more = counts_more value w next (Expand agent) step in
+      let more = sum_more value w next (Expand agent) step (λ r. r.search.expansions) in
       let one = one_more w next agent at step in
       omega arith
 

@@ -1,5 +1,5 @@
 -- How many entries an agent has expanded after some events, and that fewer of these come before a cut.
-use Rattle.std.proofs.Common.{◌≡◌, ◌≢◌, ℕ, ◌+◌, ◌≤◌, ◌⊎◌, Bool, true, false, List, [], ◌∷◌, ◌++◌, Option, Some, None, All, refl, sym, ap, subst, ◌∙◌, arith, inl, inr}
+use Rattle.std.proofs.Common.{◌≡◌, ◌≢◌, ℕ, ◌+◌, ◌≤◌, ◌⊎◌, Bool, true, false, List, [], ◌∷◌, ◌++◌, Option, Some, None, All, refl, sym, ap, ◌∙◌, arith, inl, inr}
 use Rattle.std.specs.Prelude.{Ok, ◌==◌, if◌then◌else◌, slice_get}
 use Rattle.std.specs.Option.{option_map_or}
 use Rattle.std.proofs.lemmas.Bool.{and_parts, cases_eq, eq-eqb, ne_eqb}
@@ -10,28 +10,25 @@ use Rattle.mp_task.specs.AgentTask.{AgentTask}
 use Rattle.mp_task.specs.Limits.{IsWithinLimits}
 use Rattle.mp_messages.specs.declared.history.Event.{Event}
 use Rattle.mp_messages.specs.declared.history.Event.TheVariants.{Expand, Take, Start}
-use Rattle.mp_messages.specs.declared.message.Message.{Message}
-use Rattle.mp_messages.specs.declared.message.Message.TheVariants as kinds
-use Rattle.mp_messages.specs.declared.message.State.{State}
 use Rattle.mp_store.specs.declared.entry.Entry.{Entry}
 use Rattle.mp_search.specs.declared.answer.Sending.{Sending}
 use Rattle.mp_search.specs.AgentState.{AgentState}
 use Rattle.mp_search.specs.Expansion.{expanded, expanded_entry}
 use Rattle.mp_search.specs.Search.{SearchRecord, is_open_below, may_expand}
 use Rattle.mp_machine.specs.AgentRecord.{AgentRecord, is_going}
-use Rattle.mp_machine.specs.LocalStep.{with_search}
+use Rattle.mp_machine.specs.declared.event.Local.{Local}
+use Rattle.mp_machine.specs.declared.event.Local.TheVariants as locals
+use Rattle.mp_machine.specs.LocalStep.{local, with_search}
 use Rattle.mp_machine.specs.Outgoing.{Step}
-use Rattle.mp_machine.specs.Snapshots.{started}
-use Rattle.mp_machine.specs.Taking.{took_message, took_state, with_state}
+use Rattle.mp_machine.specs.Taking.{with_state}
 use Rattle.mp_world.specs.Events.{after_event, agent_of, run, taken}
 use Rattle.mp_world.specs.Steps.{IsStepOf}
 use Rattle.mp_world.specs.World.{World, agent_at}
 use Rattle.mp_world.proofs.Runs.{run_has_history}
 use Rattle.mp_team_snapshots.specs.Cut.{cut_from, is_before_cut, kept_event}
 use Rattle.mp_team_states.proofs.Worth.{IsWorth, worth}
-use Rattle.mp_team_states.proofs.Quiet.{IsOther, IsQuiet, quiet_message, quiet_started}
 use Rattle.mp_team_states.proofs.StartReached.{task_is}
-use Rattle.mp_team_states.proofs.WorldsGrow.{state_or_other, state_taken, taking}
+use Rattle.mp_team_states.proofs.WorldsGrow.{search_holds}
 
 -- ---- how many of some events are expansions of an agent
 
@@ -78,19 +75,16 @@ pub record HasDone (more : ℕ) (r : AgentRecord) (s : Step) : Type 0 where
   pub limit : s.after.limit ≡ r.limit
   pub count : s.after.search.expansions ≡ r.search.expansions + more
 
-quiet_done : (r : AgentRecord) (s : Step) → IsQuiet r.task r.limit r.search s → HasDone 0 r s
-quiet_done r s quiet = record { limit = quiet.limit_is; count = let same = ap (λ (x : SearchRecord). x.expansions) quiet.search_is in omega arith }
-
-take_done : (value : Numbers → Numbers → Option ℕ) (r : AgentRecord) (s : Step) (from : ℕ) (m : Message) → took_message value r from m ≡ Ok s → HasDone 0 r s
+-- any other event leaves them
+other_done : (value : Numbers → Numbers → Option ℕ) (r : AgentRecord) (event : Local) (bytes : List ℕ) → event ≢ locals.Expand
+    → (s : Step) → local value r event bytes ≡ Ok s → HasDone 0 r s
 unfolding with_state
-take_done value r s from m is = by (state_or_other m)
-  where
-    by : ((x : State) × (m ≡ kinds.State x)) ⊎ IsOther m → HasDone 0 r s
-    by (inl state) =
-        let x = state.0 in
-        let took : took_state value r from x ≡ Ok s = subst (λ (m : Message). took_message value r from m ≡ Ok s) state.1 is in
-        subst (HasDone 0 r) (state_taken value r from x s took) (record { limit = refl; count = omega arith })
-    by (inr other) = quiet_done r s (quiet_message r s value from m other is)
+other_done value r event bytes other =
+    search_holds value r event bytes (HasDone 0 r) (record {
+      expands = λ at. absurd (other at);
+      receives = λ from m at reads. record { limit = refl; count = omega arith };
+      quiet = λ s quiet. record { limit = quiet.limit_is; count = let same = ap (λ (x : SearchRecord). x.expansions) quiet.search_is in omega arith };
+    })
 
 entry_counts : (t : AgentTask) (value : Numbers → Numbers → Option ℕ) (n : ℕ) (e : Entry AgentState) (r : SearchRecord)
     → (expanded_entry t value n e r).1.expansions ≡ r.expansions + 1
@@ -124,13 +118,8 @@ module _ (value : AgentTask → Numbers → Numbers → Option ℕ) (w next : Wo
       let count = ap (λ (s : Step). s.after.search.expansions) (sym same) ∙ done.count in
       record { limit = ap (λ (s : Step). s.after.limit) (sym same) ∙ done.limit; count = omega arith }
   step_done (Take by from) is =
-      let r = is.agent in
-      let t = taking (value r.task) r from (taken w (Take by from)) is.step is.local in
-      take_done (value r.task) r is.step from t.message t.took
-  step_done Start is =
-      let r = is.agent in
-      let same : started r ≡ is.step = let done : Ok (started r) ≡ Ok is.step = is.local in cc in
-      subst (HasDone 0 r) same (quiet_done r (started r) (quiet_started r))
+      other_done (value is.agent.task) is.agent (locals.Take from) (taken w (Take by from)) (λ at. let impossible : ⊥ = cc in impossible) is.step is.local
+  step_done Start is = other_done (value is.agent.task) is.agent locals.Start [] (λ at. let impossible : ⊥ = cc in impossible) is.step is.local
 
   -- events of others are not counted
   not_by : (agent : ℕ) (event : Event) → agent ≢ agent_of event → is_by agent event ≡ 0

@@ -9,9 +9,10 @@ use Rattle.mp_search.specs.Search.{is_below_bound}
 use Rattle.mp_snapshot.specs.Minima.{least_of, lesser}
 use Rattle.mp_snapshot.specs.VerdictRule.{by_costs, first_from, is_cost, least_f, least_goal, lowest_agent, proved, spent_or_on, unproved, verdict_of}
 use Rattle.mp_snapshot.specs.declared.verdict.Verdict.TheVariants.{Proved, NoPlan, Spent, Continue}
+use Rattle.mp_world.proofs.LocalCases.{not_false}
 use Rattle.mp_team_snapshots.proofs.Leasts.{lesser_none}
 use Rattle.mp_team_verdicts.proofs.Least.{IsAtMost, least_at_most}
-use Rattle.mp_team_verdicts.proofs.Complete.{not_false, other_false}
+use Rattle.mp_team_verdicts.proofs.Complete.{other_false}
 
 -- Findings of an agent that may not expand: none of its open entries is worth it, or it is spent. No state was counted.
 pub record FoundNothingToDo (f : Findings) : Type 0 where

@@ -1,13 +1,10 @@
 -- The messages of the end among those that go out in a step.
 use Rattle.std.proofs.Common.{◌≡◌, ℕ, ◌≤◌, Bool, true, false, ◌&&◌, List, [], ◌∷◌, ◌++◌, refl, ap, ◌∙◌}
 use Rattle.std.specs.Prelude.{◌==◌, All, filter, if◌then◌else◌, not}
-use Rattle.std.specs.List.{flat_map, range_with_len}
+use Rattle.std.specs.List.{range_with_len}
 use Rattle.std.proofs.lemmas.Bool.{eq-eqb, eqb-true}
-use Rattle.std.proofs.lemmas.List.Elements.{All-append, All-cons, All-head, All-map, All-nil, All-tail, filter-append}
+use Rattle.std.proofs.lemmas.List.Elements.{All-head, All-tail, filter-append}
 use Rattle.mp_messages.specs.declared.message.Message.{Message}
-use Rattle.mp_messages.specs.declared.message.Message.TheVariants.{State}
-use Rattle.mp_search.specs.declared.answer.Sending.{Sending}
-use Rattle.mp_machine.specs.LocalStep.{outgoing_of}
 use Rattle.mp_machine.specs.Outgoing.{Outgoing, others, to_each, to_one}
 use Rattle.mp_team_snapshots.specs.Snapshots.{one_if_due}
 use Rattle.mp_team_snapshots.proofs.Due.{apart_bools}
@@ -18,8 +15,11 @@ abbrev pub ends_to : ℕ → List Outgoing → List Message
 ends_to to out = filter is_of_end (messages_to to out)
 
 -- no message of the end goes out
+abbrev pub IsNotOfEnd : Message → Type 0
+IsNotOfEnd m = is_of_end m ≡ false
+
 abbrev pub IsNoEnd : Outgoing → Type 0
-IsNoEnd x = is_of_end x.message ≡ false
+IsNoEnd x = IsNotOfEnd x.message
 
 abbrev pub HasNoEnds : List Outgoing → Type 0
 HasNoEnds out = All IsNoEnd out
@@ -38,20 +38,6 @@ ends_to-append to xs ys = ap (filter is_of_end) (messages_to-append to xs ys) �
 -- what goes out first does not count
 pub ends_behind : (to : ℕ) (xs ys : List Outgoing) → HasNoEnds xs → ends_to to (xs ++ ys) ≡ ends_to to ys
 ends_behind to xs ys first = ends_to-append to xs ys ∙ ap (λ ms. ms ++ ends_to to ys) (none_to xs first to)
-
-pub no_ends_append : (xs ys : List Outgoing) → HasNoEnds xs → HasNoEnds ys → HasNoEnds (xs ++ ys)
-no_ends_append xs ys first second = All-append IsNoEnd xs ys first second
-
-pub one_no_end : (agent : ℕ) (m : Message) → is_of_end m ≡ false → HasNoEnds (to_one agent m)
-one_no_end agent m other = All-cons IsNoEnd (record { to = agent; message = m }) [] other (All-nil IsNoEnd)
-
-pub each_no_end : (m : Message) → is_of_end m ≡ false → (agents : List ℕ) → HasNoEnds (to_each agents m)
-each_no_end m other agents = All-map IsNoEnd (λ agent. record { to = agent; message = m }) agents (λ k d h. other)
-
-pub states_no_end : (sendings : List Sending) → HasNoEnds (flat_map outgoing_of sendings)
-states_no_end [] = All-nil IsNoEnd
-states_no_end (s ∷ ss) =
-    no_ends_append (outgoing_of s) (flat_map outgoing_of ss) (each_no_end (State s.state) refl s.to) (states_no_end ss)
 
 -- ---- a message of the end goes out
 

@@ -1,5 +1,5 @@
 -- What a step of an agent does for the end of a search, unless it takes a message of the end.
-use Rattle.std.proofs.Common.{◌≡◌, ◌≢◌, ℕ, ◌+◌, ◌-◌, ◌≤◌, Bool, true, false, ◌&&◌, List, [], length, take, Option, Some, None, refl, ap, ◌∙◌, arith}
+use Rattle.std.proofs.Common.{◌≡◌, ◌≢◌, ℕ, ◌+◌, ◌-◌, ◌≤◌, Bool, true, false, ◌&&◌, List, [], ◌∷◌, length, take, Option, Some, None, refl, ap, ◌∙◌, arith}
 use Rattle.std.specs.Prelude.{if◌then◌else◌, nat_lt}
 use Rattle.std.proofs.lemmas.List.{get_or-set_same}
 use Rattle.std.proofs.lemmas.List.Elements.{All-nil}
@@ -12,7 +12,7 @@ use Rattle.mp_search.specs.Search.{SearchRecord, bound}
 use Rattle.mp_snapshot.specs.declared.verdict.Verdict.{Verdict}
 use Rattle.mp_snapshot.specs.Minima.{lesser}
 use Rattle.mp_snapshot.specs.Notes.{Notes}
-use Rattle.mp_snapshot.specs.Rules.{after_state, begun, is_complete, is_counted, is_under_way, nothing, own, verdict, with_state as counted_with}
+use Rattle.mp_snapshot.specs.Rules.{after_state, begun, is_complete, is_under_way, nothing, own, verdict, with_state as counted_with}
 use Rattle.mp_snapshot.specs.VerdictRule.{verdict_of}
 use Rattle.mp_machine.specs.AgentRecord.{AgentRecord, given_verdict}
 use Rattle.mp_machine.specs.LocalStep.{may_start, with_search}
@@ -23,8 +23,9 @@ use Rattle.mp_machine.specs.Verdicts.{is_deciding}
 use Rattle.mp_machine.specs.WalkingBack.{walked, walked_from_goal}
 use Rattle.mp_machine.proofs.NotesLemmas.{given_at_first, own_begun, under_way_none}
 use Rattle.mp_machine.proofs.StepLemmas.{start_parts}
-use Rattle.mp_world.proofs.LocalCases.{ActingCases, either_holds, from_goal_holds, judged_holds, walked_holds}
-use Rattle.mp_team_verdicts.proofs.EndMessages.{HasNoEnds, IsNoEnd, each_no_end, no_ends_append, one_no_end, states_no_end}
+use Rattle.mp_world.proofs.LocalCases.{ActingCases, both_such, each_such, either_holds, from_goal_holds, judged_holds, states_such, walked_holds}
+use Rattle.mp_team_verdicts.proofs.CountedStates.{counted_has}
+use Rattle.mp_team_verdicts.proofs.EndMessages.{HasNoEnds, IsNoEnd, IsNotOfEnd}
 
 -- ---- what stays as it was
 
@@ -57,30 +58,25 @@ pub record HasPlace (s : Notes) : Type 0 where
 -- ---- an expansion, and a state that is taken
 
 pub expansion_calm : (r : AgentRecord) (made : List Sending × SearchRecord) → IsCalm r (with_search r made)
-expansion_calm r made = record { trail = refl; picked = refl; ending = refl; share = refl; task = refl; out = states_no_end made.0 }
+expansion_calm r made = record { trail = refl; picked = refl; ending = refl; share = refl; task = refl; out = states_such IsNotOfEnd (λ m. refl) made.0 }
 
 pub counted_goal : (s : Notes) (from f : ℕ) → HasPlace s → (own (after_state s from f)).goal ≡ (own s).goal
-counted_goal s from f place = by (is_counted s from)
-  where
-    by : (b : Bool) → (own (if b then counted_with s f else s)).goal ≡ (own s).goal
-    by true =
-        let low = place.low in
-        let high = place.high in
-        let many = place.many in
-        ap (λ (x : Findings). x.goal) (get_or-set_same s.found (s.me - 1) (record (own s) { under_way = lesser (own s).under_way (Some f) }) nothing (omega arith))
-    by false = refl
+counted_goal s from f place =
+    let low = place.low in
+    let high = place.high in
+    let many = place.many in
+    counted_has (λ t. (own t).goal ≡ (own s).goal) s from f refl
+    (ap (λ (x : Findings). x.goal) (get_or-set_same s.found (s.me - 1) (record (own s) { under_way = lesser (own s).under_way (Some f) }) nothing (omega arith)))
 
 -- a state that counts comes while the snapshot is under way
 pub counted_none : (s : Notes) (from f : ℕ) → verdict s ≡ None → verdict (after_state s from f) ≡ None
-counted_none s from f none = by (is_counted s from)
+counted_none s from f none =
+    counted_has (λ t. verdict t ≡ None) s from f none
+    (kept (nat_lt 0 s.number && is_complete s) (verdict_of (take s.agents s.found)) (verdict_of (take s.agents (counted_with s f).found)) none)
   where
     kept : (b : Bool) (found more : Verdict) → (if b then Some found else None) ≡ None → (if b then Some more else None) ≡ None
     kept true found more is = absurd (let impossible : ⊥ = cc in impossible)
     kept false found more is = refl
-
-    by : (b : Bool) → verdict (if b then counted_with s f else s) ≡ None
-    by true = kept (nat_lt 0 s.number && is_complete s) (verdict_of (take s.agents s.found)) (verdict_of (take s.agents (counted_with s f).found)) none
-    by false = none
 
 module _ (value : Numbers → Numbers → Option ℕ) where
   pub state_calm : (r : AgentRecord) (from : ℕ) (m : State) → IsCalm r (without_messages (with_state value r from m))
@@ -170,7 +166,7 @@ start_judged r may =
     let parts = start_parts r may in
     let m = Marker (r.snapshot.number + 1) in
     gives r (begun r.snapshot (r.snapshot.number + 1) (findings r)) (length r.search.kept.entries) (goal_entry r.search.kept) (to_others r.task m) (started r)
-    (each_no_end m refl (others r.task.me r.task.agents)) parts.first parts.undecided refl
+    (each_such IsNotOfEnd m refl (others r.task.me r.task.agents)) parts.first parts.undecided refl
 
 -- ---- another agent has other notes
 
@@ -185,7 +181,7 @@ noted_calm r notes noted goal other =
       ending = refl;
       share = refl;
       task = refl;
-      out = one_no_end 1 (Report (own notes)) refl;
+      out = each_such IsNotOfEnd (Report (own notes)) refl (1 ∷ []);
     })
     (λ other waits. record { trail = refl; picked = refl; ending = refl; share = refl; task = refl; out = All-nil IsNoEnd })
 
@@ -197,7 +193,7 @@ told_calm r number s calm = record {
   ending = calm.ending;
   share = calm.share;
   task = calm.task;
-  out = no_ends_append (to_others r.task (Marker number)) s.out (each_no_end (Marker number) refl (others r.task.me r.task.agents)) calm.out;
+  out = both_such IsNotOfEnd (to_others r.task (Marker number)) s.out (each_such IsNotOfEnd (Marker number) refl (others r.task.me r.task.agents)) calm.out;
 }
 
 -- ---- the goal that is noted

@@ -1,10 +1,9 @@
 -- In every world that a legal schedule leads to, agents keep few entries, and paths are short.
-use Rattle.std.proofs.Common.{◌≡◌, ℕ, ◌≤◌, ◌<◌, ◌^◌, ◌-◌, ◌⊎◌, List, [], ◌∷◌, get_or, suc, Option, Some, All, refl, sym, ap, subst, ◌∙◌, arith, inl, inr}
+use Rattle.std.proofs.Common.{◌≡◌, ℕ, ◌≤◌, ◌<◌, ◌^◌, ◌-◌, List, [], ◌∷◌, get_or, suc, Option, Some, All, refl, sym, ap, subst, arith}
 use Rattle.std.specs.Prelude.{slice_get}
 use Rattle.std.specs.List.{sum_by}
-use Rattle.std.proofs.lemmas.Bool.{cases_eq}
 use Rattle.std.proofs.lemmas.List.Sums.{sum_by-le}
-use Rattle.std.proofs.lemmas.Option.{same_Some, slice_get-get_or}
+use Rattle.std.proofs.lemmas.Option.{slice_get-get_or}
 use Rattle.mp_sets.specs.Numbers.{Numbers}
 use Rattle.mp_task.specs.Agree.{Agree}
 use Rattle.mp_task.specs.AgentTask.{AgentTask}
@@ -26,6 +25,7 @@ use Rattle.mp_team_states.proofs.StartReached.{start_reaches, task_is}
 use Rattle.mp_team_states.proofs.StartSound.{start_states_sound}
 use Rattle.mp_team_states.proofs.StepsSound.{limits_of, states_stay_sound}
 use Rattle.mp_team_verdicts.specs.Few.{ArePathsShort, KeepFew, entries_of, kept_by_all}
+use Rattle.mp_team_verdicts.proofs.EachAgent.{each_agent}
 use Rattle.mp_team_verdicts.proofs.OneEntry.{few_agents, few_entries}
 use Rattle.mp_team_verdicts.proofs.OwnEntries.{HasFewOwn, local_own, offered_count}
 use Rattle.mp_team_verdicts.proofs.Short.{event_short, start_short}
@@ -43,15 +43,11 @@ pub record HoldsSoFar (tasks : List AgentTask) (w : World) : Type 0 where
 
 module _ (tasks : List AgentTask) (agree : Agree tasks) (limits : All IsWithinLimits tasks) where
   own_next : (value : AgentTask → Numbers → Numbers → Option ℕ) (w : World) (event : Event) (next : World) → IsTeamWorld tasks w → IsStepOf value w event next → HaveFewOwn w → HaveFewOwn next
-  own_next value w event next team is old agent r there = by (cases_eq agent (agent_of event))
-    where
-      by : (agent ≡ agent_of event) ⊎ (agent ≡ agent_of event → ⊥) → HasFewOwn r
-      by (inl same) =
-          let one : is.step.after ≡ r = same_Some is.step.after r (sym is.after ∙ sym (ap (agent_at next) same) ∙ there) in
-          let fit = limits_of tasks agree limits w team (agent_of event) is.agent is.there in
-          subst HasFewOwn one
-          (local_own (value is.agent.task) is.agent is.step (old (agent_of event) is.agent is.there) (local_of event) (taken w event) fit.number_of_acts is.local)
-      by (inr other) = old agent r (sym (is.others agent other) ∙ there)
+  own_next value w event next team is old =
+      let fit = limits_of tasks agree limits w team (agent_of event) is.agent is.there in
+      each_agent value w event next is (λ agent r. HasFewOwn r)
+      (local_own (value is.agent.task) is.agent is.step (old (agent_of event) is.agent is.there) (local_of event) (taken w event) fit.number_of_acts is.local)
+      (λ agent r there other. old agent r there)
 
   module _ (w : World) (team : IsTeamWorld tasks w) (holds : HoldsSoFar tasks w) where
     pub keeps_few : KeepFew w

@@ -2,7 +2,7 @@
 use Rattle.std.proofs.Common.{◌≡◌, ℕ, ◌<◌, ◌^◌, Bool, true, false, List, [], ◌∷◌, ◌++◌, length, map, drop, get_or, Option, Some, All, refl, sym, ap, subst, ◌∙◌, ◌⊎◌, inl, inr}
 use Rattle.std.specs.Prelude.{◌==◌, filter, if◌then◌else◌}
 use Rattle.std.specs.List.{filter_map}
-use Rattle.std.proofs.lemmas.List.Elements.{All-append, All-filter, All-head, All-map, All-nil, All-tail, All-weaker, Contains-get_or, filter-append, filter_map-append}
+use Rattle.std.proofs.lemmas.List.Elements.{All-append, All-filter, All-head, All-map, All-nil, All-tail, All-weaker, filter-append, filter_map-append}
 use Rattle.mp_sets.specs.Numbers.{Numbers}
 use Rattle.mp_task.specs.Agree.{Agree}
 use Rattle.mp_task.specs.AgentTask.{AgentTask}
@@ -16,13 +16,11 @@ use Rattle.mp_messages.specs.Spelling.{Fits, IsSpelling, spelling}
 use Rattle.mp_messages.proofs.Messages.{all_again}
 use Rattle.mp_store.specs.Record.{Record}
 use Rattle.mp_search.specs.AgentState.{AgentState}
-use Rattle.mp_machine.specs.declared.event.Local.TheVariants as locals
 use Rattle.mp_machine.specs.declared.outgoing.Out.{Out}
 use Rattle.mp_machine.specs.Outgoing.{Outgoing, in_bytes}
-use Rattle.mp_world.specs.Events.{agent_of, local_of, sent_in, taken, without_taken}
+use Rattle.mp_world.specs.Events.{agent_of, sent_in, without_taken}
 use Rattle.mp_world.specs.Steps.{IsStepOf, sent_to}
 use Rattle.mp_world.specs.World.{IsAgent, IsTeamWorld, World, under_way}
-use Rattle.mp_world.proofs.Agents.{agent_there, agree_numbered, sender_of}
 use Rattle.mp_world.proofs.Mail.{under_way-other, under_way-same}
 use Rattle.mp_world.proofs.Stepping.{team_lists}
 use Rattle.mp_team_snapshots.specs.Messages.{messages}
@@ -33,8 +31,8 @@ use Rattle.mp_team_snapshots.proofs.Sendings.{messages_to}
 use Rattle.mp_team_snapshots.proofs.TakingFirst.{is_receiver, is_sender}
 use Rattle.mp_team_snapshots.proofs.Worlds.{is_agent_of, team_numbers}
 use Rattle.mp_team_states.specs.Sound.{AreStatesSound}
-use Rattle.mp_team_states.proofs.LocalStates.{GoesOut, IsSoundStep}
-use Rattle.mp_team_states.proofs.StepsSound.{IsKnown, agent_sound, at_me, bytes_known, limits_of, local_sound, not_none, task_at}
+use Rattle.mp_team_states.proofs.LocalStates.{GoesOut}
+use Rattle.mp_team_states.proofs.StepsSound.{step_sound}
 use Rattle.mp_team_verdicts.specs.Ending.{end_messages, is_of_end}
 use Rattle.mp_team_verdicts.proofs.EndMessages.{ends_to}
 
@@ -75,25 +73,10 @@ AllFit agents publics out = All (λ x. Fits agents publics x.message) out
 
 module _ (tasks : List AgentTask) (agree : Agree tasks) (limits : All IsWithinLimits tasks) (w : World) (team : IsTeamWorld tasks w) (sound : AreStatesSound tasks w)
     (value : AgentTask → Numbers → Numbers → Option ℕ) (next : World) where
-  step_sound : (event : Event) (is : IsStepOf value w event next) → IsSoundStep w is.agent.task is.step
-  step_sound event is =
-      local_sound w is.agent (limits_of tasks agree limits w team (agent_of event) is.agent is.there)
-      (agent_sound tasks agree limits w team sound (agent_of event) is.agent is.there) (at_me tasks agree limits w team (agent_of event) is.agent is.there)
-      (value is.agent.task) is.step (local_of event) (taken w event) is.may (λ from e. known event is from e) is.local
-    where
-      known : (event : Event) (is : IsStepOf value w event next) (from : ℕ) → local_of event ≡ locals.Take from → IsKnown w is.agent.task (taken w event)
-      known (Expand agent) is from e = absurd (let impossible : ⊥ = cc in impossible)
-      known Start is from e = absurd (let impossible : ⊥ = cc in impossible)
-      known (Take by a) is from e =
-          let sender = sender_of tasks (agree_numbered tasks agree) w team by a is.agent is.there is.may in
-          let other = agent_there w a sender.0 in
-          bytes_known tasks agree limits w team sound a by other.0.task is.agent (taken w (Take by a)) (task_at tasks agree limits w team a other.0 other.1) is.there
-          (Contains-get_or (under_way w a by) 0 [] (not_none (under_way w a by) is.message))
-
   pub step_fits : (event : Event) (is : IsStepOf value w event next) → All (λ x. HasRoom x.message) is.step.out → All (λ x. HasEndRoom x.message) is.step.out
       → AllFit is.agent.task.agents is.agent.task.publics is.step.out
   step_fits event is room end k d inside =
-      fits_by is.agent.task is.step.after.search.kept (get_or is.step.out k d) ((step_sound event is).out k d inside) (room k d inside) (end k d inside)
+      fits_by is.agent.task is.step.after.search.kept (get_or is.step.out k d) ((step_sound tasks agree limits w team sound value next event is).out k d inside) (room k d inside) (end k d inside)
 
 -- bytes are those of a message that fits
 pub record IsRead (agents publics : ℕ) (bytes : List ℕ) : Type 0 where
@@ -104,13 +87,13 @@ pub record IsRead (agents publics : ℕ) (bytes : List ℕ) : Type 0 where
 abbrev pub AreRead : ℕ → ℕ → World → Type 0
 AreRead agents publics w = (i j : ℕ) → IsOf agents i → IsOf agents j → All (IsRead agents publics) (under_way w i j)
 
-sent_fits : (agents publics to : ℕ) (out : List Outgoing) → AllFit agents publics out → All (IsRead agents publics) (sent_to to (map in_bytes out))
-sent_fits agents publics to out fits =
-    All-map (IsRead agents publics) (λ (x : Out). x.bytes) (filter (λ x. x.to == to) (map in_bytes out))
-    (All-filter (λ (x : Out). x.to == to) (λ (x : Out). IsRead agents publics x.bytes) (map in_bytes out)
-    (All-map (λ (x : Out). IsRead agents publics x.bytes) in_bytes out
-    (All-weaker (λ (x : Outgoing). Fits agents publics x.message) (λ (x : Outgoing). IsRead agents publics (spelling x.message))
-    (λ x fit. record { message = x.message; spelled = record { fits = fit; is = refl } }) out fits)))
+-- what holds of all messages that go out holds of those that are sent to an agent, as bytes
+pub sent_all : (Q : Outgoing → Type 0) (P : List ℕ → Type 0) → ((x : Outgoing) → Q x → P (spelling x.message)) → (to : ℕ) (out : List Outgoing)
+    → All Q out → All P (sent_to to (map in_bytes out))
+sent_all Q P each to out all =
+    All-map P (λ (x : Out). x.bytes) (filter (λ x. x.to == to) (map in_bytes out))
+    (All-filter (λ (x : Out). x.to == to) (λ (x : Out). P x.bytes) (map in_bytes out)
+    (All-map (λ (x : Out). P x.bytes) in_bytes out (All-weaker Q (λ (x : Outgoing). P (spelling x.message)) each out all)))
 
 -- what is read of them
 sent_read : (agents publics : ℕ) → publics < 2 ^ 32 → (to : ℕ) (out : List Outgoing) → AllFit agents publics out
@@ -132,6 +115,51 @@ sent_read agents publics small to (x ∷ xs) fits =
 drop_all : {X : Type 0} (P : X → Type 0) (xs : List X) → All P xs → All P (drop 1 xs)
 drop_all P [] all = all
 drop_all P (x ∷ xs) all = All-tail P x xs all
+
+module _ (value : AgentTask → Numbers → Numbers → Option ℕ) (publics : ℕ) (tasks : List AgentTask) (team : IsTeamOf publics tasks) (w : World)
+    (is : IsTeamWorld tasks w) (P : List ℕ → Type 0) where
+  in_team : (i : ℕ) → IsOf (length tasks) i → IsAgent w i
+  in_team = is_agent_of publics tasks team w (team_numbers publics tasks team w is)
+
+  -- what holds of all messages under way from one agent to another holds of those that are left
+  all_left : (event : Event) (next : World) → IsStepOf value w event next → (i j : ℕ) → IsOf (length tasks) i → IsOf (length tasks) j
+      → All P (under_way w i j) → All P (under_way (without_taken w event) i j)
+  all_left (Expand agent) next step i j is_i is_j all = all
+  all_left Start next step i j is_i is_j all = all
+  all_left (Take b a) next step i j is_i is_j all = by (pair i j a b)
+    where
+      is_a : IsOf (length tasks) a
+      is_a = is_sender value publics tasks team w is b a next step
+
+      is_b : IsOf (length tasks) b
+      is_b = is_receiver value publics tasks team w is b a next step
+
+      rest : List (List ℕ)
+      rest = drop 1 (under_way w a b)
+
+      by : ((i ≡ a) × (j ≡ b)) ⊎ ((i ≡ a → ⊥) ⊎ (j ≡ b → ⊥)) → All P (under_way (without_taken w (Take b a)) i j)
+      by (inl both) =
+          let before : All P (under_way w a b) = subst (λ (k : ℕ). All P (under_way w a k)) both.1 (subst (λ (k : ℕ). All P (under_way w k j)) both.0 all) in
+          let this : All P (under_way (without_taken w (Take b a)) a b) =
+          subst (λ (ms : List (List ℕ)). All P ms) (sym (under_way-same w (team_lists tasks w is) a b rest (in_team a is_a) (in_team b is_b)))
+          (drop_all P (under_way w a b) before) in
+          subst (λ (k : ℕ). All P (under_way (without_taken w (Take b a)) k j)) (sym both.0)
+          (subst (λ (k : ℕ). All P (under_way (without_taken w (Take b a)) a k)) (sym both.1) this)
+      by (inr other) =
+          subst (λ (ms : List (List ℕ)). All P ms)
+          (sym (under_way-other w (team_lists tasks w is) a b i j rest (in_team a is_a) (in_team b is_b) (in_team i is_i) (in_team j is_j) other)) all
+
+  -- and so it goes on where it holds of those that are sent
+  pub all_next : (event : Event) (next : World) (step : IsStepOf value w event next) (i j : ℕ) → IsOf (length tasks) i → IsOf (length tasks) j
+      → All P (sent_to j (sent_in step.step)) → All P (under_way w i j) → All P (under_way next i j)
+  all_next event next step i j is_i is_j sent all =
+      subst (λ (ms : List (List ℕ)). All P ms) (sym (step.mail i j (in_team i is_i) (in_team j is_j)))
+      (All-append P (under_way (without_taken w event) i j) (if i == agent_of event then sent_to j (sent_in step.step) else [])
+      (all_left event next step i j is_i is_j all) (by (i == agent_of event)))
+    where
+      by : (b : Bool) → All P (if b then sent_to j (sent_in step.step) else [])
+      by true = sent
+      by false = All-nil P
 
 module _ (value : AgentTask → Numbers → Numbers → Option ℕ) (publics : ℕ) (tasks : List AgentTask) (team : IsTeamOf publics tasks) (w : World)
     (is : IsTeamWorld tasks w) (event : Event) (next : World) (step : IsStepOf value w event next) (fits : AllFit (length tasks) publics step.step.out) where
@@ -163,45 +191,8 @@ module _ (value : AgentTask → Numbers → Numbers → Option ℕ) (publics : �
       by true = refl
       by false = refl
 
-  left_read : AreRead (length tasks) publics w → (e : Event) → e ≡ event → (i j : ℕ) → IsOf (length tasks) i → IsOf (length tasks) j
-      → All (IsRead (length tasks) publics) (under_way (without_taken w e) i j)
-  left_read old (Expand agent) same i j is_i is_j = old i j is_i is_j
-  left_read old Start same i j is_i is_j = old i j is_i is_j
-  left_read old (Take b a) same i j is_i is_j = by (pair i j a b)
-    where
-      now : IsStepOf value w (Take b a) next
-      now = subst (λ (e : Event). IsStepOf value w e next) (sym same) step
-
-      is_a : IsOf (length tasks) a
-      is_a = is_sender value publics tasks team w is b a next now
-
-      is_b : IsOf (length tasks) b
-      is_b = is_receiver value publics tasks team w is b a next now
-
-      less : World
-      less = without_taken w (Take b a)
-
-      this : All (IsRead (length tasks) publics) (under_way (without_taken w (Take b a)) a b)
-      this =
-          subst (λ (ms : List (List ℕ)). All (IsRead (length tasks) publics) ms)
-          (sym (under_way-same w (team_lists tasks w is) a b (drop 1 (under_way w a b)) (agent_of_number a is_a) (agent_of_number b is_b)))
-          (drop_all (IsRead (length tasks) publics) (under_way w a b) (old a b is_a is_b))
-
-      by : ((i ≡ a) × (j ≡ b)) ⊎ ((i ≡ a → ⊥) ⊎ (j ≡ b → ⊥)) → All (IsRead (length tasks) publics) (under_way (without_taken w (Take b a)) i j)
-      by (inl both) =
-          subst (λ (k : ℕ). All (IsRead (length tasks) publics) (under_way (without_taken w (Take b a)) k j)) (sym both.0)
-          (subst (λ (k : ℕ). All (IsRead (length tasks) publics) (under_way (without_taken w (Take b a)) a k)) (sym both.1) this)
-      by (inr other) =
-          subst (λ (ms : List (List ℕ)). All (IsRead (length tasks) publics) ms)
-          (sym (under_way-other w (team_lists tasks w is) a b i j (drop 1 (under_way w a b)) (agent_of_number a is_a) (agent_of_number b is_b) (agent_of_number i is_i) (agent_of_number j is_j) other))
-          (old i j is_i is_j)
-
   pub read_next : AreRead (length tasks) publics w → AreRead (length tasks) publics next
   read_next old i j is_i is_j =
-      subst (λ (ms : List (List ℕ)). All (IsRead (length tasks) publics) ms) (sym (step.mail i j (agent_of_number i is_i) (agent_of_number j is_j)))
-      (All-append (IsRead (length tasks) publics) (under_way (without_taken w event) i j) (if i == agent_of event then sent_to j (sent_in step.step) else [])
-      (left_read old event refl i j is_i is_j) (by (i == agent_of event)))
-    where
-      by : (b : Bool) → All (IsRead (length tasks) publics) (if b then sent_to j (sent_in step.step) else [])
-      by true = sent_fits (length tasks) publics j step.step.out fits
-      by false = All-nil (IsRead (length tasks) publics)
+      all_next value publics tasks team w is (IsRead (length tasks) publics) event next step i j is_i is_j
+      (sent_all (λ (x : Outgoing). Fits (length tasks) publics x.message) (IsRead (length tasks) publics)
+      (λ x fit. record { message = x.message; spelled = record { fits = fit; is = refl } }) j step.step.out fits) (old i j is_i is_j)

@@ -1,15 +1,12 @@
 -- An entry is marked as a goal exactly where its state is one.
 use Rattle.std.proofs.Common.{◌≡◌, ℕ, ◌≤◌, ◌⊎◌, List, [], Option, Some, All, sym, ap, subst, ◌∙◌, inl, inr}
 use Rattle.std.specs.Prelude.{Ok, slice_get}
-use Rattle.std.proofs.lemmas.Bool.{cases_eq}
-use Rattle.std.proofs.lemmas.Option.{none-some, same_Some}
+use Rattle.std.proofs.lemmas.Option.{none-some}
 use Rattle.mp_sets.specs.Numbers.{Numbers}
 use Rattle.mp_task.specs.Agree.{Agree}
 use Rattle.mp_task.specs.AgentTask.{AgentTask}
 use Rattle.mp_task.specs.Limits.{IsWithinLimits}
 use Rattle.mp_messages.specs.declared.history.Event.{Event}
-use Rattle.mp_messages.specs.declared.message.Message.{Message}
-use Rattle.mp_messages.specs.declared.message.Message.TheVariants as kinds
 use Rattle.mp_messages.specs.declared.message.State.{State}
 use Rattle.mp_store.specs.declared.entry.Entry.{Entry}
 use Rattle.mp_store.specs.declared.entry.Origin.{Origin}
@@ -20,12 +17,10 @@ use Rattle.mp_search.specs.Offering.{start_record}
 use Rattle.mp_search.specs.Receipt.{received}
 use Rattle.mp_search.specs.Search.{SearchRecord}
 use Rattle.mp_machine.specs.declared.event.Local.{Local}
-use Rattle.mp_machine.specs.declared.event.Local.TheVariants as locals
 use Rattle.mp_machine.specs.AgentRecord.{AgentRecord}
-use Rattle.mp_machine.specs.LocalStep.{local, with_search}
+use Rattle.mp_machine.specs.LocalStep.{local}
 use Rattle.mp_machine.specs.Outgoing.{Step}
-use Rattle.mp_machine.specs.Snapshots.{started}
-use Rattle.mp_machine.specs.Taking.{took_message, took_state, with_state}
+use Rattle.mp_machine.specs.Taking.{with_state}
 use Rattle.mp_world.specs.Events.{agent_of, local_of, run, taken}
 use Rattle.mp_world.specs.Steps.{IsStepOf}
 use Rattle.mp_world.specs.World.{World, agent_at, start_world}
@@ -33,9 +28,9 @@ use Rattle.mp_world.proofs.Runs.{run_has}
 use Rattle.mp_team_states.specs.Growing.{IsAlike}
 use Rattle.mp_team_states.proofs.Entries.{IsNew, IsOld, changes_entry}
 use Rattle.mp_team_states.proofs.Expanding.{IsEntryOf, IsFirst, IsReceived, Led, expanded_changes, received_changes, start_changes}
-use Rattle.mp_team_states.proofs.Quiet.{IsOther, IsQuiet, quiet_message, quiet_started}
 use Rattle.mp_team_states.proofs.StartReached.{task_is}
-use Rattle.mp_team_states.proofs.WorldsGrow.{state_or_other, state_taken, taking}
+use Rattle.mp_team_states.proofs.WorldsGrow.{search_holds}
+use Rattle.mp_team_verdicts.proofs.EachAgent.{each_agent}
 
 -- the mark of an entry says whether its state is a goal
 abbrev pub IsFlagged : AgentTask → Entry AgentState → Type 0
@@ -79,33 +74,17 @@ module _ (t : AgentTask) (value : Numbers → Numbers → Option ℕ) where
 abbrev pub HasFlags : AgentRecord → Type 0
 HasFlags r = AreFlagged r.task r.search.kept
 
-module _ (value : Numbers → Numbers → Option ℕ) (r : AgentRecord) (s : Step) (old : HasFlags r) where
-  quiet_flags : IsQuiet r.task r.limit r.search s → HasFlags s.after
-  quiet_flags quiet =
-      subst (λ (t : AgentTask). AreFlagged t s.after.search.kept) (sym quiet.task) (subst (λ (x : SearchRecord). AreFlagged r.task x.kept) (sym quiet.search_is) old)
-
-  take_flags : (from : ℕ) (m : Message) → took_message value r from m ≡ Ok s → HasFlags s.after
-  unfolding with_state
-  take_flags from m is = by (state_or_other m)
-    where
-      by : ((x : State) × (m ≡ kinds.State x)) ⊎ IsOther m → HasFlags s.after
-      by (inl state) =
-          let x = state.0 in
-          let took : took_state value r from x ≡ Ok s = subst (λ (m : Message). took_message value r from m ≡ Ok s) state.1 is in
-          subst (λ (s : Step). HasFlags s.after) (state_taken value r from x s took) (received_flagged r.task value from x r.search.kept old)
-      by (inr other) = quiet_flags (quiet_message r s value from m other is)
-
-  local_flags : (event : Local) (bytes : List ℕ) → local value r event bytes ≡ Ok s → HasFlags s.after
-  local_flags locals.Expand bytes is =
-      let d = expanded r.task value r.search in
-      let same : with_search r d ≡ s = cc in
-      subst (λ (s : Step). HasFlags s.after) same (expanded_flagged r.task value r.search old)
-  local_flags (locals.Take from) bytes is =
-      let t = taking value r from bytes s is in
-      take_flags from t.message t.took
-  local_flags locals.Start bytes is =
-      let same : started r ≡ s = cc in
-      quiet_flags (subst (IsQuiet r.task r.limit r.search) same (quiet_started r))
+local_flags : (value : Numbers → Numbers → Option ℕ) (r : AgentRecord) → HasFlags r → (event : Local) (bytes : List ℕ) (s : Step)
+    → local value r event bytes ≡ Ok s → HasFlags s.after
+unfolding with_state
+local_flags value r old event bytes =
+    search_holds value r event bytes (λ (s : Step). HasFlags s.after) (record {
+      expands = λ at. expanded_flagged r.task value r.search old;
+      receives = λ from m at reads. received_flagged r.task value from m r.search.kept old;
+      quiet = λ s quiet.
+          subst (λ (t : AgentTask). AreFlagged t s.after.search.kept) (sym quiet.task)
+          (subst (λ (x : SearchRecord). AreFlagged r.task x.kept) (sym quiet.search_is) old);
+    })
 
 -- ---- in all runs
 
@@ -120,13 +99,10 @@ module _ (value : AgentTask → Numbers → Numbers → Option ℕ) (limit : ℕ
       subst HasFlags (sym of.2) (start_flagged of.0 (value of.0))
 
   event_flags : (w : World) (event : Event) (next : World) → HaveFlags w → IsStepOf value w event next → HaveFlags next
-  event_flags w event next old is i r there = by (cases_eq i (agent_of event))
-    where
-      by : (i ≡ agent_of event) ⊎ (i ≡ agent_of event → ⊥) → HasFlags r
-      by (inl same) =
-          let one : is.step.after ≡ r = same_Some is.step.after r (sym is.after ∙ sym (ap (agent_at next) same) ∙ there) in
-          subst HasFlags one (local_flags (value is.agent.task) is.agent is.step (old (agent_of event) is.agent is.there) (local_of event) (taken w event) is.local)
-      by (inr other) = old i r (sym (is.others i other) ∙ there)
+  event_flags w event next old is =
+      each_agent value w event next is (λ i r. HasFlags r)
+      (local_flags (value is.agent.task) is.agent (old (agent_of event) is.agent is.there) (local_of event) (taken w event) is.step is.local)
+      (λ i r there other. old i r there)
 
   pub flags_in_runs : (schedule : List Event) (w : World) → run value limit tasks schedule ≡ Some w → HaveFlags w
   flags_in_runs = run_has value limit tasks HaveFlags start_flags (λ w event next team old is. event_flags w event next old is)

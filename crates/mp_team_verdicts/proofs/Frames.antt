@@ -44,18 +44,6 @@ NotesItsGoal r = IfSome (own r.snapshot).goal (λ cost. (number : ℕ) × HasGoa
 
 module _ (value : AgentTask → Numbers → Numbers → Option ℕ) (publics : ℕ) (tasks : List AgentTask) (team : IsTeamOf publics tasks) (w : World)
     (is : IsTeamWorld tasks w) (event : Event) (next : World) (step : IsStepOf value w event next) where
-  -- the agent of the event is the agent after the step, and each other one is as it was
-  pub each_next : (P : ℕ → AgentRecord → Type 0) → P (agent_of event) step.step.after
-      → ((i : ℕ) (r : AgentRecord) → agent_at w i ≡ Some r → i ≢ agent_of event → P i r)
-      → (i : ℕ) (r : AgentRecord) → agent_at next i ≡ Some r → P i r
-  each_next P here others i r there = by (cases_eq i (agent_of event))
-    where
-      by : (i ≡ agent_of event) ⊎ (i ≡ agent_of event → ⊥) → P i r
-      by (inl same) =
-          let one : step.step.after ≡ r = same_Some step.step.after r (sym step.after ∙ sym (ap (agent_at next) same) ∙ there) in
-          subst (λ (k : ℕ). P k r) (sym same) (subst (P (agent_of event)) one here)
-      by (inr other) = others i r (sym (step.others i other) ∙ there) other
-
   pub of_next : (i : ℕ) (r : AgentRecord) → agent_at next i ≡ Some r → IsOf (length tasks) i
   of_next i r there = is_of_there publics tasks team next (numbers_next value publics tasks team w is event next step) i r there
 

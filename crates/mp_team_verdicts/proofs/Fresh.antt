@@ -37,7 +37,7 @@ use Rattle.mp_team_snapshots.proofs.Started.{is_over_of}
 use Rattle.mp_team_snapshots.proofs.TakingFirst.{apart, is_receiver, is_sender}
 use Rattle.mp_team_snapshots.proofs.Worlds.{team_numbers}
 use Rattle.mp_team_states.proofs.Quiet.{IsOther}
-use Rattle.mp_team_verdicts.proofs.Frames.{each_next}
+use Rattle.mp_team_verdicts.proofs.EachAgent.{each_agent}
 use Rattle.mp_team_snapshots.proofs.Taken.{is_its, its_notes}
 use Rattle.mp_team_verdicts.specs.Quiet.{is_quiet}
 use Rattle.mp_team_verdicts.proofs.Decides.{FoundNothingToDo, decides}
@@ -141,7 +141,7 @@ module _ (value : AgentTask → Numbers → Numbers → Option ℕ) (publics : �
     silent_next = record {
       no_states = λ i j is_i is_j off.
           none_next value publics tasks team w is event next step quiet i j is_i is_j (silent.no_states i j is_i is_j off);
-      idle = each_next value publics tasks team w is event next step (λ i r. may_expand r.limit r.search ≡ false)
+      idle = each_agent value w event next step (λ i r. may_expand r.limit r.search ≡ false)
           ((λ k. may_expand (kept.1 k) (kept.0 k)) ∙ silent.idle (agent_of event) step.agent step.there)
           (λ i r there off. silent.idle i r there);
     }
@@ -149,7 +149,7 @@ module _ (value : AgentTask → Numbers → Numbers → Option ℕ) (publics : �
     pub fresh_next : (k : ℕ) → AreFresh k w → AreFresh k next
     fresh_next k fresh =
         let move = moved value publics tasks team w is event next step in
-        each_next value publics tasks team w is event next step (λ i r. IsFresh k r)
+        each_agent value w event next step (λ i r. IsFresh k r)
         (fresh_moves (length tasks) (agent_of event) team.agents (is_its value publics tasks team w is holds event next step) k step.agent step.step.after
         (its_notes value publics tasks team w is holds event next step) kept.0 kept.1 move.message
         (others event next step) move.moves

@@ -28,7 +28,8 @@ use Rattle.mp_team_snapshots.proofs.TakingFirst.{apart, is_sender}
 use Rattle.mp_team_states.proofs.WorldsGrow.{taking}
 use Rattle.mp_team_verdicts.specs.Ending.{HasGoal}
 use Rattle.mp_team_verdicts.proofs.Few.{keeps_few}
-use Rattle.mp_team_verdicts.proofs.Frames.{IsKnownWorld, NotesItsGoal, each_next, goal_stays, me_before, of_before}
+use Rattle.mp_team_verdicts.proofs.EachAgent.{each_agent}
+use Rattle.mp_team_verdicts.proofs.Frames.{IsKnownWorld, NotesItsGoal, goal_stays, me_before, of_before}
 use Rattle.mp_team_verdicts.proofs.Proving.{goal_noted}
 use Rattle.mp_team_verdicts.proofs.EndSteps.{GoalAfter, HasPlace, NotesGoal, begun_goal, either_keeps, from_goal_keeps, goal_begun, goal_kept, judged_keeps, state_goal, walked_keeps}
 use Rattle.mp_team_verdicts.proofs.EndSteps.GoalAfter.{keeps, notes}
@@ -92,7 +93,7 @@ module _ (value : AgentTask → Numbers → Numbers → Option ℕ) (publics : �
   pub goals_next : (event : Event) (step : IsStepOf value w event next) → ((i : ℕ) (r : AgentRecord) → agent_at w i ≡ Some r → NotesItsGoal r)
       → (i : ℕ) (r : AgentRecord) → agent_at next i ≡ Some r → NotesItsGoal r
   goals_next event step old =
-      each_next value publics tasks team w known.team event next step (λ i r. NotesItsGoal r) (here (goal_after event step)) (λ i r there other. old i r there)
+      each_agent value w event next step (λ i r. NotesItsGoal r) (here (goal_after event step)) (λ i r there other. old i r there)
     where
       few : length step.step.after.search.kept.entries < 2 ^ 60
       few = let small = keeps_few tasks agree limits next known_next.team known_next.so_far (agent_of event) step.step.after step.after in omega arith

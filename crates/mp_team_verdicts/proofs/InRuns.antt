@@ -117,7 +117,7 @@ module _ (value : AgentTask → Numbers → Numbers → Option ℕ) (limit publi
     team = run_of_team value limit tasks schedule w ran;
     so_far = holds_so_far tasks agree limits value limit most schedule w ran;
     in_runs = holds_in_runs value publics tasks team limit schedule w ran;
-    hears = hears_in_runs value limit tasks agree limits most schedule w ran;
+    hears = hears_in_runs value limit tasks agree schedule w ran;
   }
 
   -- markers and reports that go out have room

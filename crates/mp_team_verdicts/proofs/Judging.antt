@@ -1,9 +1,9 @@
 -- Agent 1 gives its verdict: the search goes on, it ends without a plan, or a proved plan is walked back.
-use Rattle.std.proofs.Common.{◌≡◌, ℕ, ◌≤◌, ◌<◌, ◌^◌, Bool, true, false, ◌&&◌, List, [], ◌++◌, length, Option, Some, None, All, refl, sym, ap, subst, ◌∙◌, append-nil, inl, inr}
-use Rattle.std.specs.Prelude.{IfSome, ◌==◌, filter, if◌then◌else◌, not}
+use Rattle.std.proofs.Common.{◌≡◌, ℕ, ◌<◌, ◌^◌, Bool, true, false, ◌&&◌, List, [], ◌∷◌, ◌++◌, length, Option, Some, None, All, refl, sym, ap, subst, ◌∙◌, append-nil, inl, inr}
+use Rattle.std.specs.Prelude.{IfSome, ◌==◌, filter, if◌then◌else◌}
 use Rattle.std.specs.Option.{option_map_or}
-use Rattle.std.proofs.lemmas.Bool.{eq-eqb, eqb-false, eqb-true, false_from_ne_true}
-use Rattle.std.proofs.lemmas.List.Elements.{All-append, All-cons, All-map, All-nil, All-weaker}
+use Rattle.std.proofs.lemmas.Bool.{eqb-false, eqb-true}
+use Rattle.std.proofs.lemmas.List.Elements.{All-weaker}
 use Rattle.std.proofs.lemmas.Option.{same_Some}
 use Rattle.mp_sets.specs.Numbers.{Numbers}
 use Rattle.mp_task.specs.Agree.{Agree}
@@ -39,13 +39,14 @@ use Rattle.mp_team_states.specs.Paths.{IsPath}
 use Rattle.mp_team_states.proofs.Reached.{entry_in}
 use Rattle.mp_team_verdicts.specs.Ending.{EndsWithout, HasGoal, HasNoPart, IsProved, is_of_end, notes, end_by}
 use Rattle.mp_team_verdicts.specs.Ending.Stage.{picking, searching, without_plan}
-use Rattle.mp_team_verdicts.proofs.EndMessages.{HasNoEnds, IsNoEnd, ends_behind, ends_to, none_to, one_end, others_end}
+use Rattle.mp_team_verdicts.proofs.EndMessages.{HasNoEnds, IsNoEnd, none_to, one_end}
 use Rattle.mp_team_verdicts.proofs.Fitting.{HasEndRoom, ends_next, no_end_has_room}
-use Rattle.mp_team_verdicts.proofs.Frames.{IsKnownWorld, NotesItsGoal, each_next, me_before, of_agent_next, of_next}
+use Rattle.mp_team_verdicts.proofs.EachAgent.{each_agent}
+use Rattle.mp_team_verdicts.proofs.Frames.{IsKnownWorld, NotesItsGoal, me_before, of_agent_next, of_next}
 use Rattle.mp_team_verdicts.proofs.NotesOfPlans.{notes_none}
 use Rattle.mp_team_verdicts.proofs.Proving.{verdict_found}
 use Rattle.mp_team_verdicts.proofs.EndSteps.{IsJudged, judged_keeps}
-use Rattle.mp_team_verdicts.proofs.WalkOn.{ComesTo, ends_are, team_fits, walk_comes}
+use Rattle.mp_team_verdicts.proofs.WalkOn.{ComesTo, all_told, one_told, team_fits, walk_comes}
 
 -- the plan that is proved
 pub record HasPlan (w : World) (first : AgentRecord) (agent : ℕ) : Type 0 where
@@ -131,7 +132,7 @@ module _ (value : AgentTask → Numbers → Numbers → Option ℕ) (publics : �
           first = step.step.after;
           there = one_there;
           verdict = ap is_deciding verdict_after ∙ undecided;
-          agents = each_next value publics tasks team w known.team event next step (λ i y. HasNoPart y) (subst HasNoPart (sym after) idle_before) (λ i y there other. agents i y there);
+          agents = each_agent value w event next step (λ i y. HasNoPart y) (subst HasNoPart (sym after) idle_before) (λ i y there other. agents i y there);
           mail = λ i j y agent there.
               let of_i = of_agent_next value publics tasks team w known.team event next step i agent in
               let of_j = of_next value publics tasks team w known.team event next step j y there in
@@ -154,75 +155,41 @@ module _ (value : AgentTask → Numbers → Numbers → Option ℕ) (publics : �
       → after_sending judges.first (record { out = to_each (others judges.before.task.me judges.before.task.agents) (Done kind); after = record judges.before { ending = ended } }) ≡ step.step
       → end_by (given_verdict judges.before) ≡ Some kind → ComesTo publics tasks step.step.out next
   ends_without kind ended ended_is stopped is decided =
-      let me = judges.before.task.me in
-      let team_size = judges.before.task.agents in
-      let out_is : step.step.out ≡ judges.first ++ to_each (others me team_size) (Done kind) = ap (λ (s : Step). s.out) (sym is) in
       let after : step.step.after ≡ record judges.before { ending = ended } = ap (λ (s : Step). s.after) (sym is) in
-      let agents_is : team_size ≡ length tasks =
-      ap (λ (t : AgentTask). t.agents) judges.task ∙ (member_of tasks team.numbered w known.team (agent_of event) step.agent step.there).agents in
-      let all_room = All-append (λ (y : Outgoing). HasEndRoom y.message) judges.first (to_each (others me team_size) (Done kind)) first_room
-      (All-map (λ (y : Outgoing). HasEndRoom y.message) (λ agent. record { to = agent; message = Done kind }) (others me team_size) (λ k d h. tt)) in
-      let fits = team_fits value publics tasks agree limits team w next known known_next event step room (subst (λ (out : List Outgoing). All (λ y. HasEndRoom y.message) out) (sym out_is) all_room) in
-      let going_is : (j : ℕ) (y : AgentRecord) → agent_at next j ≡ Some y → not (j == me) ≡ is_going y.ending =
-      each_next value publics tasks team w known.team event next step (λ j y. not (j == me) ≡ is_going y.ending)
-      (ap not (eq-eqb (agent_of event) me (b_is ∙ sym me_is)) ∙ sym stopped ∙ sym (ap (λ (y : AgentRecord). is_going y.ending) after))
-      (λ j y there other.
-      ap not (false_from_ne_true (j == me) (λ same. other (eqb-true j me same ∙ me_is ∙ sym b_is)))
-      ∙ sym (agents j y there).walked.going) in
-      record {
-        stage = without_plan kind;
-        is = record {
-          first = step.step.after;
-          there = one_there;
-          verdict = record { verdict = ap end_by verdict_after ∙ decided; teller = record { who = step.step.after; there = one_there; ended = ap (λ (y : AgentRecord). is_going y.ending) after ∙ stopped } };
-          agents =
-              each_next value publics tasks team w known.team event next step (λ i y. EndsWithout kind y)
-              (subst (EndsWithout kind) (sym after) (record { trail = idle_before.walked.trail ∙ notes_none me; picked = idle_before.picked; ending = inr ended_is }))
-              (λ i y there other. record { trail = (agents i y there).walked.trail ∙ notes_none y.task.me; picked = (agents i y there).picked; ending = inl (agents i y there).walked.going });
-          mail = λ i j y agent there.
-              ends_are value publics tasks agree limits team w next known known_next event step room fits none (Done kind) (λ j. not (j == me))
-              (λ j is_j.
-              ap (ends_to j) out_is
-              ∙ ends_behind j judges.first (to_each (others me team_size) (Done kind)) judges.silent
-              ∙ others_end (Done kind) me team_size j refl is_j.from_1 (subst (λ (k : ℕ). j ≤ k) (sym agents_is) is_j.at_most))
-              i j (of_agent_next value publics tasks team w known.team event next step i agent) (of_next value publics tasks team w known.team event next step j y there)
-              ∙ (λ k. one_if_due (i == b_is k && going_is j y there k) (Done kind));
-        };
-        fits = fits;
-      }
+      let agents_is = ap (λ (t : AgentTask). t.agents) judges.task ∙ (member_of tasks team.numbered w known.team (agent_of event) step.agent step.there).agents in
+      let over_now = ap (λ (y : AgentRecord). is_going y.ending) after ∙ stopped in
+      all_told value publics tasks agree limits team w next known known_next event step room judges.first judges.silent none step.step.after one_there
+      (without_plan kind) (Done kind) tt
+      (record { verdict = ap end_by verdict_after ∙ decided; teller = record { who = step.step.after; there = one_there; ended = over_now } })
+      (subst (EndsWithout kind) (sym after)
+      (record { trail = idle_before.walked.trail ∙ notes_none judges.before.task.me; picked = idle_before.picked; ending = inr ended_is }))
+      (λ i y there other. record {
+        trail = (agents i y there).walked.trail ∙ notes_none y.task.me;
+        picked = (agents i y there).picked;
+        ending = inl (agents i y there).walked.going;
+      })
+      judges.before.task (me_is ∙ sym b_is) agents_is refl (ap (λ (s : Step). s.out) (sym is)) over_now
+      (λ i y there other. (agents i y there).walked.going) (λ i j g k. one_if_due (i == b_is k && g) (Done kind))
 
   -- another agent is picked
   picks : (agent cost : ℕ) → given_verdict judges.before ≡ Some (verdicts.Proved agent cost) → (agent == judges.before.task.me) ≡ false
       → after_sending judges.first (record { out = to_one agent (Pick judges.before.snapshot.number); after = judges.before }) ≡ step.step → ComesTo publics tasks step.step.out next
   picks agent cost given other is =
       let number = judges.before.snapshot.number in
-      let out_is : step.step.out ≡ judges.first ++ to_one agent (Pick number) = ap (λ (s : Step). s.out) (sym is) in
       let after : step.step.after ≡ judges.before = ap (λ (s : Step). s.after) (sym is) in
       let small : number < 2 ^ 60 = subst (λ (r : AgentRecord). r.snapshot.number < 2 ^ 60) after (known_next.in_runs.room 1 step.step.after one_there).number in
-      let all_room = All-append (λ (y : Outgoing). HasEndRoom y.message) judges.first (to_one agent (Pick number)) first_room
-      (All-cons (λ (y : Outgoing). HasEndRoom y.message) (record { to = agent; message = Pick number }) [] small (All-nil (λ (y : Outgoing). HasEndRoom y.message))) in
-      let fits = team_fits value publics tasks agree limits team w next known known_next event step room (subst (λ (out : List Outgoing). All (λ y. HasEndRoom y.message) out) (sym out_is) all_room) in
       let has = plan_there publics tasks team next known_next goals_next step.step.after agent cost one_there (verdict_after ∙ given) in
-      record {
-        stage = picking agent number has.plan;
-        is = record {
-          first = step.step.after;
-          there = one_there;
-          verdict = record {
-            proved = has.proved;
-            agent_is = has.agent_is;
-            other = λ same. eqb-false agent judges.before.task.me other (same ∙ sym me_is);
-            number_is = ap (λ (r : AgentRecord). r.snapshot.number) (sym after);
-          };
-          agents = each_next value publics tasks team w known.team event next step (λ i y. HasNoPart y) (subst HasNoPart (sym after) idle_before) (λ i y there other. agents i y there);
-          mail = λ i j y sender there.
-              ends_are value publics tasks agree limits team w next known known_next event step room fits none (Pick number) (λ j. agent == j)
-              (λ j is_j. ap (ends_to j) out_is ∙ ends_behind j judges.first (to_one agent (Pick number)) judges.silent ∙ one_end agent (Pick number) refl j)
-              i j (of_agent_next value publics tasks team w known.team event next step i sender) (of_next value publics tasks team w known.team event next step j y there)
-              ∙ (λ k. one_if_due (i == b_is k && agent == j) (Pick number));
-        };
-        fits = fits;
-      }
+      one_told value publics tasks agree limits team w next known known_next event step room judges.first judges.silent none step.step.after one_there
+      (picking agent number has.plan) (Pick number) small
+      (record {
+        proved = has.proved;
+        agent_is = has.agent_is;
+        other = λ same. eqb-false agent judges.before.task.me other (same ∙ sym me_is);
+        number_is = ap (λ (r : AgentRecord). r.snapshot.number) (sym after);
+      })
+      (subst HasNoPart (sym after) idle_before) (λ i y there other. agents i y there)
+      (agent ∷ []) (λ j. agent == j) (ap (λ (s : Step). s.out) (sym is)) (λ j is_j. one_end agent (Pick number) refl j)
+      (λ i j y there k. one_if_due (i == b_is k && agent == j) (Pick number))
 
   -- agent 1 walks back itself
   walks : (agent cost : ℕ) → given_verdict judges.before ≡ Some (verdicts.Proved agent cost) → (agent == judges.before.task.me) ≡ true

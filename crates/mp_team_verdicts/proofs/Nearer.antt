@@ -1,6 +1,6 @@
 -- With each round the end of a decided search comes nearer.
 use Rattle.std.proofs.Common.{◌≡◌, ◌≢◌, ℕ, suc, ◌+◌, ◌*◌, ◌≤◌, ◌^◌, Bool, true, false, ◌&&◌, List, [], ◌∷◌, length, Option, Some, All, refl, sym, ap, subst, ◌∙◌, arith, ◌⊎◌, inl, inr}
-use Rattle.std.specs.Prelude.{◌==◌, Ok, filter, not}
+use Rattle.std.specs.Prelude.{◌==◌, Ok, filter}
 use Rattle.std.proofs.lemmas.Bool.{and_from, cases_eq, eq-eqb, false≢true}
 use Rattle.std.proofs.lemmas.Option.{same_Some}
 use Rattle.mp_sets.specs.Numbers.{Numbers}
@@ -9,16 +9,12 @@ use Rattle.mp_task.specs.AgentTask.{AgentTask}
 use Rattle.mp_task.specs.Limits.{IsWithinLimits}
 use Rattle.mp_messages.specs.declared.history.Event.{Event}
 use Rattle.mp_messages.specs.declared.history.Event.TheVariants.{Take}
-use Rattle.mp_messages.specs.declared.message.EndKind.{EndKind}
-use Rattle.mp_messages.specs.declared.message.EndKind.TheVariants as kinds
 use Rattle.mp_messages.specs.declared.message.Message.{Message}
 use Rattle.mp_messages.specs.declared.message.Message.TheVariants.{State, Marker, Report, Pick, Trace, Length, Done}
-use Rattle.mp_machine.specs.declared.refusal.BadKind.TheVariants.{StrangeDone, StrangeLength}
 use Rattle.mp_machine.specs.AgentRecord.{AgentRecord, given_verdict, is_going}
-use Rattle.mp_machine.specs.Outgoing.{Step, without_messages}
-use Rattle.mp_machine.specs.Taking.{ending_of, is_strange_length, took_message}
+use Rattle.mp_machine.specs.Outgoing.{Step}
+use Rattle.mp_machine.specs.Taking.{took_message}
 use Rattle.mp_machine.specs.Verdicts.{is_deciding}
-use Rattle.mp_machine.specs.WalkingBack.{solved}
 use Rattle.mp_world.specs.Events.{is_legal}
 use Rattle.mp_world.specs.RoundRobin.{Round, is_over}
 use Rattle.mp_world.specs.Steps.{IsStepOf}
@@ -26,17 +22,18 @@ use Rattle.mp_world.specs.World.{World, agent_at}
 use Rattle.mp_world.proofs.Agents.{agent_there}
 use Rattle.mp_team_snapshots.specs.Snapshots.{one_if_due}
 use Rattle.mp_team_snapshots.specs.Team.{IsTeamOf}
-use Rattle.mp_team_snapshots.proofs.Effects.{good_step}
 use Rattle.mp_team_snapshots.proofs.Protocol.{IsOf}
 use Rattle.mp_team_snapshots.proofs.Worlds.{is_of_agent, team_numbers}
 use Rattle.mp_team_states.proofs.Messages.{path_over}
 use Rattle.mp_team_states.proofs.Reached.{has_it}
 use Rattle.mp_team_states.proofs.StepsSound.{records_sound}
+use Rattle.mp_world.proofs.LocalCases.{message_holds}
 use Rattle.mp_team_verdicts.specs.Ending.{HasEnded, IsAt, Stage, due, end_messages, is_of_end}
 use Rattle.mp_team_verdicts.specs.Ending.Stage.{over, picking, searching, walking, without_plan}
 use Rattle.mp_team_verdicts.proofs.Frames.{IsKnownWorld, ended_stays}
 use Rattle.mp_team_verdicts.proofs.InRuns.{EndsSoFar}
 use Rattle.mp_team_verdicts.proofs.Short.{path_entry}
+use Rattle.mp_team_verdicts.proofs.TakenEnds.{ended_kind}
 use Rattle.mp_team_verdicts.proofs.TakingEnds.{due_holds}
 use Rattle.mp_team_verdicts.proofs.Calm.{Reached}
 use Rattle.mp_team_verdicts.proofs.Hops.{few_messages}
@@ -61,23 +58,19 @@ IsLast (Trace sent back) = ⊥
 IsLast (Length plan) = Unit {0}
 IsLast (Done kind) = Unit {0}
 
-ended_kind : (kind : EndKind) → is_going (ending_of kind) ≡ false
-ended_kind kinds.NoPlan = refl
-ended_kind kinds.Spent = refl
-
 ends_by : (value : Numbers → Numbers → Option ℕ) (r : AgentRecord) (from : ℕ) (m : Message) (s : Step) → IsLast m
     → took_message value r from m ≡ Ok s → is_going s.after.ending ≡ false
-ends_by value r from (State x) s last took = absurd last
-ends_by value r from (Marker number) s last took = absurd last
-ends_by value r from (Report found) s last took = absurd last
-ends_by value r from (Pick number) s last took = absurd last
-ends_by value r from (Trace sent back) s last took = absurd last
-ends_by value r from (Length plan) s last took =
-    let good = good_step (is_strange_length r plan) StrangeLength (without_messages (solved r plan)) s took in
-    ap (λ (x : Step). is_going x.after.ending) (sym good.1)
-ends_by value r from (Done kind) s last took =
-    let good = good_step (not (from == 1)) StrangeDone (without_messages (record r { ending = ending_of kind })) s took in
-    ap (λ (x : Step). is_going x.after.ending) (sym good.1) ∙ ended_kind kind
+ends_by value r from m s last took =
+    message_holds value r from (λ m s. IsLast m → is_going s.after.ending ≡ false) (record {
+      state = λ m given right last. absurd last;
+      on = λ number goes last. absurd last;
+      begins = λ number begins last. absurd last;
+      report = λ found good last. absurd last;
+      pick = λ number good last. absurd last;
+      trace = λ sent back entry there good last. absurd last;
+      length = λ plan good last. refl;
+      done = λ kind first last. ended_kind kind;
+    }) m s took last
 
 module _ (value : AgentTask → Numbers → Numbers → Option ℕ) (limit publics : ℕ) (tasks : List AgentTask)
     (agree : Agree tasks) (limits : All IsWithinLimits tasks) (most : limit ≤ 10000000)

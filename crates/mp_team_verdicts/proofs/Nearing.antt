@@ -29,6 +29,7 @@ use Rattle.mp_world.proofs.LocalCases.{good_step}
 use Rattle.mp_team_snapshots.specs.Snapshots.{one_if_due}
 use Rattle.mp_team_snapshots.specs.Team.{IsTeamOf}
 use Rattle.mp_team_snapshots.proofs.Protocol.{IsOf}
+use Rattle.mp_team_snapshots.proofs.Worlds.{team_numbers}
 use Rattle.mp_team_states.specs.Paths.{IsOver, IsPath, IsSentAt}
 use Rattle.mp_team_states.proofs.Messages.{path_over}
 use Rattle.mp_team_states.proofs.StepsSound.{records_sound}
@@ -38,7 +39,7 @@ use Rattle.mp_team_verdicts.specs.Ending.Stage.{picking}
 use Rattle.mp_team_verdicts.proofs.EndMessages.{ends_to, one_end}
 use Rattle.mp_team_verdicts.proofs.Frames.{IsKnownWorld, ended_stays}
 use Rattle.mp_team_verdicts.proofs.InRuns.{EndsSoFar}
-use Rattle.mp_team_verdicts.proofs.Heard.{AreElsewhere, EndsElsewhere, walk_elsewhere}
+use Rattle.mp_team_verdicts.proofs.Heard.{EndsElsewhere, walk_elsewhere}
 use Rattle.mp_team_verdicts.proofs.Short.{sent_at_stays}
 use Rattle.mp_team_verdicts.proofs.EndSteps.{walked_keeps}
 use Rattle.mp_team_verdicts.proofs.TakenEnds.{sent_is}
@@ -116,8 +117,9 @@ module _ (value : AgentTask → Numbers → Numbers → Option ℕ) (limit publi
 
       away : EndsElsewhere b (walk r.search.kept entry back).end
       away =
-          walk_elsewhere b r.search.kept (subst (λ (x : SearchRecord). AreElsewhere b x.kept) search ((is_known next at_next).hears b step.step.after step.after))
-          (entry + 1) entry back
+          let k = is_known next at_next in
+          walk_elsewhere b step.step.after (k.hears b step.step.after step.after) ((team_numbers publics tasks team next k.team).me b step.step.after step.after)
+          r.search.kept (ap (λ (x : SearchRecord). x.kept) search) entry back
 
       -- another agent is asked
       hop_nears : (sender sent count : ℕ) → (walk r.search.kept entry back).end ≡ Hop sender sent count

@@ -1,5 +1,5 @@
 -- The search does not go on over nine rounds in which no agent expands.
-use Rattle.std.proofs.Common.{◌≡◌, ℕ, ◌+◌, ◌≤◌, ◌<◌, ◌^◌, Bool, true, false, List, ◌++◌, length, take, Option, Some, None, All, refl, sym, ap, ◌∙◌, arith, ◌⊎◌, inl, inr}
+use Rattle.std.proofs.Common.{◌≡◌, ℕ, ◌+◌, ◌≤◌, ◌<◌, ◌^◌, Bool, true, List, ◌++◌, length, take, Option, Some, None, All, refl, sym, ap, ◌∙◌, arith, ◌⊎◌, inl, inr}
 use Rattle.std.specs.Prelude.{nat_lt, if◌then◌else◌}
 use Rattle.std.proofs.lemmas.Bool.{and_from, and_parts, cases_eq, false≢true, lt-ltb}
 use Rattle.mp_sets.specs.Numbers.{Numbers}
@@ -11,7 +11,7 @@ use Rattle.mp_messages.specs.declared.history.Event.TheVariants.{Expand, Take, S
 use Rattle.mp_messages.specs.declared.message.Message.{Message}
 use Rattle.mp_messages.specs.declared.message.Message.TheVariants.{State as AState, Marker, Report, Pick, Trace, Length, Done}
 use Rattle.mp_snapshot.specs.Notes.{Notes}
-use Rattle.mp_snapshot.specs.Rules.{after_state, is_complete, is_counted, with_state}
+use Rattle.mp_snapshot.specs.Rules.{is_complete}
 use Rattle.mp_snapshot.specs.VerdictRule.{verdict_of}
 use Rattle.mp_snapshot.specs.declared.verdict.Verdict.{Verdict}
 use Rattle.mp_snapshot.specs.declared.verdict.Verdict.TheVariants.{Proved, NoPlan, Spent, Continue}
@@ -38,16 +38,10 @@ use Rattle.mp_team_verdicts.proofs.Fresh.{AreFresh, IsSilent, fresh_next, no_sta
 use Rattle.mp_team_verdicts.proofs.Progress.{behind, complete3, leads_on, round_leads}
 use Rattle.mp_team_verdicts.proofs.Reached.{all_pass, known, onward}
 use Rattle.mp_team_verdicts.proofs.Starting.{starts_next}
+use Rattle.mp_team_verdicts.proofs.Staying.{counted_number}
 use Rattle.mp_team_verdicts.proofs.Stuck.{HasNumberLeft, is_first, of_there, sound_view}
 
 -- ---- the number of agent 1's last snapshot changes by a start alone
-
-counted_number : (s : Notes) (from f : ℕ) → (after_state s from f).number ≡ s.number
-counted_number s from f = by (is_counted s from)
-  where
-    by : (b : Bool) → (if b then with_state s f else s).number ≡ s.number
-    by true = refl
-    by false = refl
 
 message_number : (r : AgentRecord) (from : ℕ) (m : Message) (s : Step) → r.snapshot.me ≡ 1 → Effect r from m s
     → s.after.snapshot.number ≡ r.snapshot.number

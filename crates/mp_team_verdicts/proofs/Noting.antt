@@ -1,6 +1,6 @@
 -- What an event does to the notes and to the search of its agent.
-use Rattle.std.proofs.Common.{◌≡◌, ◌≢◌, ℕ, ◌+◌, ◌-◌, ◌≤◌, ◌<◌, Bool, true, false, List, replicate, refl, sym, ap, subst, ◌∙◌, arith, ◌⊎◌, inl, inr}
-use Rattle.std.specs.Prelude.{None, Option, Some, if◌then◌else◌, slice_set}
+use Rattle.std.proofs.Common.{◌≡◌, ◌≢◌, ℕ, ◌+◌, ◌-◌, ◌≤◌, ◌<◌, true, false, List, replicate, refl, sym, ap, subst, ◌∙◌, arith, ◌⊎◌, inl, inr}
+use Rattle.std.specs.Prelude.{None, Option, Some, slice_set}
 use Rattle.std.proofs.lemmas.Bool.{cases_eq}
 use Rattle.std.proofs.lemmas.List.{length-replicate}
 use Rattle.std.proofs.lemmas.Option.{none-some}
@@ -15,7 +15,7 @@ use Rattle.mp_messages.specs.declared.message.State.{State}
 use Rattle.mp_messages.specs.Reading.{message_of}
 use Rattle.mp_search.specs.Expansion.{expanded}
 use Rattle.mp_snapshot.specs.Notes.{Notes}
-use Rattle.mp_snapshot.specs.Rules.{after_report, after_state, begun, has, is_counted, with_marker, with_state}
+use Rattle.mp_snapshot.specs.Rules.{after_report, after_state, begun, has, with_marker}
 use Rattle.mp_machine.specs.AgentRecord.{AgentRecord}
 use Rattle.mp_machine.specs.LocalStep.{with_search}
 use Rattle.mp_machine.specs.Outgoing.{Step}
@@ -30,6 +30,7 @@ use Rattle.mp_team_snapshots.proofs.Places.{has_set_other, has_set_same}
 use Rattle.mp_team_snapshots.proofs.Protocol.{IsOf}
 use Rattle.mp_team_snapshots.proofs.Started.{start_effect}
 use Rattle.mp_team_snapshots.proofs.TakingFirst.{apart, is_sender}
+use Rattle.mp_team_verdicts.proofs.CountedStates.{counted_has}
 
 -- How the notes of an agent change, where it took a message or none: not at all, by a state that is counted, by a marker of
 -- the snapshot that is under way, by a report of another agent, or a snapshot begins, by a marker or by itself.
@@ -152,11 +153,7 @@ module _ (agents me : ℕ) (small : agents ≤ 16) (is_me : IsOf agents me) wher
       by (inr other) = has_set_other s.reported s.me from low_s low other ∙ before
 
   listed_counted : (s : Notes) (from f : ℕ) → ListsItself s → ListsItself (after_state s from f)
-  listed_counted s from f old = by (is_counted s from)
-    where
-      by : (b : Bool) → ListsItself (if b then with_state s f else s)
-      by true = record { listed = old.listed }
-      by false = old
+  listed_counted s from f old = counted_has ListsItself s from f old (record { listed = old.listed })
 
   pub lists_itself : (o : Option Message) (r s : AgentRecord) → AreNotesOf agents me r.snapshot → Moves me o r s → ListsItself r.snapshot → ListsItself s.snapshot
   lists_itself o r s notes (stays is) old = subst ListsItself (sym is) old

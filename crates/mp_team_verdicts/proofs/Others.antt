@@ -29,7 +29,7 @@ use Rattle.mp_team_states.proofs.Expanding.{IsFirst, IsReceived, Led, expanded_c
 
 -- ---- all others
 
-not_same : (a b : ℕ) → not (a == b) ≡ true → a ≢ b
+pub not_same : (a b : ℕ) → not (a == b) ≡ true → a ≢ b
 not_same a b test = eqb-false a b (flipped (a == b) test)
   where
     flipped : (same : Bool) → not same ≡ true → same ≡ false

@@ -7,8 +7,6 @@ use Rattle.std.proofs.lemmas.List.Sums.{sum_by-cons, sum_by_push}
 use Rattle.mp_sets.specs.Numbers.{Numbers}
 use Rattle.mp_task.specs.declared.act.Act.{Act}
 use Rattle.mp_task.specs.AgentTask.{AgentTask}
-use Rattle.mp_messages.specs.declared.message.Message.{Message}
-use Rattle.mp_messages.specs.declared.message.Message.TheVariants as kinds
 use Rattle.mp_messages.specs.declared.message.State.{State}
 use Rattle.mp_store.specs.declared.entry.Entry.{Entry}
 use Rattle.mp_store.specs.declared.entry.Mark.TheVariants.{Expanded}
@@ -28,14 +26,11 @@ use Rattle.mp_search.specs.Receipt.{greater_value, received, state_of}
 use Rattle.mp_search.specs.Search.{SearchRecord}
 use Rattle.mp_search.specs.Sending.{is_due, sending_of, sent_best, sent_entry_of, sent_if_due}
 use Rattle.mp_machine.specs.declared.event.Local.{Local}
-use Rattle.mp_machine.specs.declared.event.Local.TheVariants as locals
 use Rattle.mp_machine.specs.AgentRecord.{AgentRecord}
 use Rattle.mp_machine.specs.LocalStep.{local, with_search}
 use Rattle.mp_machine.specs.Outgoing.{Step}
-use Rattle.mp_machine.specs.Snapshots.{started}
-use Rattle.mp_machine.specs.Taking.{took_message, took_state, with_state}
-use Rattle.mp_team_states.proofs.Quiet.{IsOther, IsQuiet, quiet_message, quiet_started}
-use Rattle.mp_team_states.proofs.WorldsGrow.{state_or_other, state_taken, taking}
+use Rattle.mp_machine.specs.Taking.{with_state}
+use Rattle.mp_team_states.proofs.WorldsGrow.{search_holds}
 
 -- 1 for an origin that is no message
 abbrev pub own_one : Origin → ℕ
@@ -196,37 +191,19 @@ module _ (t : AgentTask) (value : Numbers → Numbers → Option ℕ) where
 abbrev pub HasFewOwn : AgentRecord → Type 0
 HasFewOwn r = own_count r.search.kept.entries ≤ 1 + 200000 * r.search.expansions
 
-module _ (value : Numbers → Numbers → Option ℕ) (r : AgentRecord) (s : Step) (few : HasFewOwn r) where
-  quiet_own : IsQuiet r.task r.limit r.search s → HasFewOwn s.after
-  quiet_own quiet = subst (λ (x : SearchRecord). own_count x.kept.entries ≤ 1 + 200000 * x.expansions) (sym quiet.search_is) few
+pub local_own : (value : Numbers → Numbers → Option ℕ) (r : AgentRecord) (s : Step) → HasFewOwn r → (event : Local) (bytes : List ℕ)
+    → length r.task.acts ≤ 200000 → local value r event bytes ≡ Ok s → HasFewOwn s.after
+unfolding with_state
+local_own value r s few event bytes acts is =
+    search_holds value r event bytes (λ (s : Step). HasFewOwn s.after) (record {
+      expands = λ at. by (expanded_count r.task value r.search);
+      receives = λ from m at reads. let fewer = received_count r.task value from m r.search.kept in let before = few in omega arith;
+      quiet = λ s quiet. same s.after.search quiet.search_is;
+    }) s is
+  where
+    same : (x : SearchRecord) → x ≡ r.search → own_count x.kept.entries ≤ 1 + 200000 * x.expansions
+    same x is = subst (λ (x : SearchRecord). own_count x.kept.entries ≤ 1 + 200000 * x.expansions) (sym is) few
 
-  take_own : (from : ℕ) (m : Message) → took_message value r from m ≡ Ok s → HasFewOwn s.after
-  unfolding with_state
-  take_own from m is = by (state_or_other m)
-    where
-      by : ((x : State) × (m ≡ kinds.State x)) ⊎ IsOther m → HasFewOwn s.after
-      by (inl state) =
-          let x = state.0 in
-          let took : took_state value r from x ≡ Ok s = subst (λ (m : Message). took_message value r from m ≡ Ok s) state.1 is in
-          subst (λ (s : Step). HasFewOwn s.after) (state_taken value r from x s took)
-          (let fewer = received_count r.task value from x r.search.kept in let before = few in omega arith)
-      by (inr other) = quiet_own (quiet_message r s value from m other is)
-
-  pub local_own : (event : Local) (bytes : List ℕ) → length r.task.acts ≤ 200000 → local value r event bytes ≡ Ok s → HasFewOwn s.after
-  local_own locals.Expand bytes acts is =
-      let d = expanded r.task value r.search in
-      let same : with_search r d ≡ s = cc in
-      subst (λ (s : Step). HasFewOwn s.after) same (by (expanded_count r.task value r.search))
-    where
-      by : HasExpanded r.task value r.search (expanded r.task value r.search) → HasFewOwn (with_search r (expanded r.task value r.search)).after
-      by (inl same) = subst (λ (x : SearchRecord). own_count x.kept.entries ≤ 1 + 200000 * x.expansions) (sym same) few
-      by (inr both) = let one = both.0 in let more = both.1 in let before = few in omega arith
-  local_own (locals.Take from) bytes acts is =
-      let t = taking value r from bytes s is in
-      take_own from t.message t.took
-  local_own locals.Start bytes acts is =
-      let same : started r ≡ s = cc in
-      subst (λ (s : Step). HasFewOwn s.after) same (quiet_own_started)
-    where
-      quiet_own_started : HasFewOwn (started r).after
-      quiet_own_started = subst (λ (x : SearchRecord). own_count x.kept.entries ≤ 1 + 200000 * x.expansions) (sym (quiet_started r).search_is) few
+    by : HasExpanded r.task value r.search (expanded r.task value r.search) → HasFewOwn (with_search r (expanded r.task value r.search)).after
+    by (inl is) = same (expanded r.task value r.search).1 is
+    by (inr both) = let one = both.0 in let more = both.1 in let before = few in omega arith

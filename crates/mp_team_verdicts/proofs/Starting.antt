@@ -36,7 +36,7 @@ use Rattle.mp_team_snapshots.proofs.TakingFirst.{apart, is_receiver, is_sender, 
 use Rattle.mp_team_snapshots.proofs.Worlds.{is_agent_of, note_at, note_of, team_numbers, view}
 use Rattle.mp_team_verdicts.specs.Ending.{IsAt, end_messages, is_of_end}
 use Rattle.mp_team_verdicts.specs.Ending.Stage.{searching}
-use Rattle.mp_team_verdicts.proofs.Frames.{IsKnownWorld}
+use Rattle.mp_team_verdicts.proofs.Frames.{IsKnownWorld, end_taken}
 use Rattle.mp_team_verdicts.proofs.InRuns.{ends_so_far}
 use Rattle.mp_team_verdicts.proofs.Calm.{Goes, IsQuietRound, Reached, number_at, rises}
 use Rattle.mp_team_verdicts.proofs.Fresh.{IsSilent, quiet_in_silence}
@@ -153,27 +153,21 @@ module _ (value : AgentTask → Numbers → Numbers → Option ℕ) (limit publi
             i.searches.mail a b step.agent
             (is_agent_of publics tasks team w (team_numbers publics tasks team w (is_known w i.at).team) a is_a) step.there
 
+        no_end_taken : (m : Message) → is_of_end m ≡ true → message_of step.agent.task.agents step.agent.task.publics (taken w (Take b a)) ≡ Some m → ⊥
+        no_end_taken m is_end read =
+            no_item m (filter is_of_end rest) (sym (end_taken value publics tasks team w (is_known w i.at).team b a next step m read is_end) ∙ no_end)
+
         by : (m : Message) → message_of step.agent.task.agents step.agent.task.publics (taken w (Take b a)) ≡ Some m → ⊥
         by (AState s) read =
             takes_other value publics tasks team w (is_known w i.at).team b a next step (i.silent.no_states a b is_a is_b off) (AState s) read
         by (Marker k) read =
-            no_item k (filter_map marker_of (left value publics tasks team w (is_known w i.at).team (Take b a) next step a b))
-            (sym (ap (filter_map marker_of) (front (Marker k) read)) ∙ no_marker a b is_a is_b off)
+            no_item k (filter_map marker_of rest) (sym (ap (filter_map marker_of) (front (Marker k) read)) ∙ no_marker a b is_a is_b off)
         by (Report f) read =
-            no_item f (filter_map report_of (left value publics tasks team w (is_known w i.at).team (Take b a) next step a b))
-            (sym (ap (filter_map report_of) (front (Report f) read)) ∙ no_report_to)
-        by (Pick k) read =
-            no_item (Pick k) (filter is_of_end (left value publics tasks team w (is_known w i.at).team (Take b a) next step a b))
-            (sym (ap (filter is_of_end) (front (Pick k) read)) ∙ no_end)
-        by (Trace sent back) read =
-            no_item (Trace sent back) (filter is_of_end (left value publics tasks team w (is_known w i.at).team (Take b a) next step a b))
-            (sym (ap (filter is_of_end) (front (Trace sent back) read)) ∙ no_end)
-        by (Length plan) read =
-            no_item (Length plan) (filter is_of_end (left value publics tasks team w (is_known w i.at).team (Take b a) next step a b))
-            (sym (ap (filter is_of_end) (front (Length plan) read)) ∙ no_end)
-        by (Done kind) read =
-            no_item (Done kind) (filter is_of_end (left value publics tasks team w (is_known w i.at).team (Take b a) next step a b))
-            (sym (ap (filter is_of_end) (front (Done kind) read)) ∙ no_end)
+            no_item f (filter_map report_of rest) (sym (ap (filter_map report_of) (front (Report f) read)) ∙ no_report_to)
+        by (Pick k) read = no_end_taken (Pick k) refl read
+        by (Trace sent back) read = no_end_taken (Trace sent back) refl read
+        by (Length plan) read = no_end_taken (Length plan) refl read
+        by (Done kind) read = no_end_taken (Done kind) refl read
 
     -- agent 1 may start a snapshot
     start_legal : HasNumberLeft w → is_legal w Start ≡ true

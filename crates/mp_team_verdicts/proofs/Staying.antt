@@ -1,24 +1,21 @@
 -- What stays in the notes of an agent, as long as no snapshot begins, and that numbers of snapshots rise.
-use Rattle.std.proofs.Common.{◌≡◌, ℕ, ◌+◌, ◌-◌, ◌≤◌, Bool, true, false, List, length, ap, subst, ◌∙◌, arith, ◌⊎◌, inl, inr, refl}
-use Rattle.std.specs.Prelude.{Option, if◌then◌else◌, slice_set}
+use Rattle.std.proofs.Common.{◌≡◌, ℕ, ◌+◌, ◌-◌, ◌≤◌, Bool, true, List, length, ap, subst, ◌∙◌, arith, ◌⊎◌, inl, inr, refl}
+use Rattle.std.specs.Prelude.{Option, slice_set}
 use Rattle.std.proofs.lemmas.Bool.{cases_eq}
 use Rattle.mp_messages.specs.declared.message.Message.{Message}
 use Rattle.mp_snapshot.specs.Notes.{Notes}
-use Rattle.mp_snapshot.specs.Rules.{after_state, has, is_counted, with_state}
+use Rattle.mp_snapshot.specs.Rules.{after_state, has}
 use Rattle.mp_machine.specs.AgentRecord.{AgentRecord}
 use Rattle.mp_team_snapshots.proofs.Places.{has_set_other, has_set_same}
 use Rattle.mp_team_snapshots.proofs.Protocol.{IsOf}
+use Rattle.mp_team_verdicts.proofs.CountedStates.{counted_has}
 use Rattle.mp_team_verdicts.proofs.Noting.{Moves}
 use Rattle.mp_team_verdicts.proofs.Noting.Moves.{begins, counts, marks, reports, starts, stays}
 
 -- ---- the number of the last snapshot
 
-counted_number : (s : Notes) (from f : ℕ) → (after_state s from f).number ≡ s.number
-counted_number s from f = by (is_counted s from)
-  where
-    by : (b : Bool) → (if b then with_state s f else s).number ≡ s.number
-    by true = refl
-    by false = refl
+pub counted_number : (s : Notes) (from f : ℕ) → (after_state s from f).number ≡ s.number
+counted_number s from f = counted_has (λ t. t.number ≡ s.number) s from f refl refl
 
 -- it stays, or the next one begins
 pub number_moves : (agent : ℕ) (o : Option Message) (r s : AgentRecord) → Moves agent o r s
@@ -41,18 +38,10 @@ number_rises agent o r s m = by (number_moves agent o r s m)
 -- ---- markers and reports that have come stay, as long as no snapshot begins
 
 counted_marked : (s : Notes) (from f : ℕ) → (after_state s from f).marked ≡ s.marked
-counted_marked s from f = by (is_counted s from)
-  where
-    by : (b : Bool) → (if b then with_state s f else s).marked ≡ s.marked
-    by true = refl
-    by false = refl
+counted_marked s from f = counted_has (λ t. t.marked ≡ s.marked) s from f refl refl
 
 counted_reported : (s : Notes) (from f : ℕ) → (after_state s from f).reported ≡ s.reported
-counted_reported s from f = by (is_counted s from)
-  where
-    by : (b : Bool) → (if b then with_state s f else s).reported ≡ s.reported
-    by true = refl
-    by false = refl
+counted_reported s from f = counted_has (λ t. t.reported ≡ s.reported) s from f refl refl
 
 module _ (agents i : ℕ) (small : agents ≤ 16) (is_i : IsOf agents i) where
   low_i : 1 ≤ i

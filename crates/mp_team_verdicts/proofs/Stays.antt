@@ -1,5 +1,5 @@
 -- Each event leads the end of a search on.
-use Rattle.std.proofs.Common.{◌≡◌, ◌≢◌, ℕ, ◌+◌, ◌≤◌, Bool, true, false, List, [], ◌∷◌, length, Option, Some, None, All, refl, sym, ap, subst, ◌∙◌, arith, inl, inr}
+use Rattle.std.proofs.Common.{◌≡◌, ◌≢◌, ℕ, ◌+◌, ◌≤◌, true, false, List, [], ◌∷◌, length, Option, Some, None, All, refl, sym, ap, subst, ◌∙◌, arith, inl, inr}
 use Rattle.std.specs.Prelude.{Ok, ◌==◌, filter, if◌then◌else◌}
 use Rattle.std.specs.List.{filter_map}
 use Rattle.std.proofs.lemmas.Bool.{and_parts, cases_eq, eq-eqb, false≢true}
@@ -17,7 +17,7 @@ use Rattle.mp_messages.specs.Reading.{message_of}
 use Rattle.mp_search.specs.Expansion.{expanded}
 use Rattle.mp_snapshot.specs.declared.verdict.Verdict.{Verdict}
 use Rattle.mp_snapshot.specs.Notes.{Notes}
-use Rattle.mp_snapshot.specs.Rules.{after_report, after_state, begun, is_counted, is_under_way, verdict, with_marker, with_state as counted_with}
+use Rattle.mp_snapshot.specs.Rules.{after_report, after_state, begun, is_under_way, verdict, with_marker}
 use Rattle.mp_machine.specs.AgentRecord.{AgentRecord, given_verdict, is_going}
 use Rattle.mp_machine.specs.LocalStep.{may_start, with_search}
 use Rattle.mp_machine.specs.Outgoing.{Step, without_messages}
@@ -40,6 +40,7 @@ use Rattle.mp_team_snapshots.proofs.Worlds.{is_agent_of, team_numbers}
 use Rattle.mp_team_states.proofs.WorldsGrow.{taking}
 use Rattle.mp_team_verdicts.specs.Ending.{IsAt, Stage, end_messages, is_of_end}
 use Rattle.mp_team_verdicts.specs.Ending.Stage.{over, picking, searching, walking, without_plan}
+use Rattle.mp_team_verdicts.proofs.CountedStates.{counted_has}
 use Rattle.mp_team_verdicts.proofs.Calmly.{IsSameVerdict, calm_comes}
 use Rattle.mp_team_verdicts.proofs.Frames.{IsKnownWorld, NotesItsGoal, agent_before, ends_left, me_before}
 use Rattle.mp_team_verdicts.proofs.Goals.{place_of}
@@ -50,13 +51,6 @@ use Rattle.mp_team_verdicts.proofs.TakenEnds.{end_comes}
 use Rattle.mp_team_verdicts.proofs.WalkOn.{ComesTo}
 
 -- ---- a state that is taken leaves the verdict
-
-counted_number : (s : Notes) (from f : ℕ) → (after_state s from f).number ≡ s.number
-counted_number s from f = by (is_counted s from)
-  where
-    by : (b : Bool) → (if b then counted_with s f else s).number ≡ s.number
-    by true = refl
-    by false = refl
 
 state_verdict : (s : Notes) (from f : ℕ) → length s.marked ≡ 16 → s.agents ≤ 16 → 1 ≤ from → from ≤ s.agents → verdict (after_state s from f) ≡ verdict s
 state_verdict s from f many few low high = by (verdict s) refl
@@ -136,7 +130,7 @@ module _ (value : AgentTask → Numbers → Numbers → Option ℕ) (publics : �
         calm_comes value publics tasks agree limits team w next known known_next (Take b a) step room
         (λ first. subst (λ (s : Step). IsSameVerdict r s.after) same (record {
           verdict = other_verdict r (with_state (value r.task) r a m) calm.task verdict_same;
-          number = ap (λ (s : Notes). s.number) (state_snapshot (value r.task) r a m) ∙ counted_number r.snapshot a (m.g + m.h);
+          number = ap (λ (s : Notes). s.number) (state_snapshot (value r.task) r a m) ∙ counted_has (λ t. t.number ≡ r.snapshot.number) r.snapshot a (m.g + m.h) refl refl;
         }))
         stage old
         (λ deciding. subst (λ (s : Step). s.after.goal ≡ r.goal) same

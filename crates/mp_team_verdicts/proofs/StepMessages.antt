@@ -1,6 +1,7 @@
 -- An agent's messages go to other agents of its team.
-use Rattle.std.proofs.Common.{◌≡◌, ℕ, ◌+◌, ◌≤◌, Bool, true, false, List, Option, refl, sym, subst, ◌∙◌, arith}
-use Rattle.std.specs.Prelude.{Ok, if◌then◌else◌}
+use Rattle.std.proofs.Common.{◌≡◌, ℕ, ◌+◌, ◌≤◌, true, ◌&&◌, List, Option, refl, sym, subst, ◌∙◌, arith}
+use Rattle.std.specs.Prelude.{Ok, ◌==◌, nat_le, not}
+use Rattle.std.proofs.lemmas.Bool.{and_parts, leb-true}
 use Rattle.mp_sets.specs.Numbers.{Numbers}
 use Rattle.mp_task.specs.AgentTask.{AgentTask}
 use Rattle.mp_messages.specs.declared.message.Message.{Message}
@@ -8,21 +9,21 @@ use Rattle.mp_messages.specs.declared.message.Message.TheVariants.{Marker, Repor
 use Rattle.mp_store.specs.Record.{Record}
 use Rattle.mp_search.specs.AgentState.{AgentState}
 use Rattle.mp_snapshot.specs.declared.verdict.Verdict.TheVariants.{Proved}
-use Rattle.mp_snapshot.specs.Notes.{Notes}
-use Rattle.mp_snapshot.specs.Rules.{after_report, after_state, begun, is_counted, own, with_marker, with_state as counted_state}
+use Rattle.mp_snapshot.specs.Rules.{after_report, begun, own, with_marker}
 use Rattle.mp_machine.specs.declared.event.Local.{Local}
 use Rattle.mp_machine.specs.declared.event.Local.TheVariants as locals
-use Rattle.mp_machine.specs.AgentRecord.{AgentRecord}
-use Rattle.mp_machine.specs.LocalStep.{local}
+use Rattle.mp_machine.specs.AgentRecord.{AgentRecord, is_going}
+use Rattle.mp_machine.specs.LocalStep.{is_another, local, may}
 use Rattle.mp_machine.specs.Outgoing.{Step, after_sending, to_others}
 use Rattle.mp_machine.specs.Snapshots.{findings, judged, judged_or_reported, with_notes}
 use Rattle.mp_machine.specs.Taking.{took_message, with_state}
 use Rattle.mp_machine.proofs.NotesLemmas.{given_at_first}
 use Rattle.mp_world.proofs.LocalCases.{ActingCases, either_holds, event_holds, from_goal_holds, judged_holds, judges_first, message_holds, walked_holds}
 use Rattle.mp_team_states.proofs.Joint.{IsReceiver}
+use Rattle.mp_team_verdicts.proofs.CountedStates.{counted_has}
 use Rattle.mp_team_verdicts.proofs.Expansions.{GoOut, all_others_go, both_go, expansion_goes, none_goes, one_goes}
 use Rattle.mp_team_verdicts.proofs.Named.{NamesOne, given_names}
-use Rattle.mp_team_verdicts.proofs.Others.{AreOfOthers, EndsAtOther, expanded_of_others, received_of_others, walk_to_other}
+use Rattle.mp_team_verdicts.proofs.Others.{AreOfOthers, EndsAtOther, expanded_of_others, not_same, received_of_others, walk_to_other}
 
 -- an agent of a team that knows how many there are, and hears of states from other agents alone
 pub record HasOthers (t : AgentTask) (agents : ℕ) (kept : Record AgentState) : Type 0 where
@@ -73,21 +74,13 @@ either_goes r sound =
     record { task = refl; after = sound; out = one_goes r.task 1 (Report (own r.snapshot)) is })
     (λ other waits. (acting r sound).silent)
 
--- a state leaves the number of agents
-state_agents : (s : Notes) (from f : ℕ) → (after_state s from f).agents ≡ s.agents
-state_agents s from f = by (is_counted s from)
-  where
-    by : (b : Bool) → (if b then counted_state s f else s).agents ≡ s.agents
-    by true = refl
-    by false = refl
-
 module _ (value : Numbers → Numbers → Option ℕ) (r : AgentRecord) (sound : IsSound r) where
   message_goes : (from : ℕ) → IsReceiver r.task from → (m : Message) (s : Step) → took_message value r from m ≡ Ok s → IsSoundStep r.task s
   unfolding with_state
   message_goes from other =
       message_holds value r from (λ m s. IsSoundStep r.task s) (record {
         state = λ m given right.
-            let notes = state_agents r.snapshot from (m.g + m.h) ∙ sound.notes in
+            let notes = counted_has (λ t. t.agents ≡ r.task.agents) r.snapshot from (m.g + m.h) sound.notes sound.notes in
             let heard = received_of_others r.task value from m r.search.kept other sound.heard in
             record { task = refl; after = record { some = sound.some; notes = notes; heard = heard }; out = none_goes r.task };
         on = λ number goes. either_goes (record r { snapshot = with_marker r.snapshot from }) sound;
@@ -103,15 +96,21 @@ module _ (value : Numbers → Numbers → Option ℕ) (r : AgentRecord) (sound :
         done = λ kind first. record { task = refl; after = sound; out = none_goes r.task };
       })
 
--- a message that is taken comes from another agent of the team
-abbrev pub IsFromOther : AgentTask → Local → Type 0
-IsFromOther t locals.Expand = Unit {0}
-IsFromOther t (locals.Take from) = IsReceiver t from
-IsFromOther t locals.Start = Unit {0}
+-- an agent takes messages of other agents of its team
+pub taken_from_other : (r : AgentRecord) (from : ℕ) → may r (locals.Take from) ≡ true → IsReceiver r.task from
+taken_from_other r from allowed =
+    let now = and_parts (is_going r.ending) (is_another r.task from) allowed in
+    let other = and_parts (nat_le 1 from && nat_le from r.task.agents) (not (from == r.task.me)) now.1 in
+    let range = and_parts (nat_le 1 from) (nat_le from r.task.agents) other.0 in
+    record {
+      from_1 = leb-true 1 from range.0;
+      in_team = leb-true from r.task.agents range.1;
+      another = not_same from r.task.me other.1;
+    }
 
 pub local_goes : (value : Numbers → Numbers → Option ℕ) (r : AgentRecord) (s : Step) (event : Local) (bytes : List ℕ)
-    → IsSound r → IsFromOther r.task event → local value r event bytes ≡ Ok s → IsSoundStep r.task s
-local_goes value r s event bytes sound other is =
+    → IsSound r → may r event ≡ true → local value r event bytes ≡ Ok s → IsSoundStep r.task s
+local_goes value r s event bytes sound allowed is =
     event_holds value r event bytes (IsSoundStep r.task) (record {
       expands = λ at.
           let heard = expanded_of_others r.task value r.search sound.heard in
@@ -120,7 +119,9 @@ local_goes value r s event bytes sound other is =
             after = record { some = sound.some; notes = sound.notes; heard = heard };
             out = expansion_goes r.task value r.search;
           };
-      takes = λ from m s at reads took. message_goes value r sound from (subst (IsFromOther r.task) at other) m s took;
+      takes = λ from m s at reads took.
+          let other = taken_from_other r from (subst (λ (e : Local). may r e ≡ true) at allowed) in
+          message_goes value r sound from other m s took;
       starts = λ at.
           let number = r.snapshot.number + 1 in
           let new = with_notes (begun r.snapshot number (findings r)) r in

@@ -1,12 +1,10 @@
 -- No report is under way to any agent but agent 1.
-use Rattle.std.proofs.Common.{◌≡◌, ◌≢◌, ℕ, Bool, true, false, eqb, List, [], ◌∷◌, ◌++◌, length, Option, Some, None, refl, sym, ap, subst, ◌∙◌, ◌⊎◌, inl, inr}
+use Rattle.std.proofs.Common.{◌≡◌, ◌≢◌, ℕ, Bool, true, false, List, [], ◌∷◌, ◌++◌, length, Option, None, refl, sym, ap, ◌∙◌}
 use Rattle.std.specs.Prelude.{Ok, ◌==◌}
-use Rattle.std.specs.List.{filter_map}
-use Rattle.std.proofs.lemmas.Bool.{eqb-false, eqb-true}
+use Rattle.std.proofs.lemmas.Bool.{eqb-true}
 use Rattle.mp_sets.specs.Numbers.{Numbers}
 use Rattle.mp_task.specs.AgentTask.{AgentTask}
 use Rattle.mp_messages.specs.declared.history.Event.{Event}
-use Rattle.mp_messages.specs.declared.history.Event.TheVariants.{Expand, Take, Start}
 use Rattle.mp_messages.specs.declared.message.Findings.{Findings}
 use Rattle.mp_messages.specs.declared.message.Message.{Message}
 use Rattle.mp_messages.specs.declared.message.Message.TheVariants.{Marker, Report, Pick, Trace, Length, Done}
@@ -16,18 +14,16 @@ use Rattle.mp_machine.specs.declared.event.Local.{Local}
 use Rattle.mp_machine.specs.AgentRecord.{AgentRecord}
 use Rattle.mp_machine.specs.LocalStep.{local}
 use Rattle.mp_machine.specs.Outgoing.{Outgoing, Step, others, to_each, to_one, to_others}
-use Rattle.mp_world.specs.Events.{agent_of, local_of, taken}
+use Rattle.mp_world.specs.Events.{local_of, taken}
 use Rattle.mp_world.specs.Steps.{IsStepOf}
 use Rattle.mp_world.specs.World.{IsTeamWorld, World}
-use Rattle.mp_world.proofs.LocalCases.{StepCases, each_local}
+use Rattle.mp_world.proofs.LocalCases.{StepCases, each_local, each_such}
 use Rattle.mp_team_snapshots.specs.Messages.{report_of, reports}
 use Rattle.mp_team_snapshots.specs.Team.{IsTeamOf, SendsFitting}
-use Rattle.mp_team_snapshots.proofs.Changes.{left, messages_before, reports_from_it, reports_from_others}
-use Rattle.mp_team_snapshots.proofs.Protocol.{IsOf, pair}
+use Rattle.mp_team_snapshots.proofs.Ends.{none_next}
+use Rattle.mp_team_snapshots.proofs.Protocol.{IsOf}
 use Rattle.mp_team_snapshots.proofs.Quiet.{expansion_quiet}
-use Rattle.mp_team_snapshots.proofs.Sendings.{reports_to, reports_to-append}
-use Rattle.mp_team_snapshots.proofs.TakingFirst.{left_others, taken_first}
-use Rattle.mp_team_states.proofs.WorldsGrow.{IsTaking, taking}
+use Rattle.mp_team_snapshots.proofs.Sendings.{none_to, reports_to, reports_to-append}
 
 -- reports go out to agent 1 alone
 abbrev pub TellsFirst : List Outgoing → Type 0
@@ -41,12 +37,7 @@ one_report found j other = by (1 == j) refl
     by false test = rw test refl
 
 no_report : (m : Message) → report_of m ≡ None → (agents : List ℕ) (j : ℕ) → reports_to j (to_each agents m) ≡ []
-no_report m none [] j = refl
-no_report m none (agent ∷ agents) j = by (agent == j) refl (no_report m none agents j)
-  where
-    by : (b : Bool) → (agent == j) ≡ b → reports_to j (to_each agents m) ≡ [] → reports_to j (to_each (agent ∷ agents) m) ≡ []
-    by true test rest = rw (test, none) rest
-    by false test rest = rw test rest
+no_report m none agents = none_to report_of (to_each agents m) (each_such (λ m. report_of m ≡ None) m none agents)
 
 abbrev Tells : AgentRecord → Step → Type 0
 Tells r s = TellsFirst s.out
@@ -78,53 +69,13 @@ local_tells value r s event bytes is =
 
 -- ---- in worlds
 
-none_behind : (m : Message) (ms : List Message) → filter_map report_of (m ∷ ms) ≡ [] → filter_map report_of ms ≡ []
-none_behind m ms none = by (report_of m) refl
-  where
-    by : (o : Option Findings) → report_of m ≡ o → filter_map report_of ms ≡ []
-    by None is = sym (rw is refl) ∙ none
-    by (Some found) is = absurd (no_item found (filter_map report_of ms) (sym (rw is refl) ∙ none))
-      where
-        no_item : (x : Findings) (xs : List Findings) → x ∷ xs ≡ [] → ⊥
-        no_item x xs e = cc
-
 -- reports are under way to agent 1 alone
 abbrev pub ReportsToFirst : ℕ → ℕ → World → Type 0
 ReportsToFirst agents publics w = (i j : ℕ) → IsOf agents i → IsOf agents j → j ≢ 1 → reports publics w i j ≡ []
 
-module _ (value : AgentTask → Numbers → Numbers → Option ℕ) (publics : ℕ) (tasks : List AgentTask) (team : IsTeamOf publics tasks) (w : World)
-    (is : IsTeamWorld tasks w) (old : ReportsToFirst (length tasks) publics w) (next : World) where
-  left_none : (event : Event) (step : IsStepOf value w event next) (i j : ℕ) → IsOf (length tasks) i → IsOf (length tasks) j → j ≢ 1
-      → filter_map report_of (left value publics tasks team w is event next step i j) ≡ []
-  left_none (Expand agent) step i j is_i is_j other =
-      ap (filter_map report_of) (sym (messages_before value publics tasks team w is (Expand agent) next step i j)) ∙ old i j is_i is_j other
-  left_none Start step i j is_i is_j other =
-      ap (filter_map report_of) (sym (messages_before value publics tasks team w is Start next step i j)) ∙ old i j is_i is_j other
-  left_none (Take b a) step i j is_i is_j other = by (pair i j a b)
-    where
-      t : IsTaking (value step.agent.task) step.agent a (taken w (Take b a)) step.step
-      t = taking (value step.agent.task) step.agent a (taken w (Take b a)) step.step step.local
-
-      this : reports publics w a b ≡ [] → filter_map report_of (left value publics tasks team w is (Take b a) next step a b) ≡ []
-      this none =
-          none_behind t.message (left value publics tasks team w is (Take b a) next step a b)
-          (sym (ap (filter_map report_of) (taken_first value publics tasks team w is b a next step t.message t.reads)) ∙ none)
-
-      by : ((i ≡ a) × (j ≡ b)) ⊎ ((i ≢ a) ⊎ (j ≢ b)) → filter_map report_of (left value publics tasks team w is (Take b a) next step i j) ≡ []
-      by (inl same) =
-          let none : reports publics w a b ≡ [] = subst (λ k. reports publics w a k ≡ []) same.1 (subst (λ k. reports publics w k j ≡ []) same.0 (old i j is_i is_j other)) in
-          subst (λ k. filter_map report_of (left value publics tasks team w is (Take b a) next step k j) ≡ []) (sym same.0)
-          (subst (λ k. filter_map report_of (left value publics tasks team w is (Take b a) next step a k) ≡ []) (sym same.1) (this none))
-      by (inr apart) =
-          ap (filter_map report_of) (left_others value publics tasks team w is b a next step t.message t.reads i j is_i is_j apart) ∙ old i j is_i is_j other
-
-  pub reports_next : (event : Event) (step : IsStepOf value w event next) → SendsFitting step.step → ReportsToFirst (length tasks) publics next
-  reports_next event step fits i j is_i is_j other = by (eqb i (agent_of event)) refl
-    where
-      by : (b : Bool) → eqb i (agent_of event) ≡ b → reports publics next i j ≡ []
-      by false test =
-          reports_from_others value publics tasks team w is event next step fits i j is_i is_j (eqb-false i (agent_of event) test) ∙ left_none event step i j is_i is_j other
-      by true test =
-          reports_from_it value publics tasks team w is event next step fits i j is_i is_j (eqb-true i (agent_of event) test)
-          ∙ ap (λ (rs : List Findings). rs ++ reports_to j step.step.out) (left_none event step i j is_i is_j other)
-          ∙ local_tells (value step.agent.task) step.agent step.step (local_of event) (taken w event) step.local j other
+pub reports_next : (value : AgentTask → Numbers → Numbers → Option ℕ) (publics : ℕ) (tasks : List AgentTask) (team : IsTeamOf publics tasks) (w : World)
+    (is : IsTeamWorld tasks w) → ReportsToFirst (length tasks) publics w → (next : World) (event : Event) (step : IsStepOf value w event next)
+    → SendsFitting step.step → ReportsToFirst (length tasks) publics next
+reports_next value publics tasks team w is old next event step fits =
+    none_next report_of (record { state = λ s. refl; pick = λ n. refl; trace = λ sent back. refl; length = λ n. refl }) (λ i j. j ≢ 1) value publics tasks team w is old event next step fits
+    (λ j other. local_tells (value step.agent.task) step.agent step.step (local_of event) (taken w event) step.local j other)

@@ -26,6 +26,7 @@ use Rattle.mp_world.specs.RoundRobin.{is_over}
 use Rattle.mp_world.specs.World.{IsAgent, World, agent_at, start_world, under_way}
 use Rattle.mp_world.proofs.Agents.{agent_there, member_of}
 use Rattle.mp_world.proofs.LogOfRun.{new_at}
+use Rattle.mp_world.proofs.LocalCases.{not_false}
 use Rattle.mp_team_snapshots.specs.Messages.{marker_of, messages, report_of}
 use Rattle.mp_team_snapshots.specs.Team.{IsTeamOf}
 use Rattle.mp_team_snapshots.proofs.Protocol.{IsOf, Sound}
@@ -33,11 +34,12 @@ use Rattle.mp_team_snapshots.proofs.Worlds.{is_agent_of, is_of_agent, is_of_ther
 use Rattle.mp_team_states.proofs.Reached.{has_it}
 use Rattle.mp_team_verdicts.specs.Ending.{IsAt, Stage, due, is_of_end}
 use Rattle.mp_team_verdicts.specs.Ending.Stage.{over, picking, searching, walking, without_plan}
-use Rattle.mp_team_verdicts.proofs.Frames.{IsKnownWorld, each_next}
+use Rattle.mp_team_verdicts.proofs.EachAgent.{each_agent}
+use Rattle.mp_team_verdicts.proofs.Frames.{IsKnownWorld}
 use Rattle.mp_team_verdicts.proofs.InRuns.{EndsSoFar, ends_so_far}
 use Rattle.mp_team_verdicts.proofs.Short.{path_entry}
 use Rattle.mp_team_snapshots.proofs.Taken.{is_its, its_notes}
-use Rattle.mp_team_verdicts.proofs.Complete.{IsStill, complete_if_still, not_due, not_false, other_false}
+use Rattle.mp_team_verdicts.proofs.Complete.{IsStill, complete_if_still, not_due, other_false}
 use Rattle.mp_team_verdicts.proofs.Noting.{ListsItself, lists_itself, moved}
 use Rattle.mp_team_verdicts.proofs.Reached.{IsReached, in_runs, known}
 
@@ -151,7 +153,7 @@ module _ (value : AgentTask → Numbers → Numbers → Option ℕ) (limit publi
       let move = moved value publics tasks team v is.team event next step in
       let notes = its_notes value publics tasks team v is.team is.in_runs event next step in
       let of = is_its value publics tasks team v is.team is.in_runs event next step in
-      each_next value publics tasks team v is.team event next step (λ i r. ListsItself r.snapshot)
+      each_agent value v event next step (λ i r. ListsItself r.snapshot)
       (lists_itself (length tasks) (agent_of event) team.agents of move.message step.agent step.step.after notes
       move.moves
       (old (agent_of event) step.agent step.there))

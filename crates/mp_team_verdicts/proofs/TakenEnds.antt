@@ -32,7 +32,8 @@ use Rattle.mp_team_states.specs.Paths.{IsPath, IsSentAt}
 use Rattle.mp_team_verdicts.specs.Ending.{AgentAt, IsAt, IsProved, Stage, due, is_of_end}
 use Rattle.mp_team_verdicts.specs.Ending.Stage.{over, picking, walking, without_plan}
 use Rattle.mp_team_verdicts.proofs.Calmly.{IsSameVerdict, first_now, verdict_now}
-use Rattle.mp_team_verdicts.proofs.Frames.{IsKnownWorld, each_next}
+use Rattle.mp_team_verdicts.proofs.EachAgent.{each_agent}
+use Rattle.mp_team_verdicts.proofs.Frames.{IsKnownWorld}
 use Rattle.mp_team_verdicts.proofs.TakingEnds.{due_holds, due_is, fits_all, mail_now, none_left, walks_on}
 use Rattle.mp_team_verdicts.proofs.WalkOn.{ComesTo}
 
@@ -40,7 +41,7 @@ use Rattle.mp_team_verdicts.proofs.WalkOn.{ComesTo}
 pub sent_is : (w : World) (b sent number : ℕ) (r : AgentRecord) → agent_at w b ≡ Some r → IsSentAt w b sent number → sent_entry sent r.search.kept ≡ Some number
 sent_is w b sent number r there is = subst (λ (o : Option AgentRecord). IsSomeAnd o (λ r. sent_entry sent r.search.kept ≡ Some number)) there is
 
-ended_kind : (kind : EndKind) → is_going (ending_of kind) ≡ false
+pub ended_kind : (kind : EndKind) → is_going (ending_of kind) ≡ false
 ended_kind kinds.NoPlan = refl
 ended_kind kinds.Spent = refl
 
@@ -117,7 +118,7 @@ module _ (value : AgentTask → Numbers → Numbers → Option ℕ) (publics : �
               verdict_now value publics tasks agree limits team w next known known_next (Take b a) step room (λ e. kept) stage old
               (λ decided. goal_now) stage old.verdict;
           agents =
-              each_next value publics tasks team w known.team (Take b a) next step (λ i y. AgentAt stage y) (subst (AgentAt stage) same mine)
+              each_agent value w (Take b a) next step (λ i y. AgentAt stage y) (subst (AgentAt stage) same mine)
               (λ i y there other. old.agents i y there);
           mail =
               mail_now value publics tasks agree limits team w next known known_next b a step room stage old m read is_end m teller all

@@ -1,9 +1,9 @@
 -- An agent walks the plan back: the walk goes on over a trace, or it is over.
-use Rattle.std.proofs.Common.{◌≡◌, ◌≢◌, ℕ, ◌+◌, ◌≤◌, ◌<◌, ◌^◌, Bool, true, false, ◌&&◌, List, [], ◌++◌, length, Option, Some, All, refl, sym, ap, subst, ◌∙◌, append_assoc, arith, inl, inr}
+use Rattle.std.proofs.Common.{◌≡◌, ◌≢◌, ℕ, ◌+◌, ◌≤◌, ◌<◌, ◌^◌, Bool, true, false, ◌&&◌, List, [], ◌∷◌, ◌++◌, length, Option, Some, All, refl, sym, ap, subst, ◌∙◌, append_assoc, arith, inl, inr}
 use Rattle.std.specs.Prelude.{◌==◌, filter, if◌then◌else◌, not}
 use Rattle.std.proofs.lemmas.Bool.{eq-eqb, eqb-true, false_from_ne_true}
 use Rattle.std.proofs.lemmas.List.{length-append}
-use Rattle.std.proofs.lemmas.List.Elements.{All-append, All-cons, All-contains, All-map, All-nil, All-weaker}
+use Rattle.std.proofs.lemmas.List.Elements.{All-contains, All-weaker}
 use Rattle.mp_sets.specs.Numbers.{Numbers}
 use Rattle.mp_task.specs.Agree.{Agree}
 use Rattle.mp_task.specs.AgentTask.{AgentTask}
@@ -20,28 +20,31 @@ use Rattle.mp_trail.specs.Share.{share}
 use Rattle.mp_trail.specs.Walk.{Walk, walk}
 use Rattle.mp_machine.specs.declared.event.Ending.TheVariants.{Solved}
 use Rattle.mp_machine.specs.AgentRecord.{AgentRecord, is_going}
-use Rattle.mp_machine.specs.Outgoing.{Outgoing, Step, after_sending, others, to_each, to_one}
+use Rattle.mp_machine.specs.Outgoing.{Outgoing, Step, after_sending, others, to_each, to_one, to_others}
 use Rattle.mp_machine.specs.WalkingBack.{arrived, solved, walked}
 use Rattle.mp_world.specs.Events.{agent_of}
 use Rattle.mp_world.specs.Steps.{IsStepOf}
 use Rattle.mp_world.specs.World.{World, agent_at}
 use Rattle.mp_world.proofs.Agents.{member_of}
+use Rattle.mp_world.proofs.LocalCases.{both_such, each_such}
 use Rattle.mp_world.proofs.Mail.{agent_of_team}
 use Rattle.mp_team_snapshots.specs.Snapshots.{one_if_due}
 use Rattle.mp_team_snapshots.specs.Team.{HasRoom, IsTeamOf}
 use Rattle.mp_team_snapshots.proofs.Changes.{left}
 use Rattle.mp_team_snapshots.proofs.Protocol.{IsOf}
+use Rattle.mp_team_snapshots.proofs.Worlds.{team_numbers}
 use Rattle.mp_team_states.specs.Paths.{IsPath, IsSentAt}
 use Rattle.mp_team_states.specs.Walks.{WalksAlong}
 use Rattle.mp_team_states.proofs.RoomCounts.{few_expansions}
 use Rattle.mp_team_states.proofs.StepsSound.{records_sound}
 use Rattle.mp_team_states.proofs.WalkingPaths.{walk_along}
-use Rattle.mp_team_verdicts.specs.Ending.{EndsWith, HasWalked, IsAt, IsProved, Stage, end_messages, is_of_end, notes}
+use Rattle.mp_team_verdicts.specs.Ending.{AgentAt, EndsWith, HasWalked, IsAt, IsProved, Stage, VerdictAt, due, end_messages, is_of_end, notes}
 use Rattle.mp_team_verdicts.specs.Ending.Stage.{over, walking}
-use Rattle.mp_team_verdicts.proofs.EndMessages.{HasNoEnds, due_both, ends_behind, ends_to, one_end, others_end}
+use Rattle.mp_team_verdicts.proofs.EndMessages.{HasNoEnds, IsNoEnd, due_both, ends_behind, ends_to, one_end, others_end}
 use Rattle.mp_team_verdicts.proofs.Fitting.{AllFit, HasEndRoom, ends_next, no_end_has_room, step_fits}
-use Rattle.mp_team_verdicts.proofs.Frames.{IsKnownWorld, each_next, me_before, of_agent_next, of_next}
-use Rattle.mp_team_verdicts.proofs.Heard.{AreElsewhere, EndsElsewhere, walk_elsewhere}
+use Rattle.mp_team_verdicts.proofs.EachAgent.{each_agent}
+use Rattle.mp_team_verdicts.proofs.Frames.{IsKnownWorld, me_before, of_agent_next, of_next}
+use Rattle.mp_team_verdicts.proofs.Heard.{EndsElsewhere, walk_elsewhere}
 use Rattle.mp_team_verdicts.proofs.NotesOfPlans.{notes_other, notes_own}
 use Rattle.mp_team_verdicts.proofs.OneEntry.{sent_small}
 use Rattle.mp_team_verdicts.proofs.EndSteps.{walked_keeps}
@@ -77,6 +80,51 @@ module _ (value : AgentTask → Numbers → Numbers → Option ℕ) (publics : �
       ends_next value publics tasks team w known.team event next step fits i j is_i is_j
       ∙ (λ k. none i j is_i is_j k ++ (if i == b then sent j is_j k else []))
       ∙ due_both (i == b) (q j) m
+
+  -- Messages that are none of the end go out, and then one of the end, which is all that is due at the stage that is come to.
+  module _ (first : List Outgoing) (silent : HasNoEnds first)
+      (none : (i j : ℕ) → IsOf (length tasks) i → IsOf (length tasks) j → filter is_of_end (left value publics tasks team w known.team event next step i j) ≡ [])
+      (one : AgentRecord) (one_there : agent_at next 1 ≡ Some one) (stage : Stage) (m : Message) (small : HasEndRoom m)
+      (verdict : VerdictAt next one stage) (mine : AgentAt stage step.step.after)
+      (rest : (i : ℕ) (y : AgentRecord) → agent_at w i ≡ Some y → i ≢ b → AgentAt stage y) where
+    pub one_told : (to : List ℕ) (q : ℕ → Bool) → step.step.out ≡ first ++ to_each to m
+        → ((j : ℕ) → IsOf (length tasks) j → ends_to j (to_each to m) ≡ one_if_due (q j) m)
+        → ((i j : ℕ) (y : AgentRecord) → agent_at next j ≡ Some y → one_if_due (i == b && q j) m ≡ due stage i j (is_going y.ending))
+        → ComesTo publics tasks step.step.out next
+    one_told to q out_is sent is_due =
+        let fits = team_fits (subst (λ (out : List Outgoing). All (λ y. HasEndRoom y.message) out) (sym out_is)
+        (both_such HasEndRoom first (to_each to m)
+        (All-weaker IsNoEnd (λ (y : Outgoing). HasEndRoom y.message) (λ y other. no_end_has_room y.message other) first silent)
+        (each_such HasEndRoom m small to))) in
+        record {
+          stage = stage;
+          is = record {
+            first = one;
+            there = one_there;
+            verdict = verdict;
+            agents = each_agent value w event next step (λ i y. AgentAt stage y) mine rest;
+            mail = λ i j y agent there.
+                ends_are fits none m q (λ j is_j. ap (ends_to j) out_is ∙ ends_behind j first (to_each to m) silent ∙ sent j is_j) i j
+                (of_agent_next value publics tasks team w known.team event next step i agent)
+                (of_next value publics tasks team w known.team event next step j y there)
+                ∙ is_due i j y there;
+          };
+          fits = fits;
+        }
+
+    -- all others are told, and the agent has ended
+    pub all_told : (t : AgentTask) → t.me ≡ b → t.agents ≡ length tasks → is_of_end m ≡ true → step.step.out ≡ first ++ to_others t m
+        → is_going step.step.after.ending ≡ false → ((i : ℕ) (y : AgentRecord) → agent_at w i ≡ Some y → i ≢ b → is_going y.ending ≡ true)
+        → ((i j : ℕ) (g : Bool) → one_if_due (i == b && g) m ≡ due stage i j g) → ComesTo publics tasks step.step.out next
+    all_told t me agents is_end out_is ended going is_due =
+        one_told (others t.me t.agents) (λ j. not (j == t.me)) out_is
+        (λ j is_j. others_end m t.me t.agents j is_end is_j.from_1 (subst (λ (k : ℕ). j ≤ k) (sym agents) is_j.at_most))
+        (λ i j y there. ap (λ (g : Bool). one_if_due (i == b && g) m) (going_is j y there) ∙ is_due i j (is_going y.ending))
+      where
+        going_is : (j : ℕ) (y : AgentRecord) → agent_at next j ≡ Some y → not (j == t.me) ≡ is_going y.ending
+        going_is =
+            each_agent value w event next step (λ j y. not (j == t.me) ≡ is_going y.ending) (ap not (eq-eqb b t.me (sym me)) ∙ sym ended)
+            (λ j y there other. ap not (false_from_ne_true (j == t.me) (λ same. other (eqb-true j t.me same ∙ me))) ∙ sym (going j y there other))
 
   module _ (r : AgentRecord) (entry : ℕ) (earlier later : List TaskStep) (first : List Outgoing) (silent : HasNoEnds first)
       (is : after_sending first (walked r entry (length later)) ≡ step.step)
@@ -130,10 +178,6 @@ module _ (value : AgentTask → Numbers → Numbers → Option ℕ) (publics : �
       after_is : step.step.after ≡ (arrived (record r { trail = r.trail ++ noted }) end).after
       after_is = ap (λ (s : Step). s.after) (sym now)
 
-      -- what goes out first has room
-      first_room : All (λ y. HasEndRoom y.message) first
-      first_room = All-weaker (λ (y : Outgoing). is_of_end y.message ≡ false) (λ (y : Outgoing). HasEndRoom y.message) (λ y other. no_end_has_room y.message other) first silent
-
     -- at the initial state
     at_root : (noted : List Noted) (n : ℕ) (x : WalksAlong next b (length later) earlier (record { noted = noted; end = Root n }))
         → after_sending first (arrived (record r { trail = r.trail ++ noted }) (Root n)) ≡ step.step → ComesTo publics tasks step.step.out next
@@ -152,56 +196,23 @@ module _ (value : AgentTask → Numbers → Numbers → Option ℕ) (publics : �
         after : step.step.after ≡ last
         after = after_is noted (Root n) x now
 
-        sent_to : (j : ℕ) → IsOf (length tasks) j → ends_to j step.step.out ≡ one_if_due (not (j == r.task.me)) (Length n)
-        sent_to j is_j =
-            ap (ends_to j) (out_is noted (Root n) x now)
-            ∙ ends_behind j first (to_each (others r.task.me r.task.agents) (Length n)) silent
-            ∙ others_end (Length n) r.task.me r.task.agents j refl is_j.from_1 (subst (λ (k : ℕ). j ≤ k) (sym agents_is) is_j.at_most)
-
-        all_room : n < 2 ^ 60 → All (λ y. HasEndRoom y.message) step.step.out
-        all_room small =
-            subst (λ (out : List Outgoing). All (λ y. HasEndRoom y.message) out) (sym (out_is noted (Root n) x now))
-            (All-append (λ (y : Outgoing). HasEndRoom y.message) first (to_each (others r.task.me r.task.agents) (Length n)) (first_room noted (Root n) x now)
-            (All-map (λ (y : Outgoing). HasEndRoom y.message) (λ agent. record { to = agent; message = Length n }) (others r.task.me r.task.agents) (λ k d h. small)))
-
-        going_is : (j : ℕ) (y : AgentRecord) → agent_at next j ≡ Some y → not (j == r.task.me) ≡ is_going y.ending
-        going_is =
-            each_next value publics tasks team w known.team event next step (λ j y. not (j == r.task.me) ≡ is_going y.ending)
-            (ap not (eq-eqb b r.task.me (sym me_is)) ∙ sym (ap (λ (y : AgentRecord). is_going y.ending) after))
-            (λ j y there other.
-            ap not (false_from_ne_true (j == r.task.me) (λ same. other (eqb-true j r.task.me same ∙ me_is)))
-            ∙ sym (others_walked j y there other).going)
-
-        by : (plan : List TaskStep) → x.own ++ later ≡ plan → n ≡ length plan → IsProved next one plan → length plan < 2 ^ 60 → ComesTo publics tasks step.step.out next
+        by : (plan : List TaskStep) → x.own ++ later ≡ plan → n ≡ length plan → IsProved next one plan → length plan < 2 ^ 60
+            → ComesTo publics tasks step.step.out next
         by plan same long proved_plan small =
-            let fits = team_fits (all_room (omega arith)) in
-            record {
-              stage = over b plan;
-              is = record {
-                first = one;
-                there = one_there;
-                verdict = record {
-                  proved = proved_plan;
-                  teller = record { who = step.step.after; there = step.after; ended = ap (λ (y : AgentRecord). is_going y.ending) after };
-                };
-                agents =
-                    each_next value publics tasks team w known.team event next step (λ i y. EndsWith plan y)
-                    (subst (EndsWith plan) (sym after)
-                    (record {
-                      trail = trail_after noted (Root n) x now ∙ ap (notes b) same ∙ ap (λ (i : ℕ). notes i plan) (sym me_is);
-                      ending = inr (record { ending = ap (λ (k : ℕ). Solved k) long; share = ap (λ (k : ℕ). share k (r.trail ++ noted)) long });
-                    }))
-                    (λ i y there other. record {
-                      trail = trail_other noted (Root n) x now i y there other ∙ ap (notes y.task.me) same;
-                      ending = inl (others_walked i y there other).going;
-                    });
-                mail = λ i j y agent there.
-                    ends_are fits none (Length n) (λ j. not (j == r.task.me)) sent_to i j
-                    (of_agent_next value publics tasks team w known.team event next step i agent) (of_next value publics tasks team w known.team event next step j y there)
-                    ∙ (λ k. one_if_due (i == b && going_is j y there k) (Length (long k)));
-              };
-              fits = fits;
-            }
+            let ended = ap (λ (y : AgentRecord). is_going y.ending) after in
+            all_told first silent none one one_there (over b plan) (Length (length plan)) small
+            (record { proved = proved_plan; teller = record { who = step.step.after; there = step.after; ended = ended } })
+            (subst (EndsWith plan) (sym after)
+            (record {
+              trail = trail_after noted (Root n) x now ∙ ap (notes b) same ∙ ap (λ (i : ℕ). notes i plan) (sym me_is);
+              ending = inr (record { ending = ap (λ (k : ℕ). Solved k) long; share = ap (λ (k : ℕ). share k (r.trail ++ noted)) long });
+            }))
+            (λ i y there other. record {
+              trail = trail_other noted (Root n) x now i y there other ∙ ap (notes y.task.me) same;
+              ending = inl (others_walked i y there other).going;
+            })
+            r.task me_is agents_is refl (out_is noted (Root n) x now ∙ (λ k. first ++ to_others r.task (Length (long k)))) ended
+            (λ i y there other. (others_walked i y there other).going) (λ i j g. refl)
 
     -- at a state that another agent sent
     at_hop : (noted : List Noted) (sender sent n : ℕ) (x : WalksAlong next b (length later) earlier (record { noted = noted; end = Hop sender sent n }))
@@ -215,18 +226,6 @@ module _ (value : AgentTask → Numbers → Numbers → Option ℕ) (publics : �
         after : step.step.after ≡ last
         after = after_is noted (Hop sender sent n) x now
 
-        sent_to : (j : ℕ) → IsOf (length tasks) j → ends_to j step.step.out ≡ one_if_due (sender == j) (Trace sent n)
-        sent_to j is_j =
-            ap (ends_to j) (out_is noted (Hop sender sent n) x now)
-            ∙ ends_behind j first (to_one sender (Trace sent n)) silent
-            ∙ one_end sender (Trace sent n) refl j
-
-        all_room : sent < 2 ^ 60 → n < 2 ^ 60 → All (λ y. HasEndRoom y.message) step.step.out
-        all_room small_sent small =
-            subst (λ (out : List Outgoing). All (λ y. HasEndRoom y.message) out) (sym (out_is noted (Hop sender sent n) x now))
-            (All-append (λ (y : Outgoing). HasEndRoom y.message) first (to_one sender (Trace sent n)) (first_room noted (Hop sender sent n) x now)
-            (All-cons (λ (y : Outgoing). HasEndRoom y.message) (record { to = sender; message = Trace sent n }) [] (small_sent, small) (All-nil (λ (y : Outgoing). HasEndRoom y.message))))
-
         by : (number : ℕ) → IsSentAt next sender sent number → IsPath next sender number x.earlier → n ≡ length later + length x.own → ComesTo publics tasks step.step.out next
         by number given path_there count =
             let own_long = length-append x.own later in
@@ -237,48 +236,39 @@ module _ (value : AgentTask → Numbers → Numbers → Option ℕ) (publics : �
             let most = short in
             let small = sent_small tasks agree limits next known_next.team known_next.so_far.sound known_next.so_far.reached b step.step.after step.after sender sent number given in
             let few = small.1 in
-            let fits = team_fits (all_room (omega arith) (omega arith)) in
-            record {
-              stage = walking b sender sent x.earlier (x.own ++ later);
-              is = record {
-                first = one;
-                there = one_there;
-                verdict = record {
-                  proved = subst (IsProved next one) (ap (λ (xs : List TaskStep). xs ++ later) x.parts ∙ append_assoc x.earlier x.own later) proved;
-                  sender = agent_of_team next b step.step.after step.after;
-                  apart = elsewhere;
-                  next = record { number = number; given = given; path = path_there };
-                };
-                agents =
-                    each_next value publics tasks team w known.team event next step (λ i y. HasWalked (x.own ++ later) y)
-                    (subst (HasWalked (x.own ++ later)) (sym after)
-                    (record {
-                      trail = trail_after noted (Hop sender sent n) x now ∙ ap (λ (i : ℕ). notes i (x.own ++ later)) (sym me_is);
-                      going = going;
-                    }))
-                    (λ i y there other. record {
-                      trail = trail_other noted (Hop sender sent n) x now i y there other;
-                      going = (others_walked i y there other).going;
-                    });
-                mail = λ i j y agent there.
-                    ends_are fits none (Trace sent n) (λ j. sender == j) sent_to i j
-                    (of_agent_next value publics tasks team w known.team event next step i agent) (of_next value publics tasks team w known.team event next step j y there)
-                    ∙ ap (λ (k : ℕ). one_if_due (i == b && sender == j) (Trace sent k)) long;
-              };
-              fits = fits;
-            }
+            let small_sent : sent < 2 ^ 60 = omega arith in
+            let small_later : length (x.own ++ later) < 2 ^ 60 = omega arith in
+            let m = Trace sent (length (x.own ++ later)) in
+            one_told first silent none one one_there (walking b sender sent x.earlier (x.own ++ later)) m (small_sent, small_later)
+            (record {
+              proved = subst (IsProved next one) (ap (λ (xs : List TaskStep). xs ++ later) x.parts ∙ append_assoc x.earlier x.own later) proved;
+              sender = agent_of_team next b step.step.after step.after;
+              apart = elsewhere;
+              next = record { number = number; given = given; path = path_there };
+            })
+            (subst (HasWalked (x.own ++ later)) (sym after)
+            (record {
+              trail = trail_after noted (Hop sender sent n) x now ∙ ap (λ (i : ℕ). notes i (x.own ++ later)) (sym me_is);
+              going = going;
+            }))
+            (λ i y there other. record {
+              trail = trail_other noted (Hop sender sent n) x now i y there other;
+              going = (others_walked i y there other).going;
+            })
+            (sender ∷ []) (λ j. sender == j) (out_is noted (Hop sender sent n) x now ∙ (λ k. first ++ to_one sender (Trace sent (long k))))
+            (λ j is_j. one_end sender m refl j) (λ i j y there. refl)
 
     pub walk_comes : ComesTo publics tasks step.step.out next
     unfolding walked wk
     walk_comes = by (walk r.search.kept entry (length later)).noted (walk r.search.kept entry (length later)).end along is away
       where
-        search : step.step.after.search ≡ r.search
-        search = ap (λ (s : Step). s.after.search) (sym is) ∙ (walked_keeps r entry (length later)).search
+        kept : step.step.after.search.kept ≡ r.search.kept
+        kept = ap (λ (s : Step). s.after.search.kept) (sym is) ∙ ap (λ (x : SearchRecord). x.kept) (walked_keeps r entry (length later)).search
 
         away : EndsElsewhere b (walk r.search.kept entry (length later)).end
         away =
-            walk_elsewhere b r.search.kept (subst (λ (x : SearchRecord). AreElsewhere b x.kept) search (known_next.hears b step.step.after step.after))
-            (entry + 1) entry (length later)
+            walk_elsewhere b step.step.after (known_next.hears b step.step.after step.after)
+            ((team_numbers publics tasks team next known_next.team).me b step.step.after step.after) r.search.kept kept entry (length later)
 
         by : (noted : List Noted) (end : Walked) → WalksAlong next b (length later) earlier (record { noted = noted; end = end })
             → after_sending first (arrived (record r { trail = r.trail ++ noted }) end) ≡ step.step → EndsElsewhere b end → ComesTo publics tasks step.step.out next
