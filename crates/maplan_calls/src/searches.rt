@@ -88,7 +88,7 @@ fn show_entry(store: &Store, number: u64, out: &mut Out) -> Result<(), OutOfMemo
         let entry = store.entry(number);
         let facts = entry.key.publics.list()?;
         out.show(&(entry.g, entry.h));
-        out.show(&(facts.as_slice(), &entry.key.tags));
+        out.show(&(facts.as_slice(), entry.key.tags));
         out.show(&entry.origin);
     }
     Ok(())

@@ -72,7 +72,8 @@ fn show_entry(store: &Store, number: u64, out: &mut Out) -> Result<(), OutOfMemo
         return out.answer_not_read();
     }
     let entry = store.entry(number);
-    out.answer(&(entry.g, entry.h, store.best(entry.key)))
+    let key = entry.key.copy()?;
+    out.answer(&(entry.g, entry.h, store.best(&key)))
 }
 
 impl Answers for Store {

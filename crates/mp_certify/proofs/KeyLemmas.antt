@@ -35,14 +35,14 @@ Decides-key publics privates a b of_a of_b =
     Decides-like _
     (λ all j. record { publics = (sym {A = SizedSet} all.0 j).members; mine = (sym {A = SizedSet} all.1.0 j).members; tags = sym {A = List Tag} all.1.1 j })
     (λ e. (
-      with_size b.publics.now a.publics.now (of_b.publics_size ∙ sym of_a.publics_size) (sym (ap (λ (x : AgentState). x.publics) e)),
+      with_size b.publics a.publics (of_b.publics_size ∙ sym of_a.publics_size) (sym (ap (λ (x : AgentState). x.publics) e)),
       (
-        with_size b.mine.now a.mine.now (of_b.privates_size ∙ sym of_a.privates_size) (sym (ap (λ (x : AgentState). x.mine) e)),
+        with_size b.mine a.mine (of_b.privates_size ∙ sym of_a.privates_size) (sym (ap (λ (x : AgentState). x.mine) e)),
         sym (ap (λ (x : AgentState). x.tags) e),
       ),
     ))
-    (Decides-and _ _ (Decides-sized_eq b.publics.now a.publics.now)
-    (Decides-and _ _ (Decides-sized_eq b.mine.now a.mine.now) (Decides-tags b.tags.now a.tags.now)))
+    (Decides-and _ _ (Decides-sized_eq b.publics a.publics)
+    (Decides-and _ _ (Decides-sized_eq b.mine a.mine) (Decides-tags b.tags.now a.tags.now)))
 
 same_keys : (publics privates : ℕ) (a b : StateKey) → HasKeySizes publics privates a → HasKeySizes publics privates b
     → same_key b a ≡ same_state (state_of_key a) (state_of_key b)

@@ -52,8 +52,8 @@ module _ (machines : List AgentMachine) (me cost : ℕ) where
 
     -- one entry more is looked at
     pub more_made : IsStateIn machines me x → (later : List (Entry AgentState)) (old_keys new_keys : List StateKey) (old new : List Bound) (fresh : Bool)
-        → ((f : Entry AgentState) (after : List (Entry AgentState)) → IsShown x f → AreKeysOf x.publics.now.size x.mine.now.size after old_keys
-        → (fresh ≡ not (has_state after f)) × AreKeysOf x.publics.now.size x.mine.now.size (f ∷ after) new_keys)
+        → ((f : Entry AgentState) (after : List (Entry AgentState)) → IsShown x f → AreKeysOf x.publics.size x.mine.size after old_keys
+        → (fresh ≡ not (has_state after f)) × AreKeysOf x.publics.size x.mine.size (f ∷ after) new_keys)
         → map said_by (reverse new) ≡ with_first (nat_lt x.g cost && fresh) (shown_worth machines cost me x) (map said_by (reverse old))
         → (All (IsOfTeam (tasks_of machines)) old → All (IsOfTeam (tasks_of machines)) new)
         → AreMade machines me cost later old_keys old
@@ -61,14 +61,14 @@ module _ (machines : List AgentMachine) (me cost : ℕ) where
     more_made of later old_keys new_keys old new fresh met said team made =
         let publics = publics_of (tasks_of machines) in
         let privates = privates_of machines me in
-        let before : AreKeysOf x.publics.now.size x.mine.now.size later old_keys =
-        subst (λ (n : ℕ). AreKeysOf n x.mine.now.size later old_keys) (sym of.publics_size)
+        let before : AreKeysOf x.publics.size x.mine.size later old_keys =
+        subst (λ (n : ℕ). AreKeysOf n x.mine.size later old_keys) (sym of.publics_size)
         (subst (λ (n : ℕ). AreKeysOf publics n later old_keys) (sym of.own_size) made.known) in
         let seen = met e later is before in
         record {
           known =
               subst (λ (n : ℕ). AreKeysOf publics n (e ∷ later) new_keys) of.own_size
-              (subst (λ (n : ℕ). AreKeysOf n x.mine.now.size (e ∷ later) new_keys) of.publics_size seen.1);
+              (subst (λ (n : ℕ). AreKeysOf n x.mine.size (e ∷ later) new_keys) of.publics_size seen.1);
           said =
               said
               ∙ (λ j. with_first (nat_lt (is.g j) cost && seen.0 j) (worth_is j) (made.said j))
@@ -114,7 +114,7 @@ module _ (machines : List AgentMachine) (team : AreOfTeam machines) (me : ℕ) (
   me_is = let is = team.numbered (me - 1) m there in omega (arith, from_1, is)
 
   pub state_in : (x : Shown) (n : ℕ) → IsSomeAnd (slice_get m.done.search.kept.entries n) (IsShown x)
-      → x.publics.now.size ≡ m.done.task.publics → x.mine.now.size ≡ m.done.task.privates
+      → x.publics.size ≡ m.done.task.publics → x.mine.size ≡ m.done.task.privates
       → IsStateIn machines me x
   state_in x n shown publics privates =
       let e = shown_entry (slice_get m.done.search.kept.entries n) x shown in

@@ -13,12 +13,12 @@ same_key = keys.ghosts.eq
 -- the state of a key
 abbrev pub state_of_key : StateKey → AgentState
 state_of_key k =
-    record { publics = k.publics.now.members; mine = k.mine.now.members; tags = k.tags.now }
+    record { publics = k.publics.members; mine = k.mine.members; tags = k.tags.now }
 
 -- its sets have these sizes
 pub record HasKeySizes (publics privates : ℕ) (k : StateKey) : Type 0 where
-  pub publics_size : k.publics.now.size ≡ publics
-  pub privates_size : k.mine.now.size ≡ privates
+  pub publics_size : k.publics.size ≡ publics
+  pub privates_size : k.mine.size ≡ privates
 
 -- Keys whose sets have these sizes stand for the states of some entries.
 abbrev pub AreKeysOf : ℕ → ℕ → List (Entry AgentState) → List StateKey → Type 0

@@ -18,12 +18,12 @@ use Rattle.mp_certify.specs.Team.{privates_of, IsOfTeam}
 -- the state of an entry as a caller sees it
 abbrev pub shown_state : Shown → AgentState
 shown_state x =
-    record { publics = x.publics.now.members; mine = x.mine.now.members; tags = x.tags.now }
+    record { publics = x.publics.members; mine = x.mine.members; tags = x.tags.now }
 
 -- it is a state of an agent of a team: its sets have the sizes that the tasks say, and there is a tag for each agent
 pub record IsStateIn (machines : List AgentMachine) (agent : ℕ) (x : Shown) : Type 0 where
-  pub publics_size : x.publics.now.size ≡ publics_of (tasks_of machines)
-  pub own_size : x.mine.now.size ≡ privates_of machines agent
+  pub publics_size : x.publics.size ≡ publics_of (tasks_of machines)
+  pub own_size : x.mine.size ≡ privates_of machines agent
   pub tags_length : length x.tags.now ≡ length machines
 
 -- the joint state, and what is to be paid from there on at least where each plan costs so much

@@ -38,7 +38,7 @@ fn bound_of<H: Heuristic>(
     ensures team { IfOk result (IsOfTeam (tasks_of machines.now)) }
 {
     let publics = shown.publics.list()?;
-    let privates = private_lists(alloc, machines, me, shown.mine, shown.tags.as_slice())?;
+    let privates = private_lists(alloc, machines, me, &shown.mine, shown.tags.as_slice())?;
     Ok(Bound {
         agent: me,
         bound: cost - shown.g,

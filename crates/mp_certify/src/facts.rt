@@ -15,7 +15,7 @@ use crate::team::tokens_of;
 use mp_audit::FactLists;
 use mp_list::{List, OutOfMemory};
 use mp_machine::Machine;
-use mp_sets::{Agent, Bits, FactList, Tag};
+use mp_sets::{Agent, BitsView, FactList, Tag};
 use mp_task::Heuristic;
 use mp_tokens::Tokens;
 use std::alloc::Global;
@@ -46,7 +46,7 @@ fn facts_of<H: Heuristic>(
     machine: &Machine<H>,
     number: usize,
     me: Agent,
-    mine: &Bits,
+    mine: &BitsView<'_>,
     token: u64,
 ) -> Result<FactList, OutOfMemory>
     requires free { IsFree machine.now }
@@ -68,7 +68,7 @@ pub(crate) fn private_lists<H: Heuristic>(
     alloc: Global,
     machines: &[Machine<H>],
     me: Agent,
-    mine: &Bits,
+    mine: &BitsView<'_>,
     tags: &[Tag],
 ) -> Result<FactLists, OutOfMemory>
     requires few { length machines.now ≤ 16 }

@@ -9,16 +9,16 @@ ghost use Rattle.mp_certify.specs.Latest.{has_state};
 
 use mp_list::OutOfMemory;
 use mp_search::Shown;
-use mp_sets::{Bits, Tags};
+use mp_sets::{BitsView, Tags};
 use std::collections::HashSet;
 
 /// The state of an entry, by what is lent of it.
-#[derive(Clone, Copy, PartialEq, Eq, Hash)]
+#[derive(Drop, PartialEq, Eq, Hash)]
 pub(crate) struct StateKey<'a> {
     /// The public facts that are true.
-    publics: &'a Bits,
+    publics: BitsView<'a>,
     /// The own private facts that are true.
-    mine: &'a Bits,
+    mine: BitsView<'a>,
     /// A tag for each agent.
     tags: &'a Tags,
 }
@@ -30,13 +30,13 @@ pub(crate) fn is_new<'a>(
 ) -> Result<bool, OutOfMemory>
     ensures { IfOk result (λ fresh. (e : Entry AgentState) (later : List (Entry AgentState))
         → IsShown shown.now e
-        → AreKeysOf shown.now.publics.now.size shown.now.mine.now.size later met.old.keys
+        → AreKeysOf shown.now.publics.size shown.now.mine.size later met.old.keys
         → (fresh ≡ not (has_state later e))
-        × AreKeysOf shown.now.publics.now.size shown.now.mine.now.size (e ∷ later) met.new.keys) }
+        × AreKeysOf shown.now.publics.size shown.now.mine.size (e ∷ later) met.new.keys) }
 {
     let key = StateKey {
-        publics: shown.publics,
-        mine: shown.mine,
+        publics: shown.publics.reborrow(),
+        mine: shown.mine.reborrow(),
         tags: shown.tags,
     };
     let fresh = met.insert(key)?;

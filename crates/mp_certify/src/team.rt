@@ -59,8 +59,8 @@ pub(crate) fn shown_at<H: Heuristic>(machine: &Machine<H>, number: u64) -> Shown
     requires free { IsFree machine.now }
     requires inside { number < length machine.now.done.search.kept.entries }
     ensures entry { IsSomeAnd (slice_get machine.now.done.search.kept.entries number) (IsShown result) }
-    ensures publics { result.publics.now.size ≡ machine.now.done.task.publics }
-    ensures privates { result.mine.now.size ≡ machine.now.done.task.privates }
+    ensures publics { result.publics.size ≡ machine.now.done.task.publics }
+    ensures privates { result.mine.size ≡ machine.now.done.task.privates }
 {
     machine.search().entry(number)
 }

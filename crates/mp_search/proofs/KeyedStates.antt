@@ -24,7 +24,7 @@ use Rattle.mp_store.specs.declared.entry.Origin.TheVariants.{Root}
 use Rattle.mp_store.specs.declared.entry.Mark.TheVariants.{Expanded, Replaced}
 use Rattle.mp_store.specs.declared.entry.Offer.{Offer}
 use Rattle.mp_store.specs.declared.entry.Offer.TheVariants.{Kept, Worse}
-use Rattle.mp_store.specs.StoreFields.{no_key}
+use Rattle.mp_store.specs.KeyRows.{no_key}
 use Rattle.mp_store.specs.declared.key.Key.{Key}
 use Rattle.mp_store.specs.Keys.{same_key}
 use Rattle.mp_store.specs.Named.{named, named_entry}

@@ -96,7 +96,7 @@ module _ (t : AgentTask) (s : AgentState) (n : ℕ) (answer : Option (ℕ × ℕ
         ∙ ap (order_of_use (set.from_list t.start_priv))
         (sym (more_sets n old.kept e is (option_map (λ x. x.0) answer) new.kept sent.marked number (ap (option_map (λ (x : ℕ × ℕ). x.0)) some)))
 
-    pub message_is : (x : Shown) (m : State) (seen : Entry AgentState) → slice_get new.kept.entries n ≡ Some seen → IsShown x seen → x.publics.now.size ≡ new.publics
+    pub message_is : (x : Shown) (m : State) (seen : Entry AgentState) → slice_get new.kept.entries n ≡ Some seen → IsShown x seen → x.publics.size ≡ new.publics
         → IsMessageOf t number own_token x m → m ≡ message_of t new.kept number e
     unfolding message_of
     message_is x m seen at shown size made =
@@ -106,7 +106,7 @@ module _ (t : AgentTask) (s : AgentState) (n : ℕ) (answer : Option (ℕ × ℕ
         subst (λ (a : Option (ℕ × ℕ)). IfSome a (λ x. x.1 ≡ place new.used e.key.mine)) some (sent.token e is)
         ∙ ap (λ (u : List Numbers). place u e.key.mine) used_now
         in
-        let sized : x.publics.now ≡ record { size = t.publics; members = e.key.publics } =
+        let sized : x.publics ≡ record { size = t.publics; members = e.key.publics } =
         λ j. record { size = (size ∙ publics ∙ of.publics) j; members = (shown.publics ∙ ap (λ (y : Entry AgentState). y.key.publics) same) j }
         in
         λ j. record {

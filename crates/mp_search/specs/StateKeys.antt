@@ -69,8 +69,8 @@ pub record HasSizes (publics privates : ℕ) (x : Reached) : Type 0 where
 
 -- an entry as a caller sees it
 pub record IsShown (x : Shown) (e : Entry AgentState) : Type 0 where
-  pub publics : x.publics.now.members ≡ e.key.publics
-  pub mine : x.mine.now.members ≡ e.key.mine
+  pub publics : x.publics.members ≡ e.key.publics
+  pub mine : x.mine.members ≡ e.key.mine
   pub tags : x.tags.now ≡ e.key.tags
   pub g : x.g ≡ e.g
   pub h : x.h ≡ e.h
@@ -93,5 +93,5 @@ pub record IsMessageOf (t : AgentTask) (number own_token : ℕ) (x : Shown) (m :
   pub sent : m.sent ≡ number
   pub g : m.g ≡ x.g
   pub h : m.h ≡ x.h
-  pub facts : m.facts ≡ listed x.publics.now
-  pub tags : m.tags ≡ with_tag x.tags.now t.me (record { token = own_token; met = is_met t x.mine.now.members })
+  pub facts : m.facts ≡ listed x.publics
+  pub tags : m.tags ≡ with_tag x.tags.now t.me (record { token = own_token; met = is_met t x.mine.members })

@@ -13,12 +13,12 @@ use crate::answer::AgentList;
 use crate::reached::Reached;
 use mp_applicable::FarIndex;
 use mp_list::OutOfMemory;
-use mp_sets::{Agent, Bits, Tag};
+use mp_sets::{Agent, BitsView, Tag};
 use mp_task::{Act, Task};
 use std::alloc::Global;
 
 /// Whether the agent's private goals all hold.
-pub(crate) fn is_met(task: &Task, mine: &Bits) -> bool
+pub(crate) fn is_met(task: &Task, mine: &BitsView<'_>) -> bool
     requires { mine.now.size ≡ task.now.privates }
     ensures { result ≡ is_met task.now mine.now.members }
 {
@@ -44,7 +44,7 @@ pub(crate) fn is_goal(task: &Task, state: &Reached) -> bool
     ensures { result ≡ is_goal_state task.now (reached_state state.now) }
 {
     state.key.publics.holds(&task.goal_pub)
-        && is_met(task, &state.mine)
+        && is_met(task, &state.mine.view())
         && are_others_met(task.me, 0, state.key.tags.as_slice())
 }
 
@@ -155,5 +155,5 @@ pub(crate) fn is_visible(
     ensures { result ≡ is_visible task.now act.now (reached_state before.now) (reached_state after.now) }
 {
     let _ = act;
-    is_public || (!is_met(task, &before.mine) && is_met(task, &after.mine))
+    is_public || (!is_met(task, &before.mine.view()) && is_met(task, &after.mine.view()))
 }

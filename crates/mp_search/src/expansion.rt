@@ -292,8 +292,8 @@ fn set_parent(parent: &mut Expanding, states: &States, number: u64) -> Result<()
 {
     let entry = states.entry(number);
     set_tags(&mut parent.state.key.tags, entry.tags)?;
-    parent.state.key.publics.copy_from(entry.publics);
-    parent.state.mine.copy_from(entry.mine);
+    parent.state.key.publics.copy_from_view(&entry.publics);
+    parent.state.mine.copy_from_view(&entry.mine);
     parent.number = number;
     parent.g = entry.g;
     Ok(())

@@ -16,9 +16,9 @@ use crate::offering::offer_at;
 use crate::reached::Reached;
 use crate::sending::with_tag;
 use crate::states::States;
-use mp_list::{Copied, OutOfMemory};
+use mp_list::OutOfMemory;
 use mp_messages::State;
-use mp_sets::{Agent, Bits, Tag};
+use mp_sets::{Agent, Bits, BitsView, Tag};
 use mp_store::{Key, Origin};
 use mp_task::{Heuristic, Task};
 use std::alloc::Global;
@@ -40,7 +40,7 @@ fn tag_of(agent: Agent, state: &State) -> Tag
 }
 
 /// Whether the met byte of a tag is that of a set.
-fn is_byte_right(task: &Task, tag: Tag, mine: &Bits) -> bool
+fn is_byte_right(task: &Task, tag: Tag, mine: &BitsView<'_>) -> bool
     requires { mine.now.size ≡ task.now.privates }
     ensures { result ≡ (if tag.met then is_met task.now mine.now.members else not (is_met task.now mine.now.members)) }
 {
@@ -51,7 +51,12 @@ fn is_byte_right(task: &Task, tag: Tag, mine: &Bits) -> bool
 }
 
 /// A state that came in a message, with an own set.
-fn reached(alloc: Global, task: &Task, state: &State, mine: &Bits) -> Result<Reached, OutOfMemory>
+fn reached(
+    alloc: Global,
+    task: &Task,
+    state: &State,
+    mine: &BitsView<'_>,
+) -> Result<Reached, OutOfMemory>
     requires state { IsStateFor task.now state.now }
     requires size { mine.now.size ≡ task.now.privates }
     ensures state { IfOk result (λ made. reached_state made ≡ record {
@@ -67,7 +72,7 @@ fn reached(alloc: Global, task: &Task, state: &State, mine: &Bits) -> Result<Rea
             mine: 0,
             tags: with_tag(alloc, &state.tags, task.me, NO_TAG)?,
         },
-        mine: mine.copy()?,
+        mine: Bits::from_view(mine)?,
     })
 }
 
@@ -138,9 +143,9 @@ pub(crate) fn receive_state<H: Heuristic>(
     let Some(mine) = states.own_set(tag.token) else {
         return Err(ReceiveRefusal::UnknownToken);
     };
-    if !is_byte_right(task, tag, mine) {
+    if !is_byte_right(task, tag, &mine) {
         return Err(ReceiveRefusal::WrongByte);
     }
-    let mut state = reached(alloc, task, message, mine)?;
+    let mut state = reached(alloc, task, message, &mine)?;
     Ok(offer_received(task, heuristic, states, from, message, &mut state)?)
 }

@@ -175,8 +175,8 @@ impl<H: Heuristic> Search<H> {
         requires { number < length self.now.done.kept.entries }
         ensures entry { IsSomeAnd (slice_get self.now.done.kept.entries number) (IsShown result) }
         ensures bounded { result.g + result.h < 2 ^ 60 }
-        ensures publics { IsFalse self.now.failed → result.publics.now.size ≡ self.now.task.publics }
-        ensures privates { IsFalse self.now.failed → result.mine.now.size ≡ self.now.task.privates }
+        ensures publics { IsFalse self.now.failed → result.publics.size ≡ self.now.task.publics }
+        ensures privates { IsFalse self.now.failed → result.mine.size ≡ self.now.task.privates }
     {
         self.states.entry(number)
     }

@@ -51,8 +51,8 @@ fn message(
     token: u64,
     entry: Shown<'_>,
 ) -> Result<State, OutOfMemory>
-    requires publics { entry.publics.now.size ≡ task.now.publics }
-    requires privates { entry.mine.now.size ≡ task.now.privates }
+    requires publics { entry.publics.size ≡ task.now.publics }
+    requires privates { entry.mine.size ≡ task.now.privates }
     ensures { IfOk result (λ state. IsMessageOf task.now number token entry.entry state) }
 {
     let tag = Tag {

@@ -11,20 +11,20 @@ ghost use Rattle.mp_search.specs.Search.{is_open_below, sent_sets};
 ghost use Rattle.mp_search.specs.StateKeys.{reached_state, HasSizes, IsShown, IsSent};
 
 use crate::reached::Reached;
-use mp_list::{Copied, OutOfMemory};
-use mp_sets::{Bits, Tags};
+use mp_list::OutOfMemory;
+use mp_sets::{Bits, BitsView, Tags};
 use mp_store::{Offer, Origin, Store};
 use mp_tokens::Tokens;
 use std::alloc::Global;
 use std::marker::Model;
 
 /// An entry whose own set is there itself.
-#[derive(Clone, Copy)]
+#[derive(Drop)]
 pub struct Shown<'a> {
     /// The public facts that are true.
-    pub publics: &'a Bits,
+    pub publics: BitsView<'a>,
     /// The own private facts that are true.
-    pub mine: &'a Bits,
+    pub mine: BitsView<'a>,
     /// A tag for each agent.
     pub tags: &'a Tags,
     /// What it cost to reach the state.
@@ -172,9 +172,9 @@ impl States {
     }
 
     /// The own set with a token: none exactly where no set has it.
-    pub(crate) fn own_set(&self, token: u64) -> Option<&Bits>
+    pub(crate) fn own_set(&self, token: u64) -> Option<BitsView<'_>>
         ensures none { IsNone result ↔ (length self.now.used ≤ token) }
-        ensures some { IfSome result (λ mine. mine.now
+        ensures some { IfSome result (λ mine. mine
             ≡ record { size = self.now.privates; members = set_at self.now.used token }) }
     {
         match self.tokens.set_of(token) {
@@ -188,15 +188,15 @@ impl States {
         requires { number < length self.now.kept.entries }
         ensures entry { IsSomeAnd (slice_get self.now.kept.entries number) (IsShown result) }
         ensures bounded { result.g + result.h < 2 ^ 60 }
-        ensures publics { result.publics.now.size ≡ self.now.publics }
-        ensures privates { result.mine.now.size ≡ self.now.privates }
+        ensures publics { result.publics.size ≡ self.now.publics }
+        ensures privates { result.mine.size ≡ self.now.privates }
     {
         let _ = self.store.count();
         let entry = self.store.entry(number);
         Shown {
-            publics: &entry.key.publics,
             mine: self.tokens.set(entry.key.mine),
-            tags: &entry.key.tags,
+            publics: entry.key.publics,
+            tags: entry.key.tags,
             g: entry.g,
             h: entry.h,
         }
@@ -215,9 +215,6 @@ fn give_index(tokens: &mut Tokens, state: &mut Reached) -> Result<(), OutOfMemor
     ensures tags { state.new.key.tags ≡ state.old.key.tags }
     ensures mine { state.new.mine ≡ state.old.mine }
 {
-    state.key.mine = match tokens.index_of(&state.mine) {
-        Some(index) => index,
-        None => tokens.intern(state.mine.copy()?)?,
-    };
+    state.key.mine = tokens.intern_copy(&state.mine)?;
     Ok(())
 }

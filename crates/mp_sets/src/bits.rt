@@ -1,13 +1,14 @@
 //! Sets of numbers below a size.
 
-ghost use Rattle.std.specs.Prelude.{◌≡◌, ℕ, ◌+◌, ◌<◌, ◌^◌, ◌↔◌, All, IsTrue, IfOk, IfSome, IfNone};
+ghost use Rattle.std.specs.Prelude.{◌≡◌, ℕ, ◌+◌, ◌<◌, ◌^◌, ◌↔◌, All, IsTrue, IfOk, IfSome, IfNone, slice_index};
 ghost use Rattle.std.specs.FinSet as set;
-ghost use Rattle.mp_sets.specs.Numbers.{AllBelow, IsLeastFrom, HasNoneFrom, holds, after, listed};
+ghost use Rattle.mp_sets.specs.Numbers.{AllBelow, IsLeastFrom, HasNoneFrom, holds, after, listed, numbers_below};
 ghost use Rattle.mp_sets.specs.Words.{has_bit, words_for, ArePacked};
 ghost use Rattle.mp_sets.specs.Compared.{binary};
 ghost use Rattle.std.specs.Simd.Lanes.{number_l, digits_l};
 
 use crate::fact_list::FactList;
+use crate::view::BitsView;
 use crate::words;
 use mp_list::{Copied, OutOfMemory};
 use std::alloc::Global;
@@ -70,6 +71,31 @@ impl Bits {
             .copy_from_slice(other.words.as_slice());
     }
 
+    /// Makes this set equal to another one of its size, whose words are lent. Takes no memory.
+    pub fn copy_from_view(&mut self, other: &BitsView<'_>)
+        requires { self.old.size ≡ other.now.size }
+        ensures { self.new ≡ other.now }
+    {
+        self.words.as_mut_slice().copy_from_slice(other.words());
+    }
+
+    /// A set whose words are lent, with words of its own.
+    pub fn from_view(view: &BitsView<'_>) -> Result<Bits, OutOfMemory>
+        ensures { IfOk result (λ made. made ≡ view.now) }
+    {
+        Ok(Bits {
+            size: view.size(),
+            words: Vec::from_slice(view.allocator(), view.words())?,
+        })
+    }
+
+    /// This set, with its words lent.
+    pub fn view(&self) -> BitsView<'_>
+        ensures { result ≡ self.now }
+    {
+        BitsView::new(*self.words.allocator(), self.size, self.words.as_slice())
+    }
+
     /// The size: all members are below it.
     pub fn size(&self) -> u32
         ensures size { result ≡ self.now.size }
@@ -99,7 +125,7 @@ impl Bits {
         requires { x < self.now.size }
         ensures { result ≡ set.contains self.now.members x }
     {
-        (self.words[(x / 64) as usize] >> (x % 64)) & 1 == 1
+        self.view().contains(x)
     }
 
     /// Whether all numbers of a list are members.
@@ -107,12 +133,7 @@ impl Bits {
         requires { All (λ x. x < self.now.size) list.now }
         ensures { result ≡ holds self.now.members list.now }
     {
-        for x in list.as_slice() {
-            if !self.contains(*x) {
-                return false;
-            }
-        }
-        true
+        self.view().holds(list)
     }
 
     /// Takes the deletes out and then makes the adds members, so that a number in both is a member.
@@ -158,7 +179,7 @@ impl Bits {
         requires { self.now.size ≡ other.now.size }
         ensures { IsTrue result ↔ (self.now ≡ other.now) }
     {
-        words::are_equal(self.words.as_slice(), other.words.as_slice())
+        self.view().equal(&other.view())
     }
 
     /// The least member at or above a number: none exactly where there is none. Takes no memory.
@@ -168,11 +189,7 @@ impl Bits {
         ensures next { IfSome result (λ x. (x < self.now.size) × (x + 1 < 2 ^ 32)) }
         ensures below { AllBelow self.now.size self.now.members }
     {
-        if from >= self.size() {
-            return None;
-        }
-        let x = words::first_from(self.words(), from)?;
-        Some(x as u32)
+        self.view().least_from(from)
     }
 
     /// The members, least one first.
@@ -181,24 +198,20 @@ impl Bits {
         ensures set { IfOk result (λ list. set.from_list list ≡ self.now.members) }
         ensures below { IfOk result (λ list. All (λ x. x < self.now.size) list) }
     {
-        let mut list = FactList::new(*self.words.allocator());
-        let mut from = 0;
-        while let Some(number) = self.least_from(from) {
-            list.push(number)?;
-            from = number + 1;
-        }
-        Ok(list)
+        self.view().list()
     }
 }
 
 impl Bits {
-    /// The words, and what they say of the size and the members.
-    pub(crate) fn words(&self) -> &[u64]
+    /// The words: as many as the numbers below the size need, of which bit x % 64 of word x / 64 says whether x is a member.
+    pub fn words(&self) -> &[u64]
         ensures packed { ArePacked self.now.size result.now }
         ensures bits { (x : ℕ) → set.contains self.now.members x ≡ has_bit result.now x }
         ensures number { number_l (2 ^ 64) result.now ≡ binary self.now.members }
         ensures digits { result.now
             ≡ digits_l (2 ^ 64) (words_for self.now.size) (binary self.now.members) }
+        ensures set { record { size = self.now.size; members = numbers_below self.now.size (has_bit result.now) } ≡ self.now }
+        ensures fits { (k : ℕ) → slice_index result.now k < 2 ^ 64 }
     {
         let words = self.words.as_slice();
         words::have_64_bits(words);

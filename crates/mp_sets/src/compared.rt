@@ -6,7 +6,7 @@ ghost use Rattle.std.specs.Cmp.Rules.{comparing, hashing};
 ghost use Rattle.std.proofs.Common.{rules};
 ghost use Rattle.mp_sets.specs.Compared.{sized_eq, sized_cmp, sized_writes};
 
-use crate::{Bits, words};
+use crate::{Bits, BitsView, words};
 use std::cmp::Ordering;
 use std::hash::{Hash, Hasher};
 
@@ -52,6 +52,30 @@ impl Ord for Bits {
 }
 
 impl Hash for Bits {
+    ghost hash_input = { sized_writes };
+
+    ghost respects_eq = { Prim.search (hashing, rules) };
+
+    fn hash<H: Hasher>(&self, state: &mut H) {
+        u64::hash_slice(self.words(), state);
+    }
+}
+
+impl PartialEq for BitsView<'_> {
+    ghost eq = { sized_eq };
+
+    ghost laws = { Prim.search (comparing, rules) };
+
+    fn eq(&self, other: &BitsView<'_>) -> bool {
+        self.size() == other.size() && self.equal(other)
+    }
+}
+
+impl Eq for BitsView<'_> {
+    ghost laws = { Prim.search (comparing, rules) };
+}
+
+impl Hash for BitsView<'_> {
     ghost hash_input = { sized_writes };
 
     ghost respects_eq = { Prim.search (hashing, rules) };

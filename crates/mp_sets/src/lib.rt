@@ -7,6 +7,7 @@ mod compared;
 mod fact_list;
 mod laws;
 mod tag;
+mod view;
 mod words;
 
 pub use agent::Agent;
@@ -14,3 +15,4 @@ pub use bits::Bits;
 pub use fact_list::FactList;
 pub use laws::equal_sets_are_one;
 pub use tag::{Tag, Tags};
+pub use view::BitsView;

@@ -1,11 +1,9 @@
 -- The keys of a store, and the places that stand for them.
-use Rattle.std.proofs.Common.{◌≡◌, ℕ, ◌<◌, true, false, eqb, List, [], ◌∷◌, ◌++◌, length, map, get_or, position, Some, None, All, refl, sym, ap, ◌∙◌, arith, inl, inr}
+use Rattle.std.proofs.Common.{◌≡◌, ℕ, ◌<◌, eqb, List, [], ◌∷◌, ◌++◌, length, map, get_or, None, All, refl, sym, ap, ◌∙◌, arith, inl, inr}
 use Rattle.std.specs.Prelude.{option_map}
-use Rattle.std.specs.List.{list_any, IsDistinct}
-use Rattle.std.proofs.lemmas.Bool.{cases_order, eq-eqb, false_from_ne_true, ne_eqb}
+use Rattle.std.proofs.lemmas.Bool.{cases_eq, eq-eqb, false_from_ne_true, ne_eqb}
 use Rattle.std.proofs.lemmas.List.{get_or-map, get_or_append_left, get_or_push, length-map}
-use Rattle.std.proofs.lemmas.List.Quantifiers.{position-Some}
-use Rattle.std.proofs.lemmas.Map.Made.{AllPairs-from_IsDistinct}
+use Rattle.mp_rows.specs.Apart.{AreOnce}
 use Rattle.mp_store.specs.declared.entry.Entry.{Entry}
 use Rattle.mp_store.specs.declared.key.Key.{Key}
 use Rattle.mp_store.specs.Keys.{same_key}
@@ -13,34 +11,23 @@ use Rattle.mp_store.specs.Minima.{Numbered, best, is_cheaper, those}
 use Rattle.mp_store.specs.Named.{named, named_entry}
 use Rattle.mp_store.specs.NumberFields.{nothing}
 use Rattle.mp_store.specs.Record.{Record}
-use Rattle.mp_store.specs.StoreFields.{key_at, no_key}
+use Rattle.mp_store.specs.KeyRows.{key_at, no_key}
 use Rattle.mp_store.specs.KeyLaws.{Decides-key}
 use Rattle.mp_store.proofs.Mapped.{map-agree}
 use Rattle.mp_store.proofs.RankLemmas.{IsThat, none_found, those_have}
-use Rattle.mp_store.proofs.Sound.{none_at}
 
 -- keys at different places are different
-pub apart : (keys : List Key) → IsDistinct same_key keys → (a b : ℕ) → a < length keys → b < length keys → same_key (key_at keys a) (key_at keys b) ≡ eqb a b
-apart keys distinct a b a_in b_in =
-    let differ = AllPairs-from_IsDistinct Decides-key keys distinct in
-    elim (cases_order a b) [
+pub apart : (keys : List Key) → AreOnce no_key keys → (a b : ℕ) → a < length keys → b < length keys → same_key (key_at keys a) (key_at keys b) ≡ eqb a b
+apart keys once a b a_in b_in =
+    elim (cases_eq a b) [
       | inl same ↦ (Decides-key (key_at keys a) (key_at keys b)).1 (ap (key_at keys) same) ∙ sym (eq-eqb a b same)
-      | inr (inl before) ↦
-          false_from_ne_true (same_key (key_at keys a) (key_at keys b)) (λ e. differ a b no_key before b_in ((Decides-key (key_at keys a) (key_at keys b)).0 e))
-          ∙ sym (ne_eqb a b (λ e. omega arith))
-      | inr (inr behind) ↦
-          false_from_ne_true (same_key (key_at keys a) (key_at keys b)) (λ e. differ b a no_key behind a_in (sym ((Decides-key (key_at keys a) (key_at keys b)).0 e)))
-          ∙ sym (ne_eqb a b (λ e. omega arith))
+      | inr other ↦
+          false_from_ne_true (same_key (key_at keys a) (key_at keys b)) (λ e. other (once a b a_in b_in ((Decides-key (key_at keys a) (key_at keys b)).0 e)))
+          ∙ sym (ne_eqb a b other)
     ]
 
--- the place that is found for a key
-pub found_place : (keys : List Key) (key : Key) (place : ℕ) → Some place ≡ position (same_key key) keys → (place < length keys) × (key_at keys place ≡ key)
-found_place keys key place found =
-    let at = position-Some (same_key key) keys place no_key (sym found) in
-    (at.0, sym ((Decides-key key (key_at keys place)).0 at.1))
-
 -- no entry has a key that is nowhere
-pub no_best : (keys : List Key) (key : Key) (r : Record ℕ) → All (λ e. e.key < length keys) r.entries → list_any (same_key key) keys ≡ false → best same_key key (named (key_at keys) r) ≡ None
+pub no_best : (keys : List Key) (key : Key) (r : Record ℕ) → All (λ e. e.key < length keys) r.entries → ((n : ℕ) → n < length keys → key_at keys n ≡ key → ⊥) → best same_key key (named (key_at keys) r) ≡ None
 no_best keys key r keyed none =
     ap (option_map (λ x. x.0))
     (none_found is_cheaper (those (λ e. same_key e.key key) (map (named_entry (key_at keys)) r.entries))
@@ -52,10 +39,7 @@ no_best keys key r keyed none =
         let inside : x.0 < length r.entries = let h = that.inside in omega arith in
         let e = get_or r.entries x.0 nothing in
         let is : named_entry (key_at keys) e ≡ x.1 = sym (get_or-map (named_entry (key_at keys)) r.entries x.0 nothing x.1 inside) ∙ that.is in
-        let key_is : key_at keys e.key ≡ key = ap (λ (y : Entry Key). y.key) is ∙ (Decides-key x.1.key key).0 that.passes in
-        let missing : same_key key (key_at keys e.key) ≡ false = none_at (same_key key) keys e.key no_key none (keyed x.0 nothing inside) in
-        let there : same_key key (key_at keys e.key) ≡ true = (Decides-key key (key_at keys e.key)).1 (sym key_is) in
-        absurd (let impossible : false ≡ true = sym missing ∙ there in cc)
+        none e.key (keyed x.0 nothing inside) (ap (λ (y : Entry Key). y.key) is ∙ (Decides-key x.1.key key).0 that.passes)
 
 -- with one key more the entries are seen as before
 pub named_longer : (keys : List Key) (key : Key) (r : Record ℕ) → All (λ e. e.key < length keys) r.entries → named (key_at (keys ++ key ∷ [])) r ≡ named (key_at keys) r

@@ -26,6 +26,10 @@ pub mod Keeping
 pub mod KeptFirst
 -- a cheaper entry of a known key
 pub mod KeptAgain
+-- lists of tags
+pub mod TagLemmas
+-- keys as rows of words
+pub mod KeyRowLemmas
 -- the keys of a store and their places
 pub mod KeyPlaces
 -- offers over numbers and over keys

@@ -8,7 +8,7 @@ pub mod Sent
 pub mod Laws
 -- which keys are the same
 pub mod Keys
--- keys are told apart, and equal ones are hashed alike
+-- keys are told apart
 pub mod KeyLaws
 -- records over numbered keys
 pub mod Numbered
@@ -18,6 +18,8 @@ pub mod NumberFields
 pub mod Ranks
 -- keys in the place of numbers
 pub mod Named
+-- keys as rows of words
+pub mod KeyRows
 -- the record that a store stands for
 pub mod StoreFields
 -- what a caller sees of an entry

@@ -1,7 +1,11 @@
 //! Entries of a search, as callers see them.
 
+ghost use Rattle.std.specs.Prelude.{◌≡◌, IfOk};
+ghost use Rattle.mp_store.specs.Views.{seen_key};
+
 use crate::key::Key;
-use mp_sets::Agent;
+use mp_list::{Copied, OutOfMemory};
+use mp_sets::{Agent, Bits, BitsView, Tags};
 
 /// Whether an entry may still be expanded.
 #[derive(Clone, Copy, Debug, PartialEq, Eq)]
@@ -61,11 +65,35 @@ pub struct Entry<K> {
     pub goal: bool,
 }
 
+/// A key whose parts stand in a store.
+#[derive(Drop)]
+pub struct KeyView<'a> {
+    /// The true public facts.
+    pub publics: BitsView<'a>,
+    /// The index of the agent's own private set.
+    pub mine: u64,
+    /// A tag for each agent.
+    pub tags: &'a Tags,
+}
+
+impl KeyView<'_> {
+    /// The key with parts of its own.
+    pub fn copy(&self) -> Result<Key, OutOfMemory>
+        ensures { IfOk result (λ key. key ≡ seen_key self.now) }
+    {
+        Ok(Key {
+            publics: Bits::from_view(&self.publics)?,
+            mine: self.mine,
+            tags: self.tags.copy()?,
+        })
+    }
+}
+
 /// An entry of a store.
-#[derive(Clone, Copy)]
+#[derive(Drop)]
 pub struct EntryView<'a> {
     /// The state.
-    pub key: &'a Key,
+    pub key: KeyView<'a>,
     /// What it cost to reach it.
     pub g: u64,
     /// What it costs at least from there to a goal.

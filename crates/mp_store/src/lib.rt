@@ -3,12 +3,13 @@
 
 mod entry;
 mod key;
+mod keys;
 mod laws;
 mod number_store;
 mod rank;
 mod store;
 
-pub use entry::{Entry, EntryView, Mark, Offer, Origin};
+pub use entry::{Entry, EntryView, KeyView, Mark, Offer, Origin};
 pub use key::Key;
 pub use laws::{
     best_entry_is_the_last, equal_keys_are_one, known_states_stay_known,

@@ -1,7 +1,8 @@
 //! The store of one agent.
 
-ghost use Rattle.std.specs.Prelude.{◌≡◌, ◌==◌, ◌+◌, ◌<◌, ◌^◌, ◌∷◌, ◌++◌, [], false, All, IfOk, IsSomeAnd, OnErr, OnOk, length, slice_get};
-ghost use Rattle.indexmap.specs.IndexSet.{IsUnique, contains};
+ghost use Rattle.std.specs.Prelude.{◌≡◌, ◌==◌, ◌+◌, ◌<◌, ◌^◌, ◌∷◌, ◌++◌, [], ℕ, All, IfOk, IsSomeAnd, OnErr, OnOk, length, slice_get};
+ghost use Rattle.mp_rows.specs.Apart.{AreOnce};
+ghost use Rattle.mp_store.specs.KeyRows.{key_at, no_key};
 ghost use Rattle.mp_store.specs.Keys.{same_key};
 ghost use Rattle.mp_store.specs.Laws.{IsEarlier, IsSound};
 ghost use Rattle.mp_store.specs.Minima.{least_f, least_goal, popped, best};
@@ -11,9 +12,9 @@ ghost use Rattle.mp_store.specs.Views.{Shows};
 
 use crate::entry::{EntryView, Offer, Origin};
 use crate::key::Key;
+use crate::keys::Keys;
 use crate::number_store::NumberStore;
-use indexmap::IndexSet;
-use mp_list::{Copied, OutOfMemory};
+use mp_list::OutOfMemory;
 use std::alloc::Global;
 use std::marker::Model;
 
@@ -21,7 +22,7 @@ use std::marker::Model;
 /// the record of its entries.
 pub struct Store {
     /// Each key once. In the entries the place of a key here stands for it.
-    keys: IndexSet<Key>,
+    keys: Keys,
     numbers: NumberStore,
 }
 
@@ -58,7 +59,7 @@ impl Store {
         ensures { result ≡ empty }
     {
         Store {
-            keys: IndexSet::new(alloc),
+            keys: Keys::new(alloc),
             numbers: NumberStore::new(alloc),
         }
     }
@@ -100,7 +101,7 @@ impl Store {
     {
         let entry = self.numbers.entry(number);
         EntryView {
-            key: &self.keys.as_slice()[entry.key as usize],
+            key: self.keys.key(entry.key as usize),
             g: entry.g,
             h: entry.h,
             origin: entry.origin,
@@ -111,7 +112,7 @@ impl Store {
     pub fn best(&self, key: &Key) -> Option<u64>
         ensures { result ≡ best same_key key.now self.now }
     {
-        match self.keys.get_index_of(key) {
+        match self.keys.find(key) {
             Some(place) => Some(self.numbers.best(place as u64)),
             None => None,
         }
@@ -153,10 +154,7 @@ impl Store {
             ≡ offered same_key (new_entry key g h origin goal) self.old) }
         ensures err { OnErr result (self.new ≡ self.old) }
     {
-        match self.keys.get_index_of(&key) {
-            Some(place) => self.numbers.offer(place as u64, g, h, origin, goal),
-            None => keep_first(&mut self.keys, &mut self.numbers, key, g, h, origin, goal),
-        }
+        self.offer_copy(&key, g, h, origin, goal)
     }
 
     /// Offers a state by its key, of which a copy is kept where the key is new. In all else it is as
@@ -175,41 +173,42 @@ impl Store {
             ≡ offered same_key (new_entry key.now g h origin goal) self.old) }
         ensures err { OnErr result (self.new ≡ self.old) }
     {
-        match self.keys.get_index_of(key) {
+        match self.keys.find(key) {
             Some(place) => self.numbers.offer(place as u64, g, h, origin, goal),
-            None => {
-                let copy = key.copy()?;
-                keep_first(&mut self.keys, &mut self.numbers, copy, g, h, origin, goal)
-            }
+            None => keep_first(&mut self.keys, &mut self.numbers, key, g, h, origin, goal),
         }
     }
 }
 
 /// Keeps a state of a new key.
 fn keep_first(
-    keys: &mut IndexSet<Key>,
+    keys: &mut Keys,
     numbers: &mut NumberStore,
-    key: Key,
+    key: &Key,
     g: u64,
     h: u64,
     origin: Origin,
     goal: bool,
 ) -> Result<Offer, OutOfMemory>
-    requires new { contains same_key keys.old key ≡ false }
-    requires count { length keys.old.keys ≡ numbers.old.keys }
-    requires keyed { All (λ e. e.key < length keys.old.keys) numbers.old.kept.entries }
+    requires new { (n : ℕ) → n < length keys.old → key_at keys.old n ≡ key.now → ⊥ }
+    requires count { length keys.old ≡ numbers.old.keys }
+    requires keyed { All (λ e. e.key < length keys.old) numbers.old.kept.entries }
     requires bounded { g + h < 2 ^ 60 }
     requires parent { IsEarlier (length numbers.old.kept.entries) origin }
-    ensures keys { OnOk result (keys.new.keys ≡ keys.old.keys ++ key ∷ []) }
+    ensures keys { OnOk result (keys.new ≡ keys.old ++ key.now ∷ []) }
     ensures offered { IfOk result (λ answer. (answer, numbers.new.kept)
-        ≡ offered ◌==◌ (new_entry (length keys.old.keys) g h origin goal) numbers.old.kept) }
-    ensures count { length keys.new.keys ≡ numbers.new.keys }
-    ensures distinct { IsUnique same_key keys.new }
-    ensures keyed { All (λ e. e.key < length keys.new.keys) numbers.new.kept.entries }
-    ensures err { OnErr result ((keys.new.keys ≡ keys.old.keys) × (numbers.new ≡ numbers.old)) }
+        ≡ offered ◌==◌ (new_entry (length keys.old) g h origin goal) numbers.old.kept) }
+    ensures count { length keys.new ≡ numbers.new.keys }
+    ensures once { AreOnce no_key keys.new }
+    ensures keyed { All (λ e. e.key < length keys.new) numbers.new.kept.entries }
+    ensures err { OnErr result ((keys.new ≡ keys.old) × (numbers.new ≡ numbers.old)) }
 {
-    keys.reserve(1)?;
-    let answer = numbers.keep_first(g, h, origin, goal)?;
-    keys.insert(key).unwrap();
-    Ok(answer)
+    keys.push(key)?;
+    match numbers.keep_first(g, h, origin, goal) {
+        Ok(answer) => Ok(answer),
+        Err(e) => {
+            keys.pop();
+            Err(e)
+        }
+    }
 }

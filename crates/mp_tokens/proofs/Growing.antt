@@ -1,23 +1,24 @@
 -- How a table grows: by a set that was met, and by the use of a set.
-use Rattle.std.proofs.Common.{◌≡◌, ℕ, suc, ◌+◌, ◌<◌, ◌≤◌, Bool, true, false, cond, not, ◌||◌, eqb, ltb, List, [], ◌∷◌, ◌++◌, length, get_or, All, Some, None, refl, sym, ap, subst, ◌∙◌, arith}
-use Rattle.std.specs.Bool.{Decides}
-use Rattle.std.specs.List.{position, position_or_len, list_any}
+use Rattle.std.proofs.Common.{◌≡◌, ℕ, suc, ◌+◌, ◌<◌, ◌^◌, Bool, true, false, cond, not, ◌||◌, eqb, ltb, List, [], ◌∷◌, ◌++◌, length, get_or, All, Option, Some, None, refl, sym, ap, ◌∙◌, arith}
+use Rattle.std.specs.Prelude.{IfNone, IfSome}
+use Rattle.std.specs.List.{position_or_len, list_any}
 use Rattle.std.specs.FinSet as set
-use Rattle.std.proofs.lemmas.Bool.{false≢true, ltb-true, ltb-false, lt-ltb}
-use Rattle.std.proofs.lemmas.Option.{cond_some}
+use Rattle.std.specs.Simd.Lanes.{digits_l}
+use Rattle.std.proofs.lemmas.Bool.{lt-ltb}
 use Rattle.std.proofs.lemmas.Bool.Decides.{nat_tests}
-use Rattle.std.proofs.lemmas.List.{length-map, length-append}
+use Rattle.std.proofs.lemmas.List.{get_or-map, length-map, map-append}
 use Rattle.std.proofs.lemmas.List.Elements.{All-append, All-from_recursion}
-use Rattle.std.proofs.lemmas.List.Sums.{fails_before_first, passes_at_first, prefix_len-le-length}
 use Rattle.indexmap.specs.IndexSet.{insert_key}
-use Rattle.mp_sets.specs.Numbers.{Numbers, SizedSet, same}
-use Rattle.mp_sets.proofs.SetLemmas.{same_itself, same_not}
-use Rattle.mp_tokens.specs.Order.{place, with_set, AreDifferent}
-use Rattle.mp_tokens.specs.TokenFields.{members_of, sets_at}
-use Rattle.mp_tokens.proofs.Places.{place_is, different_with, members_push, sets_at_push, place_by_index}
-
-pub members_len : (sets : List SizedSet) → length (members_of sets) ≡ length sets
-members_len sets = length-map sets (λ (x : SizedSet). x.members)
+use Rattle.mp_rows.specs.Apart.{IsNew}
+use Rattle.mp_rows.proofs.RowLemmas.{once_more}
+use Rattle.mp_sets.specs.Compared.{binary}
+use Rattle.mp_sets.specs.Numbers.{Numbers, SizedSet, numbers_below}
+use Rattle.mp_sets.specs.Words.{has_bit, words_for}
+use Rattle.mp_sets.proofs.ComparedLemmas.{digits_l-packed}
+use Rattle.mp_tokens.specs.Order.{with_set, place, AreDifferent}
+use Rattle.mp_tokens.specs.SetRows.{sets_of, AreSetRows, IsSetRow}
+use Rattle.mp_tokens.specs.TokenFields.{sets_at}
+use Rattle.mp_tokens.proofs.Places.{sets_at_push, place_by_index}
 
 -- whether there is one, and which is the first
 longer : (a b : ℕ) → ltb a b ≡ ltb (1 + a) (suc b)
@@ -31,78 +32,65 @@ first_there {X} p (x ∷ xs) = by (p x) refl (first_there p xs)
     by true e others = rw e (sym (lt-ltb 0 (suc (length xs)) (omega arith)))
     by false e others = rw e (others ∙ longer (position_or_len p xs) (length xs))
 
-cond_none : (b : Bool) (n : ℕ) → cond b (Some n) None ≡ None → b ≡ false
-cond_none true n e = absurd cc
-cond_none false n e = refl
+-- ---- sets of one size as rows of their words
 
--- a list with one more at its end, unless that is there
-inserted : {X : Type 0} (b : Bool) (xs : List X) (x : X) (P : List X → Type 0) → P xs → P (xs ++ x ∷ []) → P (cond b xs (xs ++ x ∷ []))
-inserted true xs x P old new = old
-inserted false xs x P old new = new
+pub sets_long : (size : ℕ) (rows : List (List ℕ)) → length (sets_of size rows) ≡ length rows
+sets_long size rows = length-map rows (λ (row : List ℕ). numbers_below size (has_bit row))
 
-pub not_shorter : {X : Type 0} (E : X → X → Bool) (xs : List X) (x : X) → length xs ≤ length (insert_key E xs x)
-not_shorter E xs x = inserted (list_any (E x) xs) xs x (λ ys. length xs ≤ length ys) (omega arith) (omega (arith, length-append xs (x ∷ [])))
+pub set_is : (size : ℕ) (rows : List (List ℕ)) (n : ℕ) → n < length rows → get_or (sets_of size rows) n set.empty ≡ numbers_below size (has_bit (get_or rows n []))
+set_is size rows n inside = get_or-map (λ (row : List ℕ). numbers_below size (has_bit row)) rows n [] set.empty inside
 
--- ---- sets of one size, told apart by a test that decides whether they are equal
+-- words of one set are one row
+pub rows_same : (size : ℕ) (a b : List ℕ) → IsSetRow size a → IsSetRow size b → numbers_below size (has_bit a) ≡ numbers_below size (has_bit b) → a ≡ b
+rows_same size a b is is' same =
+    digits_l-packed size a is.packed is.fits
+    ∙ ap (λ (s : Numbers). digits_l (2 ^ 64) (words_for size) (binary s)) same
+    ∙ sym (digits_l-packed size b is'.packed is'.fits)
 
-module _ (E : SizedSet → SizedSet → Bool) (decides : (a b : SizedSet) → Decides (E a b) (a ≡ b)) where
-  pub place_of_key : (sets : List SizedSet) (b : SizedSet) → All (λ s. s.size ≡ b.size) sets → position_or_len (E b) sets ≡ place (members_of sets) b.members
-  place_of_key sets b sizes =
-      let i = position_or_len (E b) sets in
-      let within : i ≤ length sets = prefix_len-le-length (λ s. not (E b s)) sets in
-      sym (place_is sets b.members i within
-      (λ k d h.
-      let s = get_or sets k d in
-      let fails : E b s ≡ false = fails_before_first (E b) sets k d h in
-      let size : s.size ≡ b.size = sizes k d (omega arith) in
-      same_not b.members s.members (λ e. false≢true (sym fails ∙ (decides b s).1 (λ j. record { size = sym size j; members = e j }))))
-      (λ d h.
-      let passes : E b (get_or sets i d) ≡ true = passes_at_first (E b) sets d h in
-      let is : b ≡ get_or sets i d = (decides b (get_or sets i d)).0 passes in
-      ap (λ (s : SizedSet). same b.members s.members) (sym is) ∙ same_itself b.members))
+pub sets_different : (size : ℕ) (rows : List (List ℕ)) → AreSetRows size rows → AreDifferent (sets_of size rows)
+sets_different size rows are i j i_in j_in same =
+    let long = sets_long size rows in
+    let i_row : i < length rows = omega (arith, long) in
+    let j_row : j < length rows = omega (arith, long) in
+    are.apart i j i_row j_row
+    (rows_same size (get_or rows i []) (get_or rows j []) (are.rows_are i [] i_row) (are.rows_are j [] j_row)
+    (sym (set_is size rows i i_row) ∙ same ∙ set_is size rows j j_row))
 
-  pub keys_grow : (sets : List SizedSet) (b : SizedSet) → All (λ s. s.size ≡ b.size) sets → members_of (insert_key E sets b) ≡ with_set (members_of sets) b.members
-  keys_grow sets b sizes =
-      let m = members_of sets in
-      let there : list_any (E b) sets ≡ ltb (place m b.members) (length m) = first_there (E b) sets ∙ (λ j. ltb (place_of_key sets b sizes j) (sym (members_len sets) j)) in
-      at_test (list_any (E b) sets) ∙ ap (λ (c : Bool). cond c m (m ++ b.members ∷ [])) there
-    where
-      at_test : (c : Bool) → members_of (cond c sets (sets ++ b ∷ [])) ≡ cond c (members_of sets) (members_of sets ++ b.members ∷ [])
-      at_test true = refl
-      at_test false = members_push sets b
+-- the words of a set
+module _ (s : SizedSet) (words : List ℕ) (row : IsSetRow s.size words) (is : numbers_below s.size (has_bit words) ≡ s.members) where
+  pub found_row : (rows : List (List ℕ)) (n : ℕ) → n < length rows → get_or rows n [] ≡ words → get_or (sets_of s.size rows) n set.empty ≡ s.members
+  found_row rows n inside there = set_is s.size rows n inside ∙ ap (λ (r : List ℕ). numbers_below s.size (has_bit r)) there ∙ is
 
-  -- what a search for the first one found
-  pub found_key : (sets : List SizedSet) (b : SizedSet) (i : ℕ) → All (λ s. s.size ≡ b.size) sets → Some i ≡ position (E b) sets → (i ≡ place (members_of sets) b.members) × (i < length (members_of sets))
-  found_key sets b i sizes found =
-      let first = position_or_len (E b) sets in
-      let is = cond_some (ltb first (length sets)) first i (sym found) in
-      let inside : first < length sets = ltb-true _ _ is.0 in
-      (sym is.1 ∙ place_of_key sets b sizes, omega (arith, is.1, members_len sets))
+  pub missing_row : (rows : List (List ℕ)) → AreSetRows s.size rows → IsNew words rows → (n : ℕ) → n < length rows → get_or (sets_of s.size rows) n set.empty ≡ s.members → ⊥
+  missing_row rows are new n inside same =
+      new n inside (rows_same s.size (get_or rows n []) words (are.rows_are n [] inside) row (sym (set_is s.size rows n inside) ∙ same ∙ sym is))
 
-  pub missing_key : (sets : List SizedSet) (b : SizedSet) → All (λ s. s.size ≡ b.size) sets → None ≡ position (E b) sets → place (members_of sets) b.members ≡ length (members_of sets)
-  missing_key sets b sizes missing =
-      let first = position_or_len (E b) sets in
-      let past : length sets ≤ first = ltb-false _ _ (cond_none (ltb first (length sets)) first (sym missing)) in
-      let within : first ≤ length sets = prefix_len-le-length (λ s. not (E b s)) sets in
-      sym (place_of_key sets b sizes) ∙ omega (arith, members_len sets)
+  pub found_if : (rows : List (List ℕ)) (r : Option ℕ) → IfSome r (λ n. (n < length rows) × (get_or rows n [] ≡ words)) → IfSome r (λ n. (n < length rows) × (get_or (sets_of s.size rows) n set.empty ≡ s.members))
+  found_if rows None found = tt
+  found_if rows (Some n) found = (found.0, found_row rows n found.0 found.1)
 
-  pub keys_different : (sets : List SizedSet) (b : SizedSet) → All (λ s. s.size ≡ b.size) sets → AreDifferent (members_of sets) → AreDifferent (members_of (insert_key E sets b))
-  keys_different sets b sizes different =
-      subst AreDifferent (sym (keys_grow sets b sizes)) (different_with (members_of sets) b.members different)
+  pub missing_if : (rows : List (List ℕ)) (r : Option ℕ) → AreSetRows s.size rows → IfNone r (IsNew words rows) → IfNone r ((n : ℕ) → n < length rows → get_or (sets_of s.size rows) n set.empty ≡ s.members → ⊥)
+  missing_if rows None are new = missing_row rows are new
+  missing_if rows (Some n) are new = tt
 
-pub keys_sizes : (E : SizedSet → SizedSet → Bool) (size : ℕ) (sets : List SizedSet) (b : SizedSet) → All (λ s. s.size ≡ size) sets → b.size ≡ size → All (λ s. s.size ≡ size) (insert_key E sets b)
-keys_sizes E size sets b sizes this =
-    inserted (list_any (E b) sets) sets b (All (λ (s : SizedSet). s.size ≡ size)) sizes (All-append (λ (s : SizedSet). s.size ≡ size) sets (b ∷ []) sizes (All-from_recursion (λ (s : SizedSet). s.size ≡ size) (b ∷ []) (this, tt)))
+  pub new_row : (rows : List (List ℕ)) → ((n : ℕ) → n < length rows → get_or (sets_of s.size rows) n set.empty ≡ s.members → ⊥) → IsNew words rows
+  new_row rows new n inside there = new n inside (found_row rows n inside there)
 
-pub keys_known : (E : SizedSet → SizedSet → Bool) (sets : List SizedSet) (b : SizedSet) (order : List ℕ) → All (λ i. i < length sets) order → All (λ i. i < length (insert_key E sets b)) order
-keys_known E sets b order known k d h =
-    let old : get_or order k d < length sets = known k d h in
-    omega (arith, not_shorter E sets b)
+  pub sets_pushed : (rows : List (List ℕ)) → sets_of s.size (rows ++ words ∷ []) ≡ sets_of s.size rows ++ s.members ∷ []
+  sets_pushed rows = map-append (λ (r : List ℕ). numbers_below s.size (has_bit r)) rows (words ∷ []) ∙ (λ j. sets_of s.size rows ++ is j ∷ [])
 
-pub known_members : (sets : List SizedSet) (order : List ℕ) → All (λ i. i < length sets) order → All (λ i. i < length (members_of sets)) order
-known_members sets order known k d h =
-    let old : get_or order k d < length sets = known k d h in
-    omega (arith, members_len sets)
+  pub rows_pushed : (rows : List (List ℕ)) → AreSetRows s.size rows → IsNew words rows → AreSetRows s.size (rows ++ words ∷ [])
+  rows_pushed rows are new =
+      record {
+        rows_are = All-append (IsSetRow s.size) rows (words ∷ []) are.rows_are (All-from_recursion (IsSetRow s.size) (words ∷ []) (row, tt));
+        apart = once_more [] rows words are.apart new;
+      }
+
+-- indices of rows are those of sets
+pub known_sets : (size : ℕ) (rows : List (List ℕ)) (order : List ℕ) → All (λ i. i < length rows) order → All (λ i. i < length (sets_of size rows)) order
+known_sets size rows order known k d h =
+    let old : get_or order k d < length rows = known k d h in
+    omega (arith, sets_long size rows)
 
 -- ---- a use
 
@@ -119,3 +107,9 @@ used_grow m order index different inside known =
     at_test : (c : Bool) → sets_at m (cond c order (order ++ index ∷ [])) ≡ cond c (sets_at m order) (sets_at m order ++ get_or m index set.empty ∷ [])
     at_test true = refl
     at_test false = sets_at_push m order index
+
+-- ---- a set that is met
+
+-- no rows
+pub no_sets : (size : ℕ) → AreSetRows size []
+no_sets size = record { rows_are = λ k d h. absurd (omega (arith, h)); apart = λ i j h more same. absurd (omega (arith, h)) }

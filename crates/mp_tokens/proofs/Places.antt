@@ -4,28 +4,15 @@ use Rattle.std.specs.List.{position_or_len}
 use Rattle.std.specs.FinSet as set
 use Rattle.std.proofs.lemmas.Bool.{eqb-true, cases_lt, lt-ltb, le-ltb, false≢true}
 use Rattle.std.proofs.lemmas.Bool.Decides.{nat_tests}
-use Rattle.std.proofs.Math.ListN.{get_or-map}
 use Rattle.std.proofs.Math.Seq.{get_or-append_seam}
 use Rattle.std.proofs.lemmas.List.{length-map, length-append, map-append, get_or_append_left}
 use Rattle.std.proofs.lemmas.List.Sums.{position_or_len_is, fails_before_first, passes_at_first, prefix_len-le-length}
-use Rattle.mp_sets.specs.Numbers.{Numbers, SizedSet, same}
+use Rattle.mp_sets.specs.Numbers.{Numbers, same}
 use Rattle.mp_sets.proofs.SetLemmas.{same_is, same_itself, same_not}
 use Rattle.mp_tokens.specs.Order.{place, with_set, AreDifferent}
-use Rattle.mp_tokens.specs.TokenFields.{members_of, sets_at}
+use Rattle.mp_tokens.specs.TokenFields.{sets_at}
 
 -- ---- the place of a set
-
-abbrev nowhere : SizedSet
-nowhere = record { size = 0; members = set.empty }
-
-pub place_is : (sets : List SizedSet) (s : Numbers) (i : ℕ) → i ≤ length sets → ((k : ℕ) (d : SizedSet) → k < i → same s (get_or sets k d).members ≡ false) → ((d : SizedSet) → i < length sets → same s (get_or sets i d).members ≡ true) → place (members_of sets) s ≡ i
-unfolding place
-place_is sets s i le before here =
-    let len : length (members_of sets) ≡ length sets = length-map sets (λ (x : SizedSet). x.members) in
-    let at : (k : ℕ) → get_or (members_of sets) k set.empty ≡ (get_or sets k nowhere).members = λ k. get_or-map (λ (x : SizedSet). x.members) sets k nowhere in
-    position_or_len_is (same s) (members_of sets) i set.empty (omega arith)
-    (λ k h. ap (same s) (at k) ∙ before k nowhere h)
-    (λ h. ap (same s) (at i) ∙ here nowhere (omega arith))
 
 pub place_within : (sets : List Numbers) (s : Numbers) → place sets s ≤ length sets
 unfolding place
@@ -119,9 +106,6 @@ place_with sets s =
 
 -- ---- sets by their places
 
-pub members_push : (sets : List SizedSet) (s : SizedSet) → members_of (sets ++ s ∷ []) ≡ members_of sets ++ s.members ∷ []
-members_push sets s = map-append (λ (x : SizedSet). x.members) sets (s ∷ [])
-
 pub sets_at_push : (sets : List Numbers) (order : List ℕ) (i : ℕ) → sets_at sets (order ++ i ∷ []) ≡ sets_at sets order ++ get_or sets i set.empty ∷ []
 sets_at_push sets order i = map-append (λ (k : ℕ). get_or sets k set.empty) order (i ∷ [])
 
@@ -132,13 +116,6 @@ sets_at_more sets s (i ∷ order) within =
     let first : get_or (sets ++ s ∷ []) i set.empty ≡ get_or sets i set.empty = get_or_append_left sets (s ∷ []) set.empty i (within 0 i (omega arith)) in
     let others = sets_at_more sets s order (λ k d h. within (suc k) d (omega arith)) in
     λ j. first j ∷ others j
-
-pub sets_at_with : (sets : List Numbers) (s : Numbers) (order : List ℕ) → All (λ i. i < length sets) order → sets_at (with_set sets s) order ≡ sets_at sets order
-sets_at_with sets s order within =
-    elim (old_or_new sets s) [
-      | inl old ↦ ap (λ (xs : List Numbers). sets_at xs order) (with_old sets s old)
-      | inr new ↦ ap (λ (xs : List Numbers). sets_at xs order) (with_new sets s new) ∙ sets_at_more sets s order within
-    ]
 
 -- the place of a set among those at some places is the place of its own place
 pub place_by_index : (sets : List Numbers) (order : List ℕ) (index : ℕ) → AreDifferent sets → index < length sets → All (λ i. i < length sets) order → place (sets_at sets order) (get_or sets index set.empty) ≡ position_or_len (eqb index) order
@@ -166,3 +143,8 @@ place_by_index sets order index different inside within =
 
     eqb_of : (a b : ℕ) → a ≡ b → eqb a b ≡ true
     eqb_of a b e = grind (arith, nat_tests)
+
+-- the place of a set that stands at one place alone
+pub place_of_it : (sets : List Numbers) (s : Numbers) (n : ℕ) → AreDifferent sets → n < length sets → get_or sets n set.empty ≡ s → place sets s ≡ n
+place_of_it sets s n different inside there =
+    place_of_first sets s n inside (λ k before same. let e : k ≡ n = different k n (omega arith) inside (same ∙ sym there) in omega arith) there

@@ -1,12 +1,10 @@
 -- A table of the program as the plain table that contracts see.
-use Rattle.std.specs.Prelude.{◌≡◌, ℕ, ◌<◌, List, length, map, All}
-use Rattle.mp_sets.specs.Numbers.{SizedSet, Numbers}
+use Rattle.std.specs.Prelude.{ℕ, ◌<◌, List, length, map, All}
+use Rattle.mp_sets.specs.Numbers.{Numbers}
 use Rattle.mp_tokens.specs.Order.{set_at, AreDifferent}
+use Rattle.mp_tokens.specs.SetRows.{sets_of, AreSetRows}
 use Rattle.mp_tokens.specs.Table.{TokenTable}
 use Rattle.mp_tokens.specs.declared.tokens.Tokens.TheInside.{Inside}
-
-abbrev pub members_of : List SizedSet → List Numbers
-members_of sets = map (λ s. s.members) sets
 
 -- the sets at these places
 abbrev pub sets_at : List Numbers → List ℕ → List Numbers
@@ -14,9 +12,9 @@ sets_at sets places = map (set_at sets) places
 
 abbrev pub token_table : Inside → TokenTable
 token_table t =
-    record { size = t.size; sets = members_of t.sets.keys; used = sets_at (members_of t.sets.keys) t.order.keys }
+    record { size = t.size; sets = sets_of t.size t.sets; used = sets_at (sets_of t.size t.sets) t.order.keys }
 
 pub record IsTable (t : Inside) : Type 0 where
-  pub sizes : All (λ s. s.size ≡ t.size) t.sets.keys
-  pub different : AreDifferent (members_of t.sets.keys)
-  pub known : All (λ i. i < length t.sets.keys) t.order.keys
+  pub rows : AreSetRows t.size t.sets
+  pub different : AreDifferent (sets_of t.size t.sets)
+  pub known : All (λ i. i < length t.sets) t.order.keys

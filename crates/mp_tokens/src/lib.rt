@@ -2,6 +2,7 @@
 #![tactic(auto)]
 
 mod laws;
+mod sets;
 mod tokens;
 
 pub use laws::{

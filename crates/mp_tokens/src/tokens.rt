@@ -3,9 +3,11 @@
 ghost use Rattle.std.specs.Prelude.{◌≡◌, ◌<◌, ◌≤◌, ◌∷◌, [], ◌↔◌, Contains, IfOk, OnErr, IsNone, IsSome, IfSome, length};
 ghost use Rattle.mp_tokens.specs.Order.{set_at, place, with_set, AreDifferent};
 
+use crate::sets::{add_set, find_set};
 use indexmap::IndexSet;
 use mp_list::OutOfMemory;
-use mp_sets::Bits;
+use mp_rows::Rows;
+use mp_sets::{Bits, BitsView};
 use std::alloc::Global;
 use std::marker::Model;
 
@@ -14,9 +16,10 @@ use std::marker::Model;
 /// use. A set's index is its place among the former, its token its place among the latter. The initial set
 /// has index 0 and token 0.
 pub struct Tokens {
+    alloc: Global,
     size: u32,
-    /// Each set once; its place is its index.
-    sets: IndexSet<Bits>,
+    /// The words of each set once; its place is its index.
+    sets: Rows,
     /// The indices of the used sets; the place of an index is the token of its set.
     order: IndexSet<u64>,
 }
@@ -24,6 +27,7 @@ pub struct Tokens {
 impl Drop for Tokens {
     fn drop(self) {
         let Tokens {
+            alloc: _,
             size: _,
             sets: _,
             order: _,
@@ -54,12 +58,16 @@ impl Tokens {
           used = start.members ∷ [];
         }) }
     {
-        let size = start.size();
-        let mut sets = IndexSet::new(alloc);
-        sets.insert(start)?;
+        let mut sets = Rows::new(alloc);
+        add_set(&mut sets, &start)?;
         let mut order = IndexSet::new(alloc);
         order.insert(0)?;
-        Ok(Tokens { size, sets, order })
+        Ok(Tokens {
+            alloc,
+            size: start.size(),
+            sets,
+            order,
+        })
     }
 
     /// The index of a set, which is added as the last one if it is new. The set has the size of the initial
@@ -72,8 +80,26 @@ impl Tokens {
             × (set_at self.new.sets index ≡ set.members)) }
         ensures err { OnErr result (self.new ≡ self.old) }
     {
-        let (index, _) = self.sets.insert_full(set)?;
-        Ok(index as u64)
+        self.intern_copy(&set)
+    }
+
+    /// The index of a set by what is lent of it: its words are kept where it is new. In all else it is as `intern`.
+    pub fn intern_copy(&mut self, set: &Bits) -> Result<u64, OutOfMemory>
+        requires { set.now.size ≡ self.old.size }
+        ensures sets { IfOk result (λ _. self.new ≡ record self.old { sets = with_set self.old.sets set.now.members }) }
+        ensures index { IfOk result (λ index. index ≡ place self.new.sets set.now.members) }
+        ensures there { IfOk result (λ index. index < length self.new.sets
+            × (set_at self.new.sets index ≡ set.now.members)) }
+        ensures err { OnErr result (self.new ≡ self.old) }
+    {
+        match find_set(&self.sets, set) {
+            Some(index) => Ok(index as u64),
+            None => {
+                let index = self.sets.len();
+                add_set(&mut self.sets, set)?;
+                Ok(index as u64)
+            }
+        }
     }
 
     /// The index of a set of the size of the initial one: none exactly where it was not met. It takes no
@@ -85,7 +111,7 @@ impl Tokens {
         ensures there { IfSome result (λ index. index < length self.now.sets
             × (set_at self.now.sets index ≡ set.now.members)) }
     {
-        let Some(index) = self.sets.get_index_of(set) else {
+        let Some(index) = find_set(&self.sets, set) else {
             return None;
         };
         Some(index as u64)
@@ -117,10 +143,10 @@ impl Tokens {
     }
 
     /// The set with an index.
-    pub fn set(&self, index: u64) -> &Bits
+    pub fn set(&self, index: u64) -> BitsView<'_>
         requires { index < length self.now.sets }
-        ensures { result.now ≡ record { size = self.now.size; members = set_at self.now.sets index } }
+        ensures { result ≡ record { size = self.now.size; members = set_at self.now.sets index } }
     {
-        &self.sets.as_slice()[index as usize]
+        BitsView::new(self.alloc, self.size, self.sets.row(index as usize))
     }
 }

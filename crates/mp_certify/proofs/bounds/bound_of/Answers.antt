@@ -24,7 +24,7 @@ pub returns-clause-said : goal.returns-clause-said
 returns-clause-said g c =
     let me = c.args.me in
     let x = c.args.shown.now in
-    let facts = private_facts (world_of c.args.machines.now []) me x.mine.now.members in
+    let facts = private_facts (world_of c.args.machines.now []) me x.mine.members in
     let privates = c.in_ok-privates.ensures.facts ∙ ap (λ (tags : List Tag). map facts (enumerate_from 1 tags)) c.as_slice.ensures in
     λ j. (record { agent = me; state = record { publics = c.in_ok-publics.ensures.set j; privates = privates j } }, c.args.cost - x.g)
 

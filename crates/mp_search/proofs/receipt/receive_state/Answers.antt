@@ -24,7 +24,7 @@ returns-then-not-is_byte_right-clause-receipt g c = λ expansions enough.
     let t = c.args.task.now in
     let m = c.args.message.now in
     let own : c.tag_of-tag.result ≡ own_tag t m = c.tag_of-tag.ensures ∙ ap (λ (x : AgentTask). slice_index_or m.tags (x.me - 1) no_tag) c.task.view_is in
-    let members : c.in-Some.mine.now.members ≡ own_set t c.args.states.now.kept m =
+    let members : c.in-Some.mine.members ≡ own_set t c.args.states.now.kept m =
     ap (λ (x : SizedSet). x.members) c.in-Some.ensures.some ∙ (λ j. set_at (c.requires.states.used j) (own j).token)
     in
     let wrong_byte : c.is_byte_right.result ≡ false = cc in
@@ -37,7 +37,7 @@ returns-clause-receipt g c = λ expansions enough.
     let t = c.args.task.now in
     let m = c.args.message.now in
     let own : c.tag_of-tag.result ≡ own_tag t m = c.tag_of-tag.ensures ∙ ap (λ (x : AgentTask). slice_index_or m.tags (x.me - 1) no_tag) c.task.view_is in
-    let members : c.in-Some.mine.now.members ≡ own_set t c.args.states.now.kept m =
+    let members : c.in-Some.mine.members ≡ own_set t c.args.states.now.kept m =
     ap (λ (x : SizedSet). x.members) c.in-Some.ensures.some ∙ (λ j. set_at (c.requires.states.used j) (own j).token)
     in
     let right_byte : c.is_byte_right.result ≡ true = cc in

@@ -32,7 +32,7 @@ returns-in_default-clause-sent c =
 pub token_of-requires : goal.token_of-requires
 token_of-requires c =
     let s = c.self.inside in
-    let told = entry_told (Shows c.entry.result) _ c.entry.ensures in
+    let told = entry_told (Shows c.entry-index.result) _ c.entry-index.ensures in
     let of_key = all_get (λ (e : Entry Key). IsKeyOf s.publics (length s.tokens.sets) e.key) s.store.entries c.args.entry told.0 c.self.invariant.keyed told.1 in
     subst (λ (k : Key). k.mine < length s.tokens.sets) (sym told.2.key) of_key.index
 
@@ -41,8 +41,8 @@ returns-clause-sent c =
     let s = c.self.inside in
     let sets_are : c.token_of.new.self.sets ≡ s.tokens.sets = ap (λ (t : TokenTable). t.sets) c.in_ok-token.ensures.used in
     let name = state_of_key s.tokens.sets in
-    let told = entry_told (Shows c.entry.result) _ c.entry.ensures in
-    let index = c.entry.result.key.now.mine in
+    let told = entry_told (Shows c.entry-index.result) _ c.entry-index.ensures in
+    let index = c.entry-index.result.key.mine in
     let mine : (e : Entry AgentState) → slice_get c.args.self.now.kept.entries c.args.entry ≡ Some e → set_at s.tokens.sets index ≡ e.key.mine =
     λ e is.
     ap (λ (k : Key). set_at s.tokens.sets k.mine) told.2.key

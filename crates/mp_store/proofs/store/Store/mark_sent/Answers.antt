@@ -6,7 +6,7 @@ use Rattle.mp_store.specs.Keys.{same_key}
 use Rattle.mp_store.specs.Named.{named}
 use Rattle.mp_store.specs.Record.{Record}
 use Rattle.mp_store.specs.Sent.{mark_sent}
-use Rattle.mp_store.specs.StoreFields.{key_at}
+use Rattle.mp_store.specs.KeyRows.{key_at}
 use Rattle.mp_store.proofs.KeyPlaces.{apart}
 use Rattle.mp_store.proofs.Naming.{mark_sent-named}
 use Rattle.mp_store.proofs.store.Store.mark_sent.Goals as goal
@@ -20,8 +20,8 @@ over_keys (Err x) name new wanted whole is answer = tt
 pub returns-clause-sent : goal.returns-clause-sent
 returns-clause-sent c =
     let s = c.self.inside in
-    let keys = s.keys.keys in
+    let keys = s.keys in
     over_keys c.mark_sent.result (key_at keys) c.mark_sent.new.self.kept (mark_sent eqb c.args.entry s.numbers.kept) (mark_sent same_key c.args.entry c.args.self.now)
-    (sym (mark_sent-named (key_at keys) eqb same_key (λ k. k < length keys) (apart keys c.self.invariant.distinct) c.args.entry s.numbers.kept c.self.invariant.keyed)
+    (sym (mark_sent-named (key_at keys) eqb same_key (λ k. k < length keys) (apart keys c.self.invariant.once) c.args.entry s.numbers.kept c.self.invariant.keyed)
     ∙ ap (mark_sent same_key c.args.entry) c.self.view_is)
     c.mark_sent.ensures.sent

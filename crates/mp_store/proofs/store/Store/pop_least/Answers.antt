@@ -2,13 +2,13 @@ use Rattle.std.proofs.Common.{ℕ, Option, sym, ap, ◌∙◌}
 use Rattle.mp_store.specs.Minima.{popped}
 use Rattle.mp_store.specs.Named.{named}
 use Rattle.mp_store.specs.Record.{Record}
-use Rattle.mp_store.specs.StoreFields.{key_at}
+use Rattle.mp_store.specs.KeyRows.{key_at}
 use Rattle.mp_store.proofs.Naming.{popped-named}
 use Rattle.mp_store.proofs.store.Store.pop_least.Goals as goal
 
 pub returns : goal.returns
 returns c =
-    let name = key_at c.self.inside.keys.keys in
+    let name = key_at c.self.inside.keys in
     ap (λ (p : Option ℕ × Record ℕ). (p.0, named name p.1)) c.pop_least.ensures.popped
     ∙ sym (popped-named name c.self.inside.numbers.kept)
     ∙ ap popped c.self.view_is
