@@ -2,6 +2,7 @@
 
 ghost use Rattle.std.specs.Prelude.{◌≡◌, ◌+◌, length, IfOk};
 ghost use Rattle.mp_task.specs.AgentTask.{AgentTask};
+ghost use Rattle.mp_relaxed.specs.Dominated.{IsEquivalent};
 ghost use Rattle.mp_relaxed.specs.Relaxed.{delete_relaxation};
 ghost use Rattle.mp_hmax.specs.Hmax.{hmax};
 
@@ -41,7 +42,7 @@ fn estimate(
     requires sized { length search.old.numbers ≡ problem.now.facts }
     requires publics { publics.now.size ≡ problem.now.publics }
     requires privates { problem.now.publics + privates.now.size ≡ problem.now.facts }
-    ensures found { IfOk result (λ found. (t : AgentTask) → problem.now ≡ delete_relaxation t
+    ensures found { IfOk result (λ found. (t : AgentTask) → IsEquivalent problem.now (delete_relaxation t)
         → found ≡ hmax t publics.now.members privates.now.members) }
     ensures counted { search.new.operators ≡ search.old.operators }
     ensures sized { length search.new.numbers ≡ length search.old.numbers }
@@ -54,12 +55,12 @@ impl Heuristic for Hmax {
     ghost use Rattle.mp_task.specs.Limits.{IsWithinLimits};
     ghost use Rattle.mp_hmax.specs.Laws.Bounds.{hmax_is_admissible, hmax_is_dead, hmax_is_small};
 
-    ghost is_for = { λ h t. (h.problem ≡ delete_relaxation t) × IsWithinLimits t };
+    ghost is_for = { λ h t. IsEquivalent h.problem (delete_relaxation t) × IsWithinLimits t };
 
     ghost value = { hmax };
 
     fn make(alloc: Global, task: &Task) -> Result<Hmax, OutOfMemory> {
-        let problem = Relaxed::of(alloc, task)?;
+        let problem = Relaxed::reduced(alloc, task)?;
         let search = Search::new(alloc, &problem)?;
         Ok(Hmax { problem, search })
     }

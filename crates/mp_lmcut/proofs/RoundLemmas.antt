@@ -1,19 +1,17 @@
 -- Rounds: the cut by the numbers that were found, and what is left after a round.
-use Rattle.std.proofs.Common.{◌≡◌, ℕ, suc, ◌+◌, ◌≤◌, Bool, true, false, cond, Option, Some, None, option_map, List, length, All, refl, sym, ap, ◌∙◌, arith}
-use Rattle.std.proofs.lemmas.Bool.{false≢true, ltb-true}
+use Rattle.std.proofs.Common.{◌≡◌, ℕ, zero, suc, ◌+◌, ◌≤◌, Bool, true, false, cond, eqb, Option, Some, None, option_map, List, [], length, All, refl, sym, ap, ◌∙◌, arith}
+use Rattle.std.proofs.lemmas.Bool.{eqb-true, false≢true, ltb-true}
+use Rattle.std.proofs.lemmas.List.{nil_from_length}
 use Rattle.std.proofs.lemmas.List.Elements.{All-filter, All-map}
 use Rattle.std.specs.Option.{unwrap_or}
 use Rattle.mp_sets.specs.Numbers.{Numbers}
-use Rattle.mp_task.specs.AgentTask.{AgentTask}
-use Rattle.mp_task.specs.Projected.{projected, projected_state}
 use Rattle.mp_task.specs.Strips.{Operator}
-use Rattle.mp_relaxed.specs.Relaxed.{RelaxedProblem, delete_relaxation, state_of}
+use Rattle.mp_relaxed.specs.Relaxed.{RelaxedProblem, state_of}
 use Rattle.mp_estimates.specs.Lowering.{value_at}
 use Rattle.mp_relaxed.specs.Values.{fact_values, greatest}
-use Rattle.mp_lmcut.specs.Cut.{cheaper_where, cut_cost, cuts, in_cut, is_positive, lmcut, lmcut_of, lowered}
+use Rattle.mp_lmcut.specs.Cut.{cheaper_where, cut_cost, cuts, in_cut, is_positive, lmcut_of, lowered}
 use Rattle.mp_lmcut.specs.Sides.{least_where}
 use Rattle.mp_lmcut.specs.Laws.Costs.{least_small}
-use Rattle.mp_lmcut.proofs.DeleteLemmas.{lmcut_bare}
 
 module _ (r : RelaxedProblem) (s : Numbers) (numbers : List ℕ) (values : (x : ℕ) → value_at numbers x ≡ fact_values r.operators s x) where
   abbrev inside : Operator → Bool
@@ -65,6 +63,15 @@ cuts_more r next p q cost positive is after rounds =
 
 -- the heuristic
 
+no_cost : (n : ℕ) (os : List Operator) (s : Numbers) → cuts n os [] s ≡ 0
+no_cost zero os s = no_cuts os [] s
+no_cost (suc n) os s = cuts_end os [] s refl n
+
+pub no_goals : (os : List Operator) (goals : List ℕ) (s : Numbers) → eqb (length goals) 0 ≡ true → Some 0 ≡ lmcut_of os goals s
+no_goals os goals s e =
+    ap (λ n. Some n) (sym (no_cost (length os) os s))
+    ∙ ap (λ gs. lmcut_of os gs s) (sym (nil_from_length goals (eqb-true (length goals) 0 e)))
+
 same_found : (total : ℕ) (a : Option ℕ) (n : ℕ) → a ≡ Some n → Some total ≡ option_map (λ _. total) a
 same_found total a n e = ap (option_map (λ _. total)) (sym e)
 
@@ -75,8 +82,3 @@ pub some_found : (r : RelaxedProblem) (p q : Numbers) (n total : ℕ) → greate
 some_found r p q n total e is =
     ap (λ a. Some a) is
     ∙ same_found (cuts (length r.operators) r.operators r.goals (state_of r p q)) (greatest (fact_values r.operators (state_of r p q)) r.goals) n e
-
-pub lmcut_found : (t : AgentTask) (r : RelaxedProblem) (p q : Numbers) → r ≡ delete_relaxation t → lmcut_of r.operators r.goals (state_of r p q) ≡ lmcut t p q
-lmcut_found t r p q e =
-    ap (λ (m : RelaxedProblem). lmcut_of m.operators m.goals (state_of m p q)) e
-    ∙ lmcut_bare (projected t).operators (projected t).goals (projected_state t p q)

@@ -84,7 +84,7 @@ fn estimate(
     Ok(found)
 }
 
-/// The value of a state: the one that is kept, if there is one, or else from the problem at these costs.
+/// The value of a state: 0 without goals, the one that is kept, if there is one, or else from the problem at these costs.
 fn recall_or_estimate(
     problem: &mut Relaxed,
     costs: &[u64],
@@ -112,6 +112,9 @@ fn recall_or_estimate(
     ensures roomy { vec_len memo.new.places ≡ 16384 }
     ensures right { All (IsRight (lmcut_in (repriced costs.now problem.old))) memo.new.slots.items }
 {
+    if problem.goals().is_empty() {
+        return Ok(Some(0));
+    }
     let place = place_of(publics, privates, memo.places.len());
     let number = memo.places[place];
     if let Some(found) = recall(memo.slots.as_slice(), number, publics, privates) {
@@ -131,16 +134,17 @@ fn recall_or_estimate(
 
 impl Heuristic for Cut {
     ghost use Rattle.mp_task.specs.Limits.{IsWithinLimits};
+    ghost use Rattle.mp_relaxed.specs.Dominated.{IsEquivalent};
     ghost use Rattle.mp_relaxed.specs.Relaxed.{delete_relaxation};
     ghost use Rattle.mp_lmcut.specs.Cut.{lmcut};
     ghost use Rattle.mp_lmcut.specs.Laws.Rounds.{lmcut_is_admissible, lmcut_is_dead, lmcut_is_small};
 
-    ghost is_for = { λ h t. (repriced h.costs.items h.problem ≡ delete_relaxation t) × IsWithinLimits t };
+    ghost is_for = { λ h t. IsEquivalent (repriced h.costs.items h.problem) (delete_relaxation t) × IsWithinLimits t };
 
     ghost value = { lmcut };
 
     fn make(alloc: Global, task: &Task) -> Result<Cut, OutOfMemory> {
-        let problem = Relaxed::of(alloc, task)?;
+        let problem = Relaxed::reduced(alloc, task)?;
         let costs = problem.costs(alloc)?;
         let adders = problem.adders(alloc)?;
         let search = Search::new(alloc, &problem)?;

@@ -1,8 +1,7 @@
 -- What a search has found: the values of facts when no fact waits any more, and before that the greatest value of facts
 -- that are settled.
-use Rattle.std.proofs.Common.{◌≡◌, ℕ, zero, suc, ◌+◌, ◌-◌, ◌*◌, ◌<◌, ◌≤◌, min, Bool, true, false, cond, ltb, ◌&&◌, ◌⊎◌, inl, inr, Option, Some, None, option_map, List, [], ◌∷◌, length, get_or, map, All, Contains, IsTrue, refl, sym, ap, ◌∙◌, subst, ⊎_elim, arith}
+use Rattle.std.proofs.Common.{◌≡◌, ℕ, zero, suc, ◌+◌, ◌-◌, ◌*◌, ◌<◌, ◌≤◌, min, Bool, true, false, cond, ltb, ◌&&◌, ◌⊎◌, inl, inr, Option, Some, None, option_map, List, [], ◌∷◌, length, get_or, All, Contains, IsTrue, refl, sym, ap, ◌∙◌, subst, ⊎_elim, arith}
 use Rattle.std.proofs.lemmas.Bool.{and_from, and_parts, cases_lt, lt-ltb, le-ltb}
-use Rattle.std.proofs.lemmas.List.{length-map}
 use Rattle.std.proofs.lemmas.List.Elements.{All-cons, All-contains, All-from_get_or, All-nil, Contains-append_left, Contains-append_right}
 use Rattle.std.specs.FinSet as set
 use Rattle.std.specs.Option.{IfSome}
@@ -10,9 +9,9 @@ use Rattle.mp_sets.specs.Numbers.{Numbers}
 use Rattle.mp_sets.proofs.NumbersLemmas.{All_at}
 use Rattle.mp_sets.proofs.SetLemmas.{contains-numbers_below}
 use Rattle.mp_task.specs.Strips.{Operator}
-use Rattle.mp_estimates.specs.Estimates.{AtMost, lesser, Values}
-use Rattle.mp_relaxed.specs.Values.{cost_by, adds, greatest, least_cost, next_values, after_rounds, fact_values}
-use Rattle.mp_relaxed.specs.Relaxed.{RelaxedProblem, operator_at, state_of, without_deletes}
+use Rattle.mp_estimates.specs.Estimates.{AtMost, Values}
+use Rattle.mp_relaxed.specs.Values.{cost_by, adds, greatest, least_cost, after_rounds, fact_values}
+use Rattle.mp_relaxed.specs.Relaxed.{RelaxedProblem, operator_at, state_of}
 use Rattle.mp_estimates.specs.Lowering.{unknown, known, number_at, value_at, AreBelow}
 use Rattle.mp_relaxed.specs.Search.{capped, AreFound, AreSettled, IsServed, AreLow, ServesBelow}
 use Rattle.mp_estimates.specs.Laws.Order.{AtMost-refl, AtMost-trans, AtMost-antisym, zero_AtMost}
@@ -21,29 +20,6 @@ use Rattle.mp_relaxed.specs.Laws.Rounds.{first_round, next_round, settled}
 use Rattle.mp_relaxed.specs.Laws.Bounds.{Below, cost-Below, rounds-Below, start_zero}
 use Rattle.mp_estimates.proofs.LoweringLemmas.{known-mono, known-some}
 use Rattle.mp_relaxed.proofs.CountLemmas.{serves_all}
-
--- deletes make no difference
-
-least-without_deletes : (v : Values) (x : ℕ) (os : List Operator) → least_cost v (map without_deletes os) x ≡ least_cost v os x
-least-without_deletes v x [] = refl
-least-without_deletes v x (o ∷ os) = λ i. cond (adds o x) (lesser (cost_by v o) (least-without_deletes v x os i)) (least-without_deletes v x os i)
-
-next-without_deletes : (os : List Operator) (s : Numbers) (v w : Values) → ((x : ℕ) → v x ≡ w x) → (x : ℕ) → next_values (map without_deletes os) s v x ≡ next_values os s w x
-next-without_deletes os s v w e x =
-    ap (cond (set.contains s x) (Some 0)) (least-without_deletes v x os)
-    ∙ (λ i. cond (set.contains s x) (Some 0) (least_cost (λ y. e y i) os x))
-
-rounds-without_deletes : (os : List Operator) (s : Numbers) (k x : ℕ) → after_rounds (map without_deletes os) s k x ≡ after_rounds os s k x
-rounds-without_deletes os s zero x = first_round (map without_deletes os) s x ∙ sym (first_round os s x)
-rounds-without_deletes os s (suc k) x =
-    next_round (map without_deletes os) s k x
-    ∙ next-without_deletes os s (after_rounds (map without_deletes os) s k) (after_rounds os s k) (rounds-without_deletes os s k) x
-    ∙ sym (next_round os s k x)
-
-pub values-without_deletes : (os : List Operator) (s : Numbers) (x : ℕ) → fact_values (map without_deletes os) s x ≡ fact_values os s x
-values-without_deletes os s x =
-    rounds-without_deletes os s (length (map without_deletes os) + 1) x
-    ∙ ap (λ n. after_rounds os s (n + 1) x) (length-map os without_deletes)
 
 -- values that the equations give are low
 

@@ -1,3 +1,4 @@
+pub mod Dominated
 pub mod Laws
 pub mod Places
 pub mod Queue

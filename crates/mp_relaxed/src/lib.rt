@@ -2,6 +2,7 @@
 //! (`specs/`): what the heuristics hmax and LM-cut share.
 #![tactic(auto)]
 
+mod kept;
 mod laws;
 mod places;
 mod queue;

@@ -3,9 +3,11 @@
 ghost use Rattle.std.specs.Prelude.{◌≡◌, ℕ, ◌<◌, ◌≤◌, ◌+◌, ◌^◌, All, length, map, slice_index_or, [], IfOk};
 ghost use Rattle.mp_task.specs.Limits.{IsWithinLimits};
 ghost use Rattle.mp_task.specs.Projected.{projected};
+ghost use Rattle.mp_relaxed.specs.Dominated.{IsEquivalent};
 ghost use Rattle.mp_relaxed.specs.Relaxed.{AreAllFree, HasAdders, HasFree, HasUsers, delete_relaxation, operator_at, priced, with_cheaper};
 ghost use Rattle.mp_relaxed.specs.Search.{count_at};
 
+use crate::kept::{adds_at, costs_at, kept_of, pres_at};
 use crate::rows::{Rows, gather};
 use crate::users::{counts_of, free_of, users_of};
 use mp_list::{List, OutOfMemory};
@@ -133,6 +135,44 @@ impl Relaxed {
             free,
             counts,
         })
+    }
+
+    /// The same problem with those of its operators that are enough.
+    fn fewer(&self, alloc: Global) -> Result<Relaxed, OutOfMemory>
+        ensures { IfOk result (λ made. IsEquivalent made self.now) }
+    {
+        let kept = kept_of(alloc, self)?;
+        let numbers = kept.as_slice();
+        let pres = pres_at(alloc, self, numbers)?;
+        let adds = adds_at(alloc, self, numbers)?;
+        let costs = costs_at(alloc, self, numbers)?;
+        let mut goals = Vec::with_capacity(alloc, self.goals.len())?;
+        goals.extend_from_slice(self.goals.as_slice())?;
+        let _ = self.operators();
+        let users = users_of(alloc, self.facts, &pres)?;
+        let free = free_of(alloc, &pres)?;
+        let counts = counts_of(alloc, &pres)?;
+        Ok(Relaxed {
+            publics: self.publics,
+            facts: self.facts,
+            pres,
+            adds,
+            costs,
+            goals,
+            users,
+            free,
+            counts,
+        })
+    }
+
+    /// The delete relaxation of a task's projected problem without operators that others dominate: values of facts and cuts
+    /// are the same, and take less time. Refuses only for want of memory.
+    pub fn reduced(alloc: Global, task: &Task) -> Result<Relaxed, OutOfMemory>
+        ensures made { IfOk result (λ made. IsEquivalent made (delete_relaxation task.now)) }
+        ensures limits { IfOk result (λ _. IsWithinLimits task.now) }
+    {
+        let all = Relaxed::of(alloc, task)?;
+        all.fewer(alloc)
     }
 
     /// How many operators there are: at most 3,200,000, each of a cost of at most 16,000,000.

@@ -97,6 +97,9 @@ impl Search {
         ensures operators { self.new.operators ≡ self.old.operators }
         ensures facts { length self.new.numbers ≡ length self.old.numbers }
     {
+        if facts.is_empty() {
+            return Ok(Some(0));
+        }
         find_values(
             problem,
             publics,

@@ -72,7 +72,7 @@ module _ (p : Problem) (one two : Operator → ℕ) (both : All (λ o. o.cost �
 
 -- the least of some costs
 
-least_low : (costs : List ℕ) → All (λ c. AtMost (least costs) (Some c)) costs
+pub least_low : (costs : List ℕ) → All (λ c. AtMost (least costs) (Some c)) costs
 least_low [] = All-nil (λ c. AtMost None (Some c))
 least_low (d ∷ costs) =
     All-cons (λ c. AtMost (lesser (Some d) (least costs)) (Some c)) d costs (lesser_left (Some d) (least costs))

@@ -1,6 +1,8 @@
-use Rattle.std.proofs.Common.{◌≤◌, All, sym, ◌∙◌, subst}
+use Rattle.std.proofs.Common.{◌≤◌, All, sym, subst}
 use Rattle.std.proofs.lemmas.List.Elements.{All-map, All-nil}
 use Rattle.mp_task.specs.Strips.{Operator}
+use Rattle.mp_relaxed.specs.Dominated.{IsEquivalent}
+use Rattle.mp_relaxed.specs.Relaxed.{RelaxedProblem, delete_relaxation}
 use Rattle.mp_lmcut.specs.Memo.{IsRight, lmcut_in}
 use Rattle.mp_lmcut.specs.Sides.{repriced}
 use Rattle.mp_lmcut.proofs.CostLemmas.{repriced_own}
@@ -19,7 +21,10 @@ invariant_of-result-clause-added c = record {
 }
 
 pub returns : goal.returns
-returns c = (repriced_own _ _ c.in_ok-costs.ensures ∙ c.in_ok-problem.ensures.made, c.in_ok-problem.ensures.limits)
+returns c = (
+  subst (λ (r : RelaxedProblem). IsEquivalent r (delete_relaxation c.args.task.now)) (sym (repriced_own _ _ c.in_ok-costs.ensures)) c.in_ok-problem.ensures.made,
+  c.in_ok-problem.ensures.limits,
+)
 
 pub invariant_of-result-clause-right : goal.invariant_of-result-clause-right
 invariant_of-result-clause-right c =

@@ -1,10 +1,11 @@
 use Rattle.std.proofs.Common.{◌≡◌, All, ap, sym, subst, ◌∙◌}
 use Rattle.std.proofs.lemmas.Result.{IfOk-weaker}
-use Rattle.mp_relaxed.specs.Relaxed.{RelaxedProblem}
+use Rattle.mp_relaxed.specs.Dominated.{IsEquivalent}
+use Rattle.mp_relaxed.specs.Relaxed.{RelaxedProblem, delete_relaxation}
 use Rattle.mp_lmcut.specs.Memo.{IsRight, lmcut_in}
 use Rattle.mp_lmcut.specs.Sides.{repriced}
 use Rattle.mp_lmcut.proofs.CostLemmas.{as_many, as_many_facts, same_adders, same_priced}
-use Rattle.mp_lmcut.proofs.RoundLemmas.{lmcut_found}
+use Rattle.mp_lmcut.proofs.EquivalentLemmas.{lmcut_found}
 use Rattle.mp_lmcut.proofs.lmcut.CutHeuristic.value.Goals as goal
 
 pub invariant_of-self-clause-priced : goal.invariant_of-self-clause-priced
@@ -24,8 +25,11 @@ invariant_of-self-clause-sized c =
     c.recall_or_estimate.ensures.sized ∙ c.args.self.now.sized ∙ sym (as_many_facts c.recall_or_estimate.new.problem c.args.self.now.problem c.recall_or_estimate.ensures.kept)
 
 pub returns-clause-kept : goal.returns-clause-kept
-returns-clause-kept c = λ t h.
-    (same_priced c.recall_or_estimate.new.problem c.args.self.now.problem c.recall_or_estimate.ensures.kept c.args.self.now.costs.items ∙ h.0, h.1)
+returns-clause-kept c = λ t h. (
+  subst (λ (r : RelaxedProblem). IsEquivalent r (delete_relaxation t))
+      (sym (same_priced c.recall_or_estimate.new.problem c.args.self.now.problem c.recall_or_estimate.ensures.kept c.args.self.now.costs.items)) h.0,
+  h.1,
+)
 
 pub invariant_of-self-clause-right : goal.invariant_of-self-clause-right
 invariant_of-self-clause-right c =
