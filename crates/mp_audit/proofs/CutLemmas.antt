@@ -1,9 +1,7 @@
 -- What a run is worth in the world after its last cut, where the heuristic knows nothing: an entry below the proved cost is no
 -- goal, and what its state leads to costs as much, or has an entry that costs no more.
-use Rattle.std.proofs.Common.{◌≡◌, ℕ, ◌+◌, ◌<◌, ◌≤◌, ◌⊎◌, List, map, Option, Some, None, All, refl, sym, subst, arith, inl, inr}
-use Rattle.mp_task.specs.Agree.{Agree}
+use Rattle.std.proofs.Common.{◌≡◌, ℕ, ◌+◌, ◌<◌, ◌≤◌, ◌⊎◌, List, map, Option, Some, None, refl, sym, subst, arith, inl, inr}
 use Rattle.mp_task.specs.AgentTask.{AgentTask}
-use Rattle.mp_task.specs.Limits.{IsWithinLimits}
 use Rattle.mp_messages.specs.declared.history.Event.{Event}
 use Rattle.mp_snapshot.specs.VerdictRule.{least_f, least_goal}
 use Rattle.mp_store.specs.declared.entry.Mark.{Mark}
@@ -14,7 +12,9 @@ use Rattle.mp_reach.specs.Found.{Entry as Seen}
 use Rattle.mp_reach.specs.LeadsOn.{IsAny, IsGoal, IsRoot, Known, LeadsOn}
 use Rattle.mp_reach.specs.Ways.Way.{arrived}
 use Rattle.mp_reach.proofs.NothingLeftOut.{nothing_left_out}
+use Rattle.mp_world.proofs.Agents.{agree_numbered}
 use Rattle.mp_world.specs.Events.{run}
+use Rattle.mp_world.specs.Team.{IsTeam, team_with}
 use Rattle.mp_world.specs.World.{World}
 use Rattle.mp_team_states.specs.Estimates.{AreGoalsFlagged}
 use Rattle.mp_team_states.specs.Expansions.{nothing_known}
@@ -32,25 +32,25 @@ below_most : (cost n : ℕ) (o : Option ℕ) → IsNoneBelow cost o → IsAtMost
 below_most cost n None below most = absurd most
 below_most cost n (Some f) below most = omega arith
 
-module _ (limit : ℕ) (tasks : List AgentTask) (agree : Agree tasks) (limits : All IsWithinLimits tasks) (most : limit ≤ 10000000)
-    (schedule : List Event) (w : World) (ran : run nothing_known limit tasks schedule ≡ Some w) where
-  all : IsInvariantFor nothing_known tasks agree limits IsAny w
-  all = run_invariant nothing_known tasks agree limits (knows_nothing IsAny tasks) limit most schedule w ran
+module _ (limit : ℕ) (tasks : List AgentTask) (is_team : IsTeam (team_with nothing_known limit tasks))
+    (schedule : List Event) (w : World) (ran : run (team_with nothing_known limit tasks) schedule ≡ Some w) where
+  all : IsInvariantFor nothing_known tasks is_team.tasks IsAny w
+  all = run_invariant (team_with nothing_known limit tasks) is_team (knows_nothing IsAny tasks) schedule w ran
 
   nothing_out : LeavesNothingOut (LeadsOn tasks) (IsRoot tasks) (found_of w)
   nothing_out = nothing_left_out (LeadsOn tasks) IsAny (IsRoot tasks) (λ k. tt) (found_of w) all.explored
 
   flags : AreGoalsFlagged tasks w
-  flags = flags_of_joint tasks agree limits w all.team all.sound all.flags
+  flags = flags_of_joint tasks is_team.tasks w all.team all.sound all.flags
 
   to_themselves : HaveNoneToThemselves tasks w
-  to_themselves = none_to_themselves nothing_known limit tasks agree schedule w ran
+  to_themselves = none_to_themselves (team_with nothing_known limit tasks) (agree_numbered tasks is_team.tasks.agree) schedule w ran
 
   module _ (cost : ℕ) (goal_is : least_goal (map (findings_in w) w.agents) ≡ Some cost) (none_below : IsNoneBelow cost (least_f (map (findings_in w) w.agents))) where
     -- what shows that a cost may be costs as much
     costs_so_much : (c : ℕ) → HasWitness (IsGoal tasks) (found_of w) c → cost ≤ c
     costs_so_much c shows =
-        elim (witness_counted tasks agree limits w all.team all.sound to_themselves flags c shows) [
+        elim (witness_counted tasks is_team.tasks w all.team all.sound to_themselves flags c shows) [
           | inl left ↦ below_most cost c (least_f (map (findings_in w) w.agents)) none_below left
           | inr goal ↦ at_most_is c cost (least_goal (map (findings_in w) w.agents)) goal_is goal
         ]

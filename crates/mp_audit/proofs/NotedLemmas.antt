@@ -1,10 +1,8 @@
 -- The entries that agents had noted for the snapshot of a proved cost are those after its cut.
-use Rattle.std.proofs.Common.{◌≡◌, ℕ, ◌<◌, ◌≤◌, List, Some, All, sym, ap, subst, ◌∙◌, arith}
+use Rattle.std.proofs.Common.{◌≡◌, ℕ, ◌<◌, List, Some, sym, ap, subst, ◌∙◌, arith}
 use Rattle.std.specs.Prelude.{slice_get}
 use Rattle.std.proofs.lemmas.Option.{same_Some, slice_get_within}
-use Rattle.mp_task.specs.Agree.{Agree}
 use Rattle.mp_task.specs.AgentTask.{AgentTask}
-use Rattle.mp_task.specs.Limits.{IsWithinLimits}
 use Rattle.mp_messages.specs.declared.history.Event.{Event}
 use Rattle.mp_snapshot.specs.declared.verdict.Verdict.TheVariants.{Proved}
 use Rattle.mp_store.specs.declared.entry.Entry.{Entry}
@@ -13,6 +11,7 @@ use Rattle.mp_machine.specs.AgentRecord.{AgentRecord, given_verdict}
 use Rattle.mp_reach.specs.LeadsOn.{IsAny}
 use Rattle.mp_world.specs.Events.{run}
 use Rattle.mp_world.specs.Joint.{joint}
+use Rattle.mp_world.specs.Team.{IsTeam, team_with}
 use Rattle.mp_world.specs.World.{World, agent_at}
 use Rattle.mp_team_states.proofs.StartSound.{some_item}
 use Rattle.mp_team_states.proofs.StepsSound.{records_sound}
@@ -25,39 +24,39 @@ use Rattle.mp_team_snapshots.specs.Cut.{cut_schedule}
 use Rattle.mp_team_snapshots.specs.Verdicts.{HasFoundThere, HasVerdictWorld}
 use Rattle.mp_team_snapshots.proofs.Teams.{has_verdict_world}
 
-module _ (limit : ℕ) (tasks : List AgentTask) (agree : Agree tasks) (limits : All IsWithinLimits tasks) (most : limit ≤ 10000000)
-    (schedule : List Event) (w : World) (ran : run nothing_known limit tasks schedule ≡ Some w)
+module _ (limit : ℕ) (tasks : List AgentTask) (is_team : IsTeam (team_with nothing_known limit tasks))
+    (schedule : List Event) (w : World) (ran : run (team_with nothing_known limit tasks) schedule ≡ Some w)
     (first : AgentRecord) (first_there : agent_at w 1 ≡ Some first) (prover cost : ℕ) (given : given_verdict first ≡ Some (Proved prover cost)) where
-  pub verdict_world : HasVerdictWorld nothing_known limit tasks first.snapshot.number schedule w (Proved prover cost)
-  verdict_world = has_verdict_world nothing_known limit tasks schedule w ran first first_there (Proved prover cost) given agree limits
+  pub verdict_world : HasVerdictWorld (team_with nothing_known limit tasks) first.snapshot.number schedule w (Proved prover cost)
+  verdict_world = has_verdict_world (team_with nothing_known limit tasks) schedule w ran first first_there (Proved prover cost) given is_team.tasks
 
   abbrev pub cut : World
   cut = verdict_world.cut.world
 
   abbrev pub cut_events : List Event
-  cut_events = cut_schedule nothing_known limit tasks first.snapshot.number schedule
+  cut_events = cut_schedule (team_with nothing_known limit tasks) first.snapshot.number schedule
 
-  cut_all : IsInvariantFor nothing_known tasks agree limits IsAny cut
-  cut_all = run_invariant nothing_known tasks agree limits (knows_nothing IsAny tasks) limit most cut_events cut verdict_world.cut.runs
+  cut_all : IsInvariantFor nothing_known tasks is_team.tasks IsAny cut
+  cut_all = run_invariant (team_with nothing_known limit tasks) is_team (knows_nothing IsAny tasks) cut_events cut verdict_world.cut.runs
 
-  all : IsInvariantFor nothing_known tasks agree limits IsAny w
-  all = run_invariant nothing_known tasks agree limits (knows_nothing IsAny tasks) limit most schedule w ran
+  all : IsInvariantFor nothing_known tasks is_team.tasks IsAny w
+  all = run_invariant (team_with nothing_known limit tasks) is_team (knows_nothing IsAny tasks) schedule w ran
 
   -- an agent as it was after the cut
   was : (agent : ℕ) (r : AgentRecord) → agent_at w agent ≡ Some r → HasFoundThere first.snapshot.number w cut r
-  was agent r r_there = verdict_world.verdict_on.found r (ap (agent_at w) (me_is tasks agree limits w all.team agent r r_there) ∙ r_there)
+  was agent r r_there = verdict_world.verdict_on.found r (ap (agent_at w) (me_is tasks is_team.tasks w all.team agent r r_there) ∙ r_there)
 
   was_there : (agent : ℕ) (r : AgentRecord) (r_there : agent_at w agent ≡ Some r) → agent_at cut agent ≡ Some (was agent r r_there).then
-  was_there agent r r_there = ap (agent_at cut) (sym (me_is tasks agree limits w all.team agent r r_there)) ∙ (was agent r r_there).there
+  was_there agent r r_there = ap (agent_at cut) (sym (me_is tasks is_team.tasks w all.team agent r r_there)) ∙ (was agent r r_there).there
 
   -- a joint state is what it was
   joint_was : (agent : ℕ) (then : AgentRecord) (n : ℕ) (e : Entry AgentState) → agent_at cut agent ≡ Some then
       → slice_get then.search.kept.entries n ≡ Some e → joint w agent e.key ≡ joint cut agent e.key
   joint_was agent then n e then_there at =
-      let me = me_is tasks agree limits cut cut_all.team agent then then_there in
-      let known = states_known tasks agree limits cut cut_all.team cut_all.sound agent n then e then_there at in
+      let me = me_is tasks is_team.tasks cut cut_all.team agent then then_there in
+      let known = states_known tasks is_team.tasks cut cut_all.team cut_all.sound agent n then e then_there at in
       (λ j. joint w (sym me j) e.key)
-      ∙ joint_same cut w (records_sound tasks agree limits cut cut_all.team cut_all.sound) verdict_world.cut.grown then.task e.key known
+      ∙ joint_same cut w (records_sound tasks is_team.tasks cut cut_all.team cut_all.sound) verdict_world.cut.grown then.task e.key known
       ∙ (λ j. joint cut (me j) e.key)
 
   -- an entry that an agent had noted, and that entry after the cut

@@ -7,9 +7,7 @@ use Rattle.std.proofs.lemmas.Bool.{and_from, and_parts, false≢true, leb-false,
 use Rattle.std.proofs.lemmas.List.Kept.{AllPairs-filter}
 use Rattle.std.proofs.lemmas.Option.{none-some, slice_get-get_or}
 use Rattle.mp_list.proofs.Members.{all_at, contains_head, contains_tail}
-use Rattle.mp_task.specs.Agree.{Agree}
 use Rattle.mp_task.specs.AgentTask.{AgentTask}
-use Rattle.mp_task.specs.Limits.{IsWithinLimits}
 use Rattle.mp_task.specs.Plan.{JointState}
 use Rattle.mp_task.proofs.Agreeing.{Contains-slice_get}
 use Rattle.mp_messages.specs.declared.history.Event.{Event}
@@ -27,8 +25,10 @@ use Rattle.mp_world.specs.declared.answer.Answer.{Answer}
 use Rattle.mp_world.specs.declared.answer.Answer.TheVariants as answers
 use Rattle.mp_world.specs.Answers.{answer_by, answer_of, plan_length}
 use Rattle.mp_world.specs.Events.{run}
+use Rattle.mp_world.specs.IsRun.{IsRun}
 use Rattle.mp_world.specs.Joint.{joint}
 use Rattle.mp_world.specs.RoundRobin.{is_over}
+use Rattle.mp_world.specs.Team.{IsTeam, team_with}
 use Rattle.mp_world.specs.World.{World, agent_at}
 use Rattle.mp_team_states.proofs.GoodStates.{equal_if_joint}
 use Rattle.mp_team_states.proofs.StepsSound.{agent_sound}
@@ -108,30 +108,30 @@ has_cheapest entries (suc m) e there within = cheapest_step entries e there (λ 
 
 -- ---- what was noted for a proved cost
 
-module _ (limit : ℕ) (tasks : List AgentTask) (agree : Agree tasks) (limits : All IsWithinLimits tasks) (most : limit ≤ 10000000)
-    (schedule : List Event) (w : World) (ran : run nothing_known limit tasks schedule ≡ Some w)
+module _ (limit : ℕ) (tasks : List AgentTask) (is_team : IsTeam (team_with nothing_known limit tasks))
+    (schedule : List Event) (w : World) (ran : run (team_with nothing_known limit tasks) schedule ≡ Some w)
     (first : AgentRecord) (first_there : agent_at w 1 ≡ Some first) (prover cost : ℕ) (given : given_verdict first ≡ Some (Proved prover cost)) where
   abbrev c : World
-  c = cut limit tasks agree limits most schedule w ran first first_there prover cost given
+  c = cut limit tasks is_team schedule w ran first first_there prover cost given
 
   abbrev events : List Event
-  events = cut_events limit tasks agree limits most schedule w ran first first_there prover cost given
+  events = cut_events limit tasks is_team schedule w ran first first_there prover cost given
 
-  all : IsInvariantFor nothing_known tasks agree limits IsAny w
-  all = run_invariant nothing_known tasks agree limits (knows_nothing IsAny tasks) limit most schedule w ran
+  all : IsInvariantFor nothing_known tasks is_team.tasks IsAny w
+  all = run_invariant (team_with nothing_known limit tasks) is_team (knows_nothing IsAny tasks) schedule w ran
 
-  c_ran : run nothing_known limit tasks events ≡ Some c
-  c_ran = (verdict_world limit tasks agree limits most schedule w ran first first_there prover cost given).cut.runs
+  c_ran : run (team_with nothing_known limit tasks) events ≡ Some c
+  c_ran = (verdict_world limit tasks is_team schedule w ran first first_there prover cost given).cut.runs
 
   said : (least_goal (map (findings_in c) c.agents) ≡ Some cost) × IsNoneBelow cost (least_f (map (findings_in c) c.agents))
-  said = says_proved_cost (map (findings_in c) c.agents) prover cost (verdict_world limit tasks agree limits most schedule w ran first first_there prover cost given).verdict_on.rule
+  said = says_proved_cost (map (findings_in c) c.agents) prover cost (verdict_world limit tasks is_team schedule w ran first first_there prover cost given).verdict_on.rule
 
   -- the proved cost is that of a goal entry
   cost_fits : cost < 2 ^ 60
   cost_fits =
-      let g = (verdict_world limit tasks agree limits most schedule w ran first first_there prover cost given).verdict_on.proved prover cost refl in
-      let at_cut : IsInvariantFor nothing_known tasks agree limits IsAny c = run_invariant nothing_known tasks agree limits (knows_nothing IsAny tasks) limit most events c c_ran in
-      let bounded = all_get (λ (e : Entry AgentState). f_of e < 2 ^ 60) g.then.search.kept.entries g.number g.entry (agent_sound tasks agree limits c at_cut.team at_cut.sound prover g.then g.there_then).kept.bounded g.is_entry in
+      let g = (verdict_world limit tasks is_team schedule w ran first first_there prover cost given).verdict_on.proved prover cost refl in
+      let at_cut : IsInvariantFor nothing_known tasks is_team.tasks IsAny c = run_invariant (team_with nothing_known limit tasks) is_team (knows_nothing IsAny tasks) events c c_ran in
+      let bounded = all_get (λ (e : Entry AgentState). f_of e < 2 ^ 60) g.then.search.kept.entries g.number g.entry (agent_sound tasks is_team.tasks c at_cut.team at_cut.sound prover g.then g.there_then).kept.bounded g.is_entry in
       let is = g.cost_is in
       omega arith
 
@@ -158,7 +158,7 @@ module _ (limit : ℕ) (tasks : List AgentTask) (agree : Agree tasks) (limits : 
       let parts = and_parts (nat_lt e.0.g cost) (is_cheapest (noted_entries r.0) e.0) passes.1 in
       let n = from_take r.0.noted r.0.search.kept.entries e.0 passes.0 in
       let k = at_place w.agents r.0 r.1 in
-      let me = me_is tasks agree limits w all.team (suc k.0) r.0 k.1 in
+      let me = me_is tasks is_team.tasks w all.team (suc k.0) r.0 k.1 in
       record {
         agent = suc k.0;
         number = n.0;
@@ -175,7 +175,7 @@ module _ (limit : ℕ) (tasks : List AgentTask) (agree : Agree tasks) (limits : 
   is_listed : (agent : ℕ) (r : AgentRecord) (e : Entry AgentState) → agent_at w agent ≡ Some r → Contains (noted_entries r) e → e.g < cost → is_cheapest (noted_entries r) e ≡ true
       → Contains (last_bounds w cost) (worth w cost agent e)
   is_listed agent r e there noted cheap cheapest =
-      let me = me_is tasks agree limits w all.team agent r there in
+      let me = me_is tasks is_team.tasks w all.team agent r there in
       let test = and_from (nat_lt e.g cost) (is_cheapest (noted_entries r) e) (lt-ltb e.g cost cheap) cheapest in
       let kept = member_kept (λ e. nat_lt e.g cost && is_cheapest (noted_entries r) e) (noted_entries r) e noted test in
       subst (λ (a : ℕ). Contains (last_bounds w cost) (worth w cost a e)) me
@@ -207,14 +207,14 @@ module _ (limit : ℕ) (tasks : List AgentTask) (agree : Agree tasks) (limits : 
 
     apart : (a b : Entry AgentState) → Contains kept a → Contains kept b → Falls a b → of a ≢ of b
     apart a b a_there b_there falls same =
-        let me = me_is tasks agree limits w all.team agent r there in
+        let me = me_is tasks is_team.tasks w all.team agent r there in
         let m = at_number a a_there in
         let n = at_number b b_there in
         let whole : joint w agent a.key ≡ joint w agent b.key = (λ j. joint w (sym me j) a.key) ∙ ap (λ (k : Known). k.state) same ∙ (λ j. joint w (me j) b.key) in
         let key : a.key ≡ b.key =
-        equal_if_joint tasks agree limits w all.team all.sound agent r a.key b.key there
-        (states_known tasks agree limits w all.team all.sound agent m.0 r a there m.1)
-        (states_known tasks agree limits w all.team all.sound agent n.0 r b there n.1) whole
+        equal_if_joint tasks is_team.tasks w all.team all.sound agent r a.key b.key there
+        (states_known tasks is_team.tasks w all.team all.sound agent m.0 r a there m.1)
+        (states_known tasks is_team.tasks w all.team all.sound agent n.0 r b there n.1) whole
         in
         let less = falls ((Decides-state a.key b.key).1 key) in
         let of_a = from_filter test (noted_entries r) a a_there in
@@ -228,7 +228,7 @@ module _ (limit : ℕ) (tasks : List AgentTask) (agree : Agree tasks) (limits : 
     of_one_agent =
         pairs_map Differ (worth w cost r.task.me) kept
         (pairs_with Falls (λ a b. of a ≢ of b) kept apart
-        (AllPairs-filter Falls test (noted_entries r) (pairs_take Falls r.noted r.search.kept.entries (agent_sound tasks agree limits w all.team all.sound agent r there).kept.falling)))
+        (AllPairs-filter Falls test (noted_entries r) (pairs_take Falls r.noted r.search.kept.entries (agent_sound tasks is_team.tasks w all.team all.sound agent r there).kept.falling)))
 
   -- each agent has its own number
   of_two_agents : AllPairs (λ r s. (x y : Known × ℕ) → Contains (noted_bounds w cost r) x → Contains (noted_bounds w cost s) y → Differ x y) w.agents
@@ -241,7 +241,7 @@ module _ (limit : ℕ) (tasks : List AgentTask) (agree : Agree tasks) (limits : 
       omega arith
     where
       me_at : (i : ℕ) (d : AgentRecord) → i < length w.agents → (get_or w.agents i d).task.me ≡ suc i
-      me_at i d inside = me_is tasks agree limits w all.team (suc i) (get_or w.agents i d) (slice_get-get_or w.agents i d inside)
+      me_at i d inside = me_is tasks is_team.tasks w all.team (suc i) (get_or w.agents i d) (slice_get-get_or w.agents i d inside)
 
       agent_is : (r : AgentRecord) (x : Known × ℕ) → Contains (noted_bounds w cost r) x → x.0.agent ≡ r.task.me
       agent_is r x there =
@@ -293,7 +293,7 @@ module _ (limit : ℕ) (tasks : List AgentTask) (agree : Agree tasks) (limits : 
     covers : (k : Known) (g : ℕ) → HasEntry (found_of c) k g → cost ≤ bound_of certificate.bounds k + g
     covers k g has =
         let x = found_entry c has.index has.entry has.there in
-        let t = then_noted limit tasks agree limits most schedule w ran first first_there prover cost given has.index.0 has.index.1 x.agent_is x.entry x.there x.at in
+        let t = then_noted limit tasks is_team schedule w ran first first_there prover cost given has.index.0 has.index.1 x.agent_is x.entry x.there x.at in
         let n = t.2 in
         let enough = at_least has.index.0 has.index.1 t.0 t.1 n.there n.at n.below in
         let of : known has.index.0 (joint w has.index.0 t.1.key) ≡ k =
@@ -305,7 +305,7 @@ module _ (limit : ℕ) (tasks : List AgentTask) (agree : Agree tasks) (limits : 
 
     starts : (k : Known) → IsRoot tasks k → certificate.cost ≤ bound_of certificate.bounds k
     starts k root =
-        elim (start_found limit tasks agree limits most events c c_ran cost said.0 said.1 k root) [
+        elim (start_found limit tasks is_team events c c_ran cost said.0 said.1 k root) [
           | inl nothing ↦ let is = cost_is in omega arith
           | inr has ↦ let is = cost_is in let enough = covers k 0 has in omega arith
         ]
@@ -322,7 +322,7 @@ module _ (limit : ℕ) (tasks : List AgentTask) (agree : Agree tasks) (limits : 
     has_seen : (b : Bound) → Contains certificate.bounds b → HasSeen b
     has_seen b here =
         let x = of_bound b here in
-        let t = noted_then limit tasks agree limits most schedule w ran first first_there prover cost given x.agent x.number x.who x.entry x.there x.at x.below in
+        let t = noted_then limit tasks is_team schedule w ran first first_there prover cost given x.agent x.number x.who x.entry x.there x.at x.below in
         let n = t.2 in
         let price = n.price in
         let cheap = x.cheap in
@@ -355,14 +355,14 @@ module _ (limit : ℕ) (tasks : List AgentTask) (agree : Agree tasks) (limits : 
       starts = starts;
       goals = λ b here goal.
           let s = has_seen b here in
-          let much = goal_costs limit tasks agree limits most events c c_ran cost said.0 said.1 s.index s.seen s.there (subst (IsGoal tasks) (sym s.of) goal) in
+          let much = goal_costs limit tasks is_team events c c_ran cost said.0 said.1 s.index s.seen s.there (subst (IsGoal tasks) (sym s.of) goal) in
           let cheap = s.cheap in
           omega arith;
       steps = λ b price k here leads.
           let s = has_seen b here in
           let cheap = s.cheap in
           let bound = s.bound in
-          elim (led_found limit tasks agree limits most events c c_ran cost said.0 said.1 s.index s.seen s.there s.cheap price k (subst (λ (u : Known). LeadsOn tasks u price k) (sym s.of) leads)) [
+          elim (led_found limit tasks is_team events c c_ran cost said.0 said.1 s.index s.seen s.there s.cheap price k (subst (λ (u : Known). LeadsOn tasks u price k) (sym s.of) leads)) [
             | inl much ↦ omega arith
             | inr has ↦ let enough = covers k (s.seen.cost + price) has in omega arith
           ];
@@ -408,14 +408,14 @@ module _ (w : World) (cost steps : ℕ) where
       by false is = absurd (let impossible : ⊥ = cc in impossible)
 
 module _ (limit : ℕ) (tasks : List AgentTask) (schedule : List Event) (w : World) (cost steps : ℕ) (certificate : Certificate)
-    (agree : Agree tasks) (limits : All IsWithinLimits tasks) (most : limit ≤ 10000000) (ran : run nothing_known limit tasks schedule ≡ Some w)
+    (it : IsRun (team_with nothing_known limit tasks) schedule w)
     (answer : answer_of w ≡ answers.Solved cost steps) (cost_is : certificate.cost ≡ cost) (bounds_are : map said_by certificate.bounds ≡ last_bounds w cost) where
   pub last_cut_passes : Audited tasks certificate
   last_cut_passes =
       let p = has_proved w cost steps answer in
-      passes_audit limit tasks agree limits most schedule w ran p.first p.there p.prover cost p.given certificate bounds_are cost_is
+      passes_audit limit tasks it.is_team schedule w it.leads p.first p.there p.prover cost p.given certificate bounds_are cost_is
 
   pub last_cut_fits : (certificate.cost ≤ 2 ^ 60) × All (λ b. (1 ≤ b.bound) × (b.bound ≤ 2 ^ 60)) certificate.bounds
   last_cut_fits =
       let p = has_proved w cost steps answer in
-      bounds_fit limit tasks agree limits most schedule w ran p.first p.there p.prover cost p.given certificate bounds_are cost_is
+      bounds_fit limit tasks it.is_team schedule w it.leads p.first p.there p.prover cost p.given certificate bounds_are cost_is

@@ -24,6 +24,7 @@ use Rattle.mp_reach.specs.LeadsOn.{IsAny}
 use Rattle.mp_world.specs.declared.answer.Answer.{Answer}
 use Rattle.mp_world.specs.declared.answer.Answer.TheVariants as answers
 use Rattle.mp_world.specs.Answers.{answer_by, answer_of}
+use Rattle.mp_world.specs.IsRun.{IsRun}
 use Rattle.mp_world.specs.Joint.{private_facts}
 use Rattle.mp_world.specs.RoundRobin.{is_over}
 use Rattle.mp_world.specs.World.{World, agent_at}
@@ -32,8 +33,9 @@ use Rattle.mp_team_states.proofs.Heuristics.{knows_nothing}
 use Rattle.mp_team_states.proofs.Runs.{IsInvariantFor, run_invariant}
 use Rattle.mp_team_states.proofs.SoundWorlds.{agents_are, me_is, states_known, task_in}
 use Rattle.mp_schedule.specs.Machines.{IsFree, tasks_of, world_of}
-use Rattle.mp_schedule.specs.TeamRun.{IsRun, IsTeam, TeamRun}
+use Rattle.mp_schedule.specs.TeamRun.{IsLogged, MayRun, TeamRun, team_in}
 use Rattle.mp_schedule.specs.UnderWay.{Mail, world_with}
+use Rattle.mp_schedule.proofs.Keeping.{is_run_of}
 use Rattle.mp_audit.specs.declared.certificate.Bound.{Bound}
 use Rattle.mp_audit.specs.declared.certificate.Certificate.{Certificate}
 use Rattle.mp_audit.specs.declared.verdict.AuditVerdict.TheVariants.{Holds}
@@ -125,11 +127,14 @@ module _ (machines : List AgentMachine) (w : World) (agents : map (λ m. m.done)
 
 -- ---- the run
 
-module _ (machines : List AgentMachine) (r : TeamRun) (is_team : IsTeam r) (is_run : IsRun nothing_known r) (agents : map (λ m. m.done) machines ≡ r.world.agents) where
-  all : IsInvariantFor nothing_known r.tasks is_team.agree is_team.within IsAny r.world
+module _ (machines : List AgentMachine) (r : TeamRun) (is_team : MayRun r) (is_run : IsLogged nothing_known r) (agents : map (λ m. m.done) machines ≡ r.world.agents) where
+  ran : IsRun (team_in nothing_known r) r.schedule r.world
+  ran = is_run_of nothing_known r is_team is_run
+
+  all : IsInvariantFor nothing_known r.tasks is_team.tasks IsAny r.world
   all =
-      run_invariant nothing_known r.tasks is_team.agree is_team.within (knows_nothing IsAny r.tasks)
-      r.limit is_team.few_entries r.schedule r.world is_run.leads
+      run_invariant (team_in nothing_known r) (record { tasks = is_team.tasks; most = is_team.most }) (knows_nothing IsAny r.tasks)
+      r.schedule r.world is_run.leads
 
   tasks_are : tasks_of machines ≡ r.tasks
   tasks_are = tasks_again machines ∙ ap (map (λ (x : AgentRecord). x.task)) agents ∙ all.team.team
@@ -149,13 +154,13 @@ module _ (machines : List AgentMachine) (r : TeamRun) (is_team : IsTeam r) (is_r
     free = free;
     numbered = λ k m at.
         let next : suc k ≡ k + 1 = omega arith in
-        me_is r.tasks is_team.agree is_team.within r.world all.team (suc k) m.done (there k m at) ∙ next;
+        me_is r.tasks is_team.tasks r.world all.team (suc k) m.done (there k m at) ∙ next;
     publics = λ k m at.
-        publics_are r.tasks is_team.agree.alike m.done.task (task_in r.tasks is_team.agree is_team.within r.world all.team (suc k) m.done (there k m at))
+        publics_are r.tasks is_team.tasks.agree.alike m.done.task (task_in r.tasks is_team.tasks r.world all.team (suc k) m.done (there k m at))
         ∙ ap publics_of (sym tasks_are);
     tags = λ k n m e at entry.
-        (states_known r.tasks is_team.agree is_team.within r.world all.team all.sound (suc k) n m.done e (there k m at) entry).number
-        ∙ agents_are r.tasks is_team.agree is_team.within r.world all.team (suc k) m.done (there k m at)
+        (states_known r.tasks is_team.tasks r.world all.team all.sound (suc k) n m.done e (there k m at) entry).number
+        ∙ agents_are r.tasks is_team.tasks r.world all.team (suc k) m.done (there k m at)
         ∙ as_many;
   }
 
@@ -163,7 +168,7 @@ module _ (machines : List AgentMachine) (r : TeamRun) (is_team : IsTeam r) (is_r
   bounds_are cost =
       same_bounds (map (λ (m : AgentMachine). m.done) machines) [] r.world.mail cost
       ∙ (λ j. latest_bounds (world_with (agents j) r.world.mail) cost)
-      ∙ latest_bounds_are r.limit r.tasks r.schedule r.world cost is_team.agree is_team.within is_team.few_entries is_run.leads
+      ∙ latest_bounds_are r.limit r.tasks r.schedule r.world cost ran
 
   -- a certificate of the run, and what is so of it
   pub record IsSound (certificate : Certificate) : Type 0 where
@@ -182,11 +187,11 @@ module _ (machines : List AgentMachine) (r : TeamRun) (is_team : IsTeam r) (is_r
       let are : map said_by bounds ≡ last_bounds r.world cost = said ∙ bounds_are cost in
       let of : All (IsOfTeam r.tasks) bounds = subst (λ (ts : List AgentTask). All (IsOfTeam ts) bounds) tasks_are team in
       let audited : Audited r.tasks certificate =
-      last_cut_passes r.limit r.tasks r.schedule r.world cost steps.0 certificate is_team.agree is_team.within is_team.few_entries is_run.leads steps.1 refl are in
-      let fit = last_cut_fits r.limit r.tasks r.schedule r.world cost steps.0 certificate is_team.agree is_team.within is_team.few_entries is_run.leads steps.1 refl are in
+      last_cut_passes r.limit r.tasks r.schedule r.world cost steps.0 certificate ran steps.1 refl are in
+      let fit = last_cut_fits r.limit r.tasks r.schedule r.world cost steps.0 certificate ran steps.1 refl are in
       record {
         certified = record { cost_is = solved; bounds_are = are };
-        holds = (holds_exactly r.tasks certificate (verdict_on r.tasks certificate) is_team.agree refl).1 audited;
+        holds = (holds_exactly r.tasks certificate (verdict_on r.tasks certificate) is_team.tasks.agree refl).1 audited;
         fits = record {
           cost = fit.0;
           bounds = λ i d lt. record {

@@ -1,5 +1,5 @@
 -- Of the entries of a state that an agent had noted the latest one is the cheapest.
-use Rattle.std.proofs.Common.{◌≡◌, ℕ, zero, suc, ◌+◌, ◌<◌, ◌≤◌, Bool, true, false, cond, not, ◌&&◌, ◌||◌, List, [], ◌∷◌, ◌++◌, length, get_or, take, drop, map, All, Some, slice_get, refl, sym, ap, ◌∙◌, subst, inl, inr, drop-cons, arith}
+use Rattle.std.proofs.Common.{◌≡◌, ℕ, zero, suc, ◌+◌, ◌<◌, ◌≤◌, Bool, true, false, cond, not, ◌&&◌, ◌||◌, List, [], ◌∷◌, ◌++◌, length, get_or, take, drop, map, Some, slice_get, refl, sym, ap, ◌∙◌, subst, inl, inr, drop-cons, arith}
 use Rattle.std.specs.Prelude.{nat_le, nat_lt}
 use Rattle.std.specs.List.{AllPairs, Contains, filter, flat_map, list_all}
 use Rattle.std.proofs.Math.ListN.{drop_of_length-le}
@@ -8,15 +8,14 @@ use Rattle.std.proofs.lemmas.List.{get_or-take, get_or_default, length-take}
 use Rattle.std.proofs.lemmas.Option.{get_or_from_slice_get}
 use Rattle.mp_list.proofs.Bools.{same_tests}
 use Rattle.mp_list.proofs.Members.{all_at, any_from, contains_head, contains_tail, some_member}
-use Rattle.mp_task.specs.Agree.{Agree}
 use Rattle.mp_task.specs.AgentTask.{AgentTask}
-use Rattle.mp_task.specs.Limits.{IsWithinLimits}
 use Rattle.mp_messages.specs.declared.history.Event.{Event}
 use Rattle.mp_store.specs.declared.entry.Entry.{Entry}
 use Rattle.mp_search.specs.AgentState.{AgentState, same_state}
 use Rattle.mp_search.proofs.KeyedStates.{Decides-state}
 use Rattle.mp_reach.specs.LeadsOn.{IsAny}
-use Rattle.mp_world.specs.Events.{run}
+use Rattle.mp_world.specs.IsRun.{IsRun}
+use Rattle.mp_world.specs.Team.{team_with}
 use Rattle.mp_world.specs.World.{World}
 use Rattle.mp_team_states.proofs.StepsSound.{records_sound}
 use Rattle.mp_team_states.specs.Expansions.{nothing_known}
@@ -155,12 +154,12 @@ each_same f g [] same = refl
 each_same f g (x ∷ xs) same = λ j. same 0 x refl j ++ each_same f g xs (λ i y there. same (suc i) y there) j
 
 pub latest_bounds_are : (limit : ℕ) (tasks : List AgentTask) (schedule : List Event) (w : World) (cost : ℕ)
-    → Agree tasks → All IsWithinLimits tasks → limit ≤ 10000000 → run nothing_known limit tasks schedule ≡ Some w
+    → IsRun (team_with nothing_known limit tasks) schedule w
     → latest_bounds w cost ≡ last_bounds w cost
-latest_bounds_are limit tasks schedule w cost agree limits most ran =
-    let all : IsInvariantFor nothing_known tasks agree limits IsAny w =
-    run_invariant nothing_known tasks agree limits (knows_nothing IsAny tasks) limit most schedule w ran in
-    let sound = records_sound tasks agree limits w all.team all.sound in
+latest_bounds_are limit tasks schedule w cost it =
+    let all : IsInvariantFor nothing_known tasks it.is_team.tasks IsAny w =
+    run_invariant (team_with nothing_known limit tasks) it.is_team (knows_nothing IsAny tasks) schedule w it.leads in
+    let sound = records_sound tasks it.is_team.tasks w all.team all.sound in
     each_same (latest_bounds_of w cost) (noted_bounds w cost) w.agents (λ i r there.
     let entries = r.search.kept.entries in
     ap (map (worth w cost r.task.me)) (latest_are_cheapest (take r.noted entries) (first_fall r.noted entries (sound (suc i) r there).falling) cost))

@@ -2,6 +2,7 @@
 
 ghost use Rattle.std.specs.Prelude.{◌≡◌, ◌≤◌, map, IfOk};
 ghost use Rattle.mp_schedule.specs.Machines.{new_machine};
+ghost use Rattle.mp_world.specs.Team.{most_expansions};
 
 use crate::counted::{Count, Counted, with_count};
 use mp_list::OutOfMemory;
@@ -26,7 +27,7 @@ fn counted_machine<H: Heuristic>(
     counts: &mut Vec<Count>,
 ) -> Result<Machine<Counted<H>>, OutOfMemory>
     requires from_1 { 1 ≤ limit }
-    requires limit { limit ≤ 10000000 }
+    requires limit { limit ≤ most_expansions }
     ensures { IfOk result (λ made. made ≡ new_machine H.value limit task) }
 {
     let count = noted_count(alloc, counts)?;
@@ -43,7 +44,7 @@ pub fn counted_machines<H: Heuristic>(
     counts: &mut Vec<Count>,
 ) -> Result<Vec<Machine<Counted<H>>>, OutOfMemory>
     requires from_1 { 1 ≤ limit }
-    requires limit { limit ≤ 10000000 }
+    requires limit { limit ≤ most_expansions }
     ensures { IfOk result (λ machines. machines.items ≡ map (new_machine H.value limit) tasks) }
 {
     let mut machines = Vec::with_capacity(alloc, tasks.len())?;

@@ -1,14 +1,14 @@
 -- Logs that are made of the parts of their agents.
 use Rattle.std.proofs.Common.{◌≡◌, ◌≤◌, ℕ, suc, ◌-◌, List, length, sym, ap, ◌∙◌, arith}
-use Rattle.std.specs.Prelude.{Contains, Option, Some, option_map, slice_get}
+use Rattle.std.specs.Prelude.{Contains, Some, option_map, slice_get}
 use Rattle.std.proofs.lemmas.List.Elements.{All-contains}
 use Rattle.std.proofs.lemmas.Option.{get_or_from_slice_get, slice_get-map}
 use Rattle.mp_messages.specs.declared.history.Entry.{Entry}
 use Rattle.mp_messages.specs.History.{agent_of, part}
 use Rattle.mp_machine.specs.AgentRecord.{AgentRecord, new_record}
-use Rattle.mp_sets.specs.Numbers.{Numbers}
 use Rattle.mp_task.specs.AgentTask.{AgentTask}
 use Rattle.mp_world.specs.Logs.{HasDone, IsLog}
+use Rattle.mp_world.specs.Team.{Team}
 use Rattle.mp_world.specs.World.{AreNumbered, World, start_world}
 use Rattle.mp_world.proofs.Agents.{agent_there, member_of, task_there}
 use Rattle.mp_world.proofs.Mail.{agent_of_team}
@@ -16,24 +16,26 @@ use Rattle.mp_world.proofs.RunOfLog.{log_has_run}
 use Rattle.mp_world.proofs.Stepping.{start_is_team, team_size}
 use Rattle.mp_logs.specs.Parts.{IsLogOfParts, IsOwned, IsTeamHistory}
 
-module _ (value : AgentTask → Numbers → Numbers → Option ℕ) (limit : ℕ) (tasks : List AgentTask) (numbered : AreNumbered tasks) where
+module _ (team : Team) (numbered : AreNumbered team.tasks) where
+  open team use {tasks, value, limit}
+
   abbrev start : World
-  start = start_world value limit tasks
+  start = start_world team
 
   -- the numbers of the team are those of its tasks
   pub task_of : (agent : ℕ) → 1 ≤ agent → agent ≤ length tasks → (t : AgentTask) × Contains tasks t × (agent ≡ t.me)
   task_of agent low high =
-      let team = start_is_team value limit tasks in
-      let many = team_size tasks start team in
+      let of_team = start_is_team team in
+      let many = team_size tasks start of_team in
       let found = agent_there start agent (record { from_1 = low; at_most = omega arith }) in
-      let of = member_of tasks numbered start team agent found.0 found.1 in
+      let of = member_of tasks numbered start of_team agent found.0 found.1 in
       (found.0.task, of.task, sym of.me)
 
   pub number_of : (t : AgentTask) → Contains tasks t → (1 ≤ t.me) × (t.me ≤ length tasks)
   number_of t here =
-      let team = start_is_team value limit tasks in
-      let many = team_size tasks start team in
-      let found = task_there tasks numbered start team t here in
+      let of_team = start_is_team team in
+      let many = team_size tasks start of_team in
+      let found = task_there tasks numbered start of_team t here in
       let is = agent_of_team start t.me found.0 found.1 in
       let high = is.at_most in
       (is.from_1, omega arith)
@@ -41,12 +43,12 @@ module _ (value : AgentTask → Numbers → Numbers → Option ℕ) (limit : ℕ
   -- a task stands at the place of its number
   pub task_at : (t : AgentTask) → Contains tasks t → slice_get tasks (t.me - 1) ≡ Some t
   task_at t (k, inside, here) =
-      let team = start_is_team value limit tasks in
-      let many = team_size tasks start team in
+      let of_team = start_is_team team in
+      let many = team_size tasks start of_team in
       let found = agent_there start (suc k) (record { from_1 = omega arith; at_most = omega arith }) in
-      let of = member_of tasks numbered start team (suc k) found.0 found.1 in
+      let of = member_of tasks numbered start of_team (suc k) found.0 found.1 in
       let task : slice_get tasks k ≡ Some found.0.task =
-      ap (λ ts. slice_get ts k) (sym team.team) ∙ slice_get-map (λ x. x.task) start.agents k
+      ap (λ ts. slice_get ts k) (sym of_team.team) ∙ slice_get-map (λ x. x.task) start.agents k
       ∙ ap (option_map (λ (x : AgentRecord). x.task)) found.1
       in
       let same : found.0.task ≡ t = sym (get_or_from_slice_get tasks k found.0.task t task) ∙ here in
@@ -55,7 +57,7 @@ module _ (value : AgentTask → Numbers → Numbers → Option ℕ) (limit : ℕ
       ap (slice_get tasks) place ∙ task ∙ ap Some same
 
   -- the entries of a log are owned
-  pub log_owned : (log : List Entry) → IsLog value limit tasks log → (e : Entry) → Contains log e → IsOwned (length tasks) e
+  pub log_owned : (log : List Entry) → IsLog team log → (e : Entry) → Contains log e → IsOwned (length tasks) e
   log_owned log is e here =
       let own = is.of_team e here in
       let number = number_of own.0 own.1 in
@@ -72,14 +74,14 @@ module _ (value : AgentTask → Numbers → Numbers → Option ℕ) (limit : ℕ
         let own = All-contains (IsOwned (length tasks)) log e history.owned here in
         task_of (agent_of e) own.0 own.1
 
-    abbrev pub log_made : IsLog value limit tasks log
+    abbrev pub log_made : IsLog team log
     log_made = record {
       history = history.history;
       of_team = owner_is;
       parts = λ t here. record { last = record_of t; done = done t here };
     }
 
-    pub log_of_parts : IsLogOfParts value limit tasks log record_of
+    pub log_of_parts : IsLogOfParts team log record_of
     log_of_parts =
-        let run = log_has_run value limit tasks numbered log log_made in
+        let run = log_has_run team numbered log log_made in
         record { is_log = log_made; last = run.last; runs = run.runs; agents = run.agents; mail = run.mail }

@@ -12,9 +12,9 @@ use Rattle.mp_messages.specs.declared.history.Entry.TheVariants.{Took}
 use Rattle.mp_messages.specs.History.{agent_of as owner_of, part, put_between, received, sent, taken_between, under_way}
 use Rattle.mp_messages.proofs.Histories.{history_in_order}
 use Rattle.mp_machine.specs.AgentRecord.{new_record}
-use Rattle.mp_sets.specs.Numbers.{Numbers}
 use Rattle.mp_task.specs.AgentTask.{AgentTask}
 use Rattle.mp_world.specs.Logs.{HasDone}
+use Rattle.mp_world.specs.Team.{Team}
 use Rattle.mp_world.specs.World.{AreNumbered}
 use Rattle.mp_logs.specs.Parts.{IsLogOfParts, IsOwned, IsTeamHistory}
 use Rattle.mp_logs.specs.Served.{HasServed, IsSettled, Receipt, Served, bad_receipt, is_receipt}
@@ -36,9 +36,11 @@ behind : (xs ys : List (List ℕ)) → drop (length xs) (xs ++ ys) ≡ ys
 behind [] ys = refl
 behind (x ∷ xs) ys = behind xs ys
 
-module _ (value : AgentTask → Numbers → Numbers → Option ℕ) (limit : ℕ) (tasks : List AgentTask) (log : List Entry)
-    (served : AgentTask → Served) (numbered : AreNumbered tasks) (history : IsTeamHistory tasks log)
-    (has : (t : AgentTask) → Contains tasks t → HasServed value limit t (part log t.me) (served t)) where
+module _ (team : Team) (log : List Entry) (served : AgentTask → Served) (numbered : AreNumbered team.tasks)
+    (history : IsTeamHistory team.tasks log)
+    (has : (t : AgentTask) → Contains team.tasks t → HasServed team.value team.limit t (part log t.me) (served t)) where
+  open team use {tasks, value, limit}
+
   -- whether this is the number of an agent that took a bad message
   abbrev took_bad : ℕ → AgentTask → Bool
   took_bad agent t = (t.me == agent) && is_some (served t).bad
@@ -56,8 +58,8 @@ module _ (value : AgentTask → Numbers → Numbers → Option ℕ) (limit : ℕ
   one_task : (t u : AgentTask) → Contains tasks t → Contains tasks u → u.me ≡ t.me → u ≡ t
   one_task t u here also same =
       same_Some u t
-      (sym (task_at value limit tasks numbered u also) ∙ ap (λ (n : ℕ). slice_get tasks (n - 1)) same
-      ∙ task_at value limit tasks numbered t here)
+      (sym (task_at team numbered u also) ∙ ap (λ (n : ℕ). slice_get tasks (n - 1)) same
+      ∙ task_at team numbered t here)
 
   -- ---- owners
 
@@ -74,7 +76,7 @@ module _ (value : AgentTask → Numbers → Numbers → Option ℕ) (limit : ℕ
     owned = All-append (IsOwned (length tasks)) (left is_bad log) unsigned
         (all_left is_bad (IsOwned (length tasks)) log history.owned)
         (all_have (λ t. (served t).unsigned) (IsOwned (length tasks)) tasks (λ t here.
-        let number = number_of value limit tasks numbered t here in
+        let number = number_of team numbered t here in
         let low = number.0 in
         let high = number.1 in
         All-weaker (λ e. owner_of e ≡ t.me) (IsOwned (length tasks)) (λ e own. (omega (arith, own), omega (arith, own)))
@@ -114,8 +116,8 @@ module _ (value : AgentTask → Numbers → Numbers → Option ℕ) (limit : ℕ
       part_both (left is_bad log) unsigned t.me
       ∙ (λ i. part_signed t here i ++ part_of_all (λ u. (served u).unsigned) 1 tasks numbered.numbered own_unsigned t here i)
 
-  settled_log : IsLogOfParts value limit tasks settled (λ t. (served t).last)
-  settled_log = log_of_parts value limit tasks numbered settled (λ t. (served t).last) settled_history
+  settled_log : IsLogOfParts team settled (λ t. (served t).last)
+  settled_log = log_of_parts team numbered settled (λ t. (served t).last) settled_history
       (λ t here. subst (λ es. HasDone (value t) (new_record t (value t) limit) es (served t).last)
       (sym (part_settled t here)) (has t here).done)
 
@@ -156,5 +158,5 @@ module _ (value : AgentTask → Numbers → Numbers → Option ℕ) (limit : ℕ
       ap (λ ms. slice_get ms 0)
       ((λ i. drop (length (now i)) (all i)) ∙ behind taken (m.bytes ∷ (rest ++ more)))
 
-  pub is_settled : IsSettled value limit tasks served settled
+  pub is_settled : IsSettled team served settled
   is_settled = record { log = settled_log; parts = part_settled; next = bad_next }

@@ -11,6 +11,8 @@ use Rattle.mp_machine.specs.declared.event.Local.TheVariants as locals
 use Rattle.mp_machine.specs.AgentRecord.{AgentRecord, new_record}
 use Rattle.mp_machine.specs.LocalStep.{local, may}
 use Rattle.mp_world.specs.Logs.{HasDone}
+use Rattle.mp_world.specs.Team.{Team}
+use Rattle.mp_world.specs.Values.{Values}
 use Rattle.mp_logs.specs.Parts.{IsLogOfParts}
 
 -- an entry takes a message
@@ -48,7 +50,7 @@ IsBadFor value r (Some m) =
 -- This is what the agent of a task has done, by its part of a log. What it has not signed are acts and messages that it
 -- put, since a receipt is signed at once.
 pub record HasServed
-    (value : AgentTask → Numbers → Numbers → Option ℕ)
+    (value : Values)
     (limit : ℕ)
     (t : AgentTask)
     (own : List Entry)
@@ -61,16 +63,14 @@ pub record HasServed
 
 -- A log of the team with all that its agents have done but the receipts of bad messages: these are still under way.
 pub record IsSettled
-    (value : AgentTask → Numbers → Numbers → Option ℕ)
-    (limit : ℕ)
-    (tasks : List AgentTask)
+    (team : Team)
     (served : AgentTask → Served)
     (settled : List Entry)
     : Type 0 where
-  pub log : IsLogOfParts value limit tasks settled (λ t. (served t).last)
-  pub parts : (t : AgentTask) → Contains tasks t → part settled t.me ≡ (served t).signed ++ (served t).unsigned
+  pub log : IsLogOfParts team settled (λ t. (served t).last)
+  pub parts : (t : AgentTask) → Contains team.tasks t → part settled t.me ≡ (served t).signed ++ (served t).unsigned
   pub next :
       (t : AgentTask) (m : Receipt)
-      → Contains tasks t
+      → Contains team.tasks t
       → (served t).bad ≡ Some m
       → slice_get (under_way m.from t.me settled) 0 ≡ Some m.bytes

@@ -24,6 +24,7 @@ use Rattle.mp_machine.specs.declared.refusal.StepRefusal.{StepRefusal}
 use Rattle.mp_machine.specs.declared.refusal.StepRefusal.TheVariants.{NotNow, Bad, OutOfMemory}
 use Rattle.mp_world.specs.Events.{agent_of, local_of as local_of_event, sent_in}
 use Rattle.mp_world.specs.Logs.{HasDone, entries_of, put_by}
+use Rattle.mp_world.specs.Values.{Values}
 use Rattle.mp_logs.proofs.Onward.{done_next}
 use Rattle.mp_team_verdicts.specs.Others.{IsAnother}
 use Rattle.mp_stamps.specs.Lists.{IsAgentOf, entries}
@@ -123,7 +124,7 @@ GoToOthers =
     → 1 ≤ t.agents → HasDone value (new_record t value limit) log r → may r (local_of_event event) ≡ true
     → local value r (local_of_event event) bytes ≡ Ok s → All (λ x. IsAnother t x.to) s.out
 
-module _ (value : AgentTask → Numbers → Numbers → Option ℕ) (agents agent : ℕ) where
+module _ (value : Values) (agents agent : ℕ) where
   -- what an agent has done goes on with one event
   module _ (old new : SeenNode) (log : List Entry) (event : Event) (bytes : List ℕ) (outs : List Out)
       (same : IsSameAgent old new)
@@ -225,7 +226,7 @@ module _ (value : AgentTask → Numbers → Numbers → Option ℕ) (agents agen
       -- and found it to be a bad one
 
 -- a step with a message that the machine may take is refused for want of memory alone, or the message is a bad one
-module _ (value : AgentTask → Numbers → Numbers → Option ℕ) (me : ℕ) (old new : SeenNode) (from : ℕ) (bytes : List ℕ) (free : old.machine.stopped ≡ None)
+module _ (value : Values) (me : ℕ) (old new : SeenNode) (from : ℕ) (bytes : List ℕ) (free : old.machine.stopped ≡ None)
     (allowed : may old.machine.done (locals.Take from) ≡ true)
   where
     never : (Err NotNow, new.machine) ≡ answered (value old.machine.done.task) old.machine (locals.Take from) bytes → ⊥

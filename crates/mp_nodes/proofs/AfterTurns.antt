@@ -1,11 +1,10 @@
 -- A node after a turn of its own, whose batch was signed.
 use Rattle.std.proofs.Common.{◌≡◌, ℕ, true, List, [], ◌∷◌, refl, sym, ap, subst, ◌∙◌, arith}
-use Rattle.std.specs.Prelude.{All, Contains, IfSome, Option}
+use Rattle.std.specs.Prelude.{All, Contains, IfSome}
 use Rattle.std.proofs.lemmas.List.Elements.{All-head}
 use Rattle.atomic_table.specs.Seated.{TableId}
-use Rattle.mp_sets.specs.Numbers.{Numbers}
-use Rattle.mp_task.specs.AgentTask.{AgentTask}
 use Rattle.mp_messages.specs.declared.history.Entry.{Entry}
+use Rattle.mp_world.specs.Values.{Values}
 use Rattle.mp_post_rule.specs.Views.{party_at, with_seen}
 use Rattle.mp_post_rule.specs.declared.view.Party.{Party}
 use Rattle.mp_post_rule.specs.declared.view.View.{View}
@@ -20,7 +19,7 @@ use Rattle.mp_nodes.specs.Steps.{IsSeenHalted, IsTakenBack, Stops, me_of}
 abbrev pub signed_node : SeenNode → SeenNode
 signed_node n = record n { batch = [] }
 
-module _ (value : AgentTask → Numbers → Numbers → Option ℕ) (agents agent : ℕ) where
+module _ (value : Values) (agents agent : ℕ) where
   -- a turn that signed nothing
   pub nothing_signed : (n : SeenNode) (v w : View) → IsNodeAt value agents agent v n → w.parties ≡ v.parties
       → IsNodeAt value agents agent w n
@@ -29,7 +28,7 @@ module _ (value : AgentTask → Numbers → Numbers → Option ℕ) (agents agen
 
 -- ---- Why a turn signed nothing.
 
-module _ (value : AgentTask → Numbers → Numbers → Option ℕ) (table : TableId) (agents : ℕ) (n : SeenNode) (v w : View)
+module _ (value : Values) (table : TableId) (agents : ℕ) (n : SeenNode) (v w : View)
     (at : IsNodeAt value agents (me_of n) v n)
   where
     -- somebody was halted at the agent's own post

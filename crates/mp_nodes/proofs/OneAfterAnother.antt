@@ -1,11 +1,10 @@
 -- Parts of a node's turn, one after another.
 use Rattle.std.proofs.Common.{◌≡◌, ◌≢◌, ℕ, List, refl, sym, ap, subst, ◌∙◌}
-use Rattle.std.specs.Prelude.{Option, Result, Ok}
+use Rattle.std.specs.Prelude.{Result, Ok}
 use Rattle.atomic_table.specs.Seated.{TableId}
-use Rattle.mp_sets.specs.Numbers.{Numbers}
-use Rattle.mp_task.specs.AgentTask.{AgentTask}
 use Rattle.mp_machine.specs.Machine.{AgentMachine}
 use Rattle.mp_messages.specs.declared.history.Kind.{Kind}
+use Rattle.mp_world.specs.Values.{Values}
 use Rattle.mp_post_rule.specs.Views.{party_at}
 use Rattle.mp_post.specs.Desks.{IsDeskOf, SeenDesk}
 use Rattle.mp_nodes.specs.Nodes.{IsNodeAt, Orders, SeenNode}
@@ -16,7 +15,7 @@ use Rattle.mp_nodes.proofs.AfterSteps.{GoToOthers, acted, received}
 pub same_me : (old new : SeenNode) → IsSameAgent old new → me_of new ≡ me_of old
 same_me old new same = ap (λ (o : Orders). o.task.me) same
 
-module _ (value : AgentTask → Numbers → Numbers → Option ℕ) (table : TableId) (agents : ℕ) where
+module _ (value : Values) (table : TableId) (agents : ℕ) where
   pub ready_again : {A : Type 0} (old new : SeenNode) (before after : SeenDesk) (x : A)
       → GoesOn value table agents {A = A} old before (Ok x) new after → IsReady value table agents new after
   ready_again old new before after x g = record { desk = g.desk; node = g.leaves }

@@ -5,11 +5,10 @@ use Rattle.std.specs.Option.{option_map}
 use Rattle.std.proofs.lemmas.Bool.{false≢true}
 use Rattle.std.proofs.lemmas.Option.{same_Some}
 use Rattle.std.proofs.lemmas.List.{length-set}
+use Rattle.mp_world.specs.Values.{Values}
 use mathlib.Core.Logic.{dite}
 use native.Mathlib.Decide.{ℕ_discrete}
 use Rattle.atomic_table.specs.Seated.{TableId}
-use Rattle.mp_sets.specs.Numbers.{Numbers}
-use Rattle.mp_task.specs.AgentTask.{AgentTask}
 use Rattle.mp_post_rule.specs.Views.{party_at}
 use Rattle.mp_post_rule.specs.declared.view.Party.{Party}
 use Rattle.mp_post_rule.specs.declared.view.View.{View}
@@ -51,7 +50,7 @@ set_elsewhere nodes at agent (suc k) new is differs =
 
 -- ---- the agents of a worker
 
-module _ (value : AgentTask → Numbers → Numbers → Option ℕ) (agents : ℕ) where
+module _ (value : Values) (agents : ℕ) where
   pub place_stays : (agent : ℕ) (v w : View) (place : Option SeenNode) → party_at w agent ≡ party_at v agent
       → IsPlaceAt value agents agent v place → IsPlaceAt value agents agent w place
   place_stays agent v w None same is = same ∙ is
@@ -65,7 +64,7 @@ module _ (value : AgentTask → Numbers → Numbers → Option ℕ) (agents : �
       let marked : is.party.halted ≡ true = subst (λ o. IfSome o (λ (p : Party). p.halted ≡ true)) is.held seen.marked in
       absurd (false≢true (sym is.fits.unmarked ∙ marked))
 
-module _ (value : AgentTask → Numbers → Numbers → Option ℕ) (table : TableId) (agents agent : ℕ) (nodes : List (Option SeenNode)) (at : ℕ)
+module _ (value : Values) (table : TableId) (agents agent : ℕ) (nodes : List (Option SeenNode)) (at : ℕ)
     (old new : Option SeenNode) (v : View) (after : SeenDesk) (served : AreServed value agents nodes v)
     (is : agent ≡ at + 1) (inside : at < length nodes) (there : get_or nodes at None ≡ old)
   where
@@ -135,7 +134,7 @@ module _ (value : AgentTask → Numbers → Numbers → Option ℕ) (table : Tab
 
 -- ---- a node in its place
 
-module _ (value : AgentTask → Numbers → Numbers → Option ℕ) (table : TableId) (agents agent : ℕ) (old new : SeenNode) (d e : SeenDesk)
+module _ (value : Values) (table : TableId) (agents agent : ℕ) (old new : SeenNode) (d e : SeenDesk)
     (mine : me_of old ≡ agent)
   where
     -- its turn, after which it goes on

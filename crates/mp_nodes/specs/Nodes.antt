@@ -3,12 +3,12 @@
 use Rattle.std.specs.Prelude.{◌≡◌, ℕ, zero, suc, ◌==◌, ◌&&◌, not, Bool, true, false, List, ◌++◌, length, slice_index_or, Option, Some, None, All}
 use Rattle.std.specs.List.{list_all}
 use Rattle.std.specs.Option.{option_map, option_map_or}
-use Rattle.mp_sets.specs.Numbers.{Numbers}
 use Rattle.mp_task.specs.AgentTask.{AgentTask}
 use Rattle.mp_messages.specs.declared.history.Entry.{Entry}
 use Rattle.mp_machine.specs.AgentRecord.{AgentRecord, is_going, new_record}
 use Rattle.mp_machine.specs.Machine.{AgentMachine}
 use Rattle.mp_world.specs.Logs.{HasDone}
+use Rattle.mp_world.specs.Values.{Values}
 use Rattle.mp_stamps.specs.Lists.{IsAgentOf, entries}
 use Rattle.mp_post_rule.specs.Queues.{IsSignable}
 use Rattle.mp_post_rule.specs.Views.{party_at}
@@ -26,10 +26,10 @@ node_at nodes zero = None
 node_at nodes (suc place) = slice_index_or nodes place None
 
 -- an agent has done this from the start
-abbrev pub HasDoneAll : (AgentTask → Numbers → Numbers → Option ℕ) → AgentTask → ℕ → List Entry → AgentRecord → Type 0
+abbrev pub HasDoneAll : Values → AgentTask → ℕ → List Entry → AgentRecord → Type 0
 HasDoneAll value t limit log last = HasDone (value t) (new_record t (value t) limit) log last
 
-module _ (value : AgentTask → Numbers → Numbers → Option ℕ) (agents agent : ℕ) where
+module _ (value : Values) (agents agent : ℕ) where
   -- A node is that of an agent of a team of so many, which goes on: nobody halted it, no step stopped its machine, and the
   -- machine has done what its party has signed and then what is not signed yet.
   pub record IsNode (party : Party) (n : SeenNode) : Type 0 where
@@ -48,13 +48,13 @@ module _ (value : AgentTask → Numbers → Numbers → Option ℕ) (agents agen
     pub fits : IsNode party n
 
 -- of an agent a worker has both a node and the party that it fits, or neither
-abbrev pub IsPlaceAt : (AgentTask → Numbers → Numbers → Option ℕ) → ℕ → ℕ → View → Option SeenNode → Type 0
+abbrev pub IsPlaceAt : Values → ℕ → ℕ → View → Option SeenNode → Type 0
 IsPlaceAt value agents agent v None = party_at v agent ≡ None
 IsPlaceAt value agents agent v (Some n) = IsNodeAt value agents agent v n
 
 -- The nodes of a worker are those of the parties of its desk, and each fits its party.
 pub record AreServed
-    (value : AgentTask → Numbers → Numbers → Option ℕ)
+    (value : Values)
     (agents : ℕ)
     (nodes : List (Option SeenNode))
     (v : View)

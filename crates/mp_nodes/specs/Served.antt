@@ -1,9 +1,8 @@
 -- What a worker answers, and what is so then.
 use Rattle.std.specs.Prelude.{◌≡◌, ◌≢◌, ℕ, Bool, true, List, length, Option, Some, None, Result, Ok, Err, Contains}
 use Rattle.std.specs.Option.{option_map}
+use Rattle.mp_world.specs.Values.{Values}
 use Rattle.atomic_table.specs.Seated.{TableId}
-use Rattle.mp_sets.specs.Numbers.{Numbers}
-use Rattle.mp_task.specs.AgentTask.{AgentTask}
 use Rattle.mp_stamps.specs.Lists.{IsAgentOf}
 use Rattle.mp_post.specs.Desks.{IsDeskOf, SeenDesk}
 use Rattle.mp_post.specs.Halts.{HasHalted}
@@ -21,7 +20,7 @@ use Rattle.mp_nodes.specs.declared.served.Served.TheVariants.{Ended, Halted, Bad
 abbrev pub WasHalted : ℕ → ℕ → View → Type 0
 WasHalted agents agent v = (before : View) × HasHalted agent agents before v
 
-module _ (value : AgentTask → Numbers → Numbers → Option ℕ) (agents : ℕ) (nodes : List (Option SeenNode)) (v : View) where
+module _ (value : Values) (agents : ℕ) (nodes : List (Option SeenNode)) (v : View) where
   -- all agents of the worker have ended, and all that they did is signed
   pub record AllEnded : Type 0 where
     pub served : AreServed value agents nodes v
@@ -62,7 +61,7 @@ Answers agents agent (stops.Halted other) answer before now = (answer ≡ Halted
 Answers agents agent stops.Bad answer before now = (answer ≡ Bad agent) × HasHalted agent agents before now
 Answers agents agent stops.OutOfMemory answer before now = (answer ≡ OutOfMemory agent) × HasHalted agent agents before now
 
-module _ (value : AgentTask → Numbers → Numbers → Option ℕ) (table : TableId) (agents agent : ℕ) where
+module _ (value : Values) (table : TableId) (agents agent : ℕ) where
   -- why the agent of a place does not go on
   abbrev pub StopsPlace : Option SeenNode → View → Served → Type 0
   StopsPlace place v Ended = ⊥
@@ -88,7 +87,7 @@ module _ (value : AgentTask → Numbers → Numbers → Option ℕ) (table : Tab
     pub desk : IsDeskOf table agents after
     pub leaves : LeavesPlace new after.view answer
 
-module _ (value : AgentTask → Numbers → Numbers → Option ℕ) (table : TableId) (agents : ℕ) where
+module _ (value : Values) (table : TableId) (agents : ℕ) where
   -- the worker goes on, or answers
   abbrev pub LeavesAll : List (Option SeenNode) → View → Result Bool Served → Type 0
   LeavesAll nodes v (Ok did) = AreServed value agents nodes v

@@ -1,7 +1,5 @@
 -- The steps of a node: what its machine does, and what is then unsigned.
 use Rattle.std.specs.Prelude.{◌≡◌, ◌≢◌, ℕ, false, true, List, [], ◌∷◌, ◌++◌, map, Option, Some, None, Result, Ok, Err, Contains, IfSome}
-use Rattle.mp_sets.specs.Numbers.{Numbers}
-use Rattle.mp_task.specs.AgentTask.{AgentTask}
 use Rattle.mp_messages.specs.declared.history.Entry.{Entry}
 use Rattle.mp_messages.specs.declared.history.Entry.TheVariants.{Act, Took}
 use Rattle.mp_messages.specs.declared.history.Kind.{Kind}
@@ -15,6 +13,7 @@ use Rattle.mp_machine.specs.declared.refusal.BadKind.{BadKind}
 use Rattle.mp_machine.specs.declared.refusal.StepRefusal.{StepRefusal}
 use Rattle.mp_machine.specs.declared.refusal.StepRefusal.TheVariants.{NotNow, Bad, OutOfMemory}
 use Rattle.mp_world.specs.Logs.{put_by}
+use Rattle.mp_world.specs.Values.{Values}
 use Rattle.mp_stamps.specs.Lists.{IsAgentOf, entries}
 use Rattle.mp_post_rule.specs.Views.{party_at}
 use Rattle.mp_post_rule.specs.declared.view.Party.{Party}
@@ -32,7 +31,7 @@ abbrev pub local_of : Kind → Local
 local_of kinds.Expand = locals.Expand
 local_of kinds.Start = locals.Start
 
-module _ (value : AgentTask → Numbers → Numbers → Option ℕ) (me : ℕ) (old new : SeenNode) where
+module _ (value : Values) (me : ℕ) (old new : SeenNode) where
   -- the agent did something by itself, and its messages are unsigned
   pub record HasActed (kind : Kind) : Type 0 where
     pub outs : List Out
@@ -58,7 +57,7 @@ module _ (value : AgentTask → Numbers → Numbers → Option ℕ) (me : ℕ) (
   MayRefuse from bytes (Bad kind) = HasRefused from bytes
   MayRefuse from bytes OutOfMemory = Unit {0}
 
-module _ (value : AgentTask → Numbers → Numbers → Option ℕ) (agents agent : ℕ) where
+module _ (value : Values) (agents agent : ℕ) where
   -- A message of another agent was handed over, and its receipt is the last entry of the party's list; the node's machine has
   -- done what stands before it. Nothing is unsigned.
   pub record IsHanded (from : ℕ) (bytes : List ℕ) (party : Party) (n : SeenNode) : Type 0 where
@@ -117,7 +116,7 @@ pub record IsSeenHalted (agents agent : ℕ) (v : View) : Type 0 where
   pub seen : Contains v.seen agent
   pub marked : IfSome (party_at v agent) (λ p. p.halted ≡ true)
 
-module _ (value : AgentTask → Numbers → Numbers → Option ℕ) (table : TableId) (agents : ℕ) where
+module _ (value : Values) (table : TableId) (agents : ℕ) where
   -- a desk is at the posts of a team, and holds the party of an agent, which its node fits
   pub record IsReady (n : SeenNode) (d : SeenDesk) : Type 0 where
     pub desk : IsDeskOf table agents d

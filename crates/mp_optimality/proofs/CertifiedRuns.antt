@@ -18,7 +18,6 @@ use Rattle.mp_solve.proofs.Found.{AnswersAreRight}
 use Rattle.mp_solve.proofs.Solutions.{if_solution}
 use Rattle.mp_split.specs.Team.{AreTasksOf}
 use Rattle.mp_split.specs.declared.team.Tasks.{Tasks}
-use Rattle.mp_task.specs.Agree.{Agree}
 use Rattle.mp_task.specs.AgentTask.{AgentTask}
 use Rattle.mp_team_states.specs.Expansions.{nothing_known}
 use Rattle.mp_text.specs.Lines.{Text}
@@ -28,6 +27,7 @@ use Rattle.mp_world.proofs.LogOfRun.{run_log_schedule}
 use Rattle.mp_world.specs.Answers.{answer_of, outcome_of}
 use Rattle.mp_world.specs.Events.{run}
 use Rattle.mp_world.specs.Logs.{log_of_run}
+use Rattle.mp_world.specs.Team.{AreTeamTasks, most_expansions, team_with}
 use Rattle.mp_world.specs.World.{AreNumbered, World}
 use Rattle.mp_world.specs.declared.answer.Answer.{Answer}
 use Rattle.mp_world.specs.declared.answer.Answer.TheVariants.{Solved}
@@ -72,23 +72,23 @@ abbrev as_ok : Solution → Result Solution Bool
 as_ok s = Ok s
 
 module _ (limit : ℕ) (team : List Factor) (tasks : Tasks) (r : TeamRun) (ended : HasEnded nothing_known limit tasks.tasks r) where
-  leads : run nothing_known limit tasks.tasks r.schedule ≡ Some r.world
-  leads = sym (λ i. run nothing_known (ended.done.limit_is i) (ended.done.tasks_are i) r.schedule) ∙ ended.done.run.leads
+  leads : run (team_with nothing_known limit tasks.tasks) r.schedule ≡ Some r.world
+  leads = sym (λ i. run (team_with nothing_known (ended.done.limit_is i) (ended.done.tasks_are i)) r.schedule) ∙ ended.done.run.leads
 
-  logged : r.log ≡ log_of_run nothing_known limit tasks.tasks r.schedule
-  logged = ended.done.run.logged ∙ (λ i. log_of_run nothing_known (ended.done.limit_is i) (ended.done.tasks_are i) r.schedule)
+  logged : r.log ≡ log_of_run (team_with nothing_known limit tasks.tasks) r.schedule
+  logged = ended.done.run.logged ∙ (λ i. log_of_run (team_with nothing_known (ended.done.limit_is i) (ended.done.tasks_are i)) r.schedule)
 
   numbered : AreNumbered tasks.tasks
-  numbered = agree_numbered tasks.tasks (subst Agree ended.done.tasks_are ended.done.team.agree)
+  numbered = agree_numbered tasks.tasks (subst AreTeamTasks ended.done.tasks_are ended.done.team.tasks).agree
 
   -- the events of its log are its schedule
-  log_leads : run nothing_known limit tasks.tasks (schedule_of r.log) ≡ Some r.world
+  log_leads : run (team_with nothing_known limit tasks.tasks) (schedule_of r.log) ≡ Some r.world
   log_leads =
-      ap (run nothing_known limit tasks.tasks)
+      ap (run (team_with nothing_known limit tasks.tasks))
       (ap schedule_of logged ∙ run_log_schedule nothing_known tasks.tasks numbered limit r.schedule r.world leads)
       ∙ leads
 
-  pub certified_by : AnswersAreRight nothing_known → All IsChecked team → 1 ≤ length team → AreTasksOf team tasks → limit ≤ 10000000
+  pub certified_by : AnswersAreRight nothing_known → All IsChecked team → 1 ≤ length team → AreTasksOf team tasks → limit ≤ most_expansions
       → (s : Solution) (text : Text) → s.views ≡ tasks.views → s.log ≡ r.log → s.answer ≡ answer_of r.world
       → s.text ≡ outcome_text (outcome_of r.world) (names_of team tasks.steps) r.log
       → TellsAnswer r.tasks r.world s.answer text → IsCertified limit team s text
@@ -97,6 +97,6 @@ module _ (limit : ℕ) (team : List Factor) (tasks : Tasks) (r : TeamRun) (ended
     tasks = tasks;
     are_tasks = are;
     last = r.world;
-    leads = ap (λ l. run nothing_known limit tasks.tasks (schedule_of l)) log ∙ log_leads;
+    leads = ap (λ l. run (team_with nothing_known limit tasks.tasks) (schedule_of l)) log ∙ log_leads;
     told = subst (λ ts. TellsAnswer ts r.world s.answer text) ended.done.tasks_are tells;
   }

@@ -17,6 +17,7 @@ use Rattle.mp_team_states.specs.Expansions.{nothing_known}
 use Rattle.mp_text.specs.Lines.{Text}
 use Rattle.mp_world.specs.Answers.{answer_of}
 use Rattle.mp_world.specs.Events.{run}
+use Rattle.mp_world.specs.Team.{team_with}
 use Rattle.mp_world.specs.World.{World}
 use Rattle.mp_world.specs.declared.answer.Answer.{Answer}
 use Rattle.mp_world.specs.declared.answer.Answer.TheVariants.{Nothing, Solved, Unsolvable, Undecided}
@@ -53,5 +54,5 @@ pub record IsCertified (limit : ℕ) (team : List Factor) (found : Solution) (te
   pub tasks : Tasks
   pub are_tasks : AreTasksOf team tasks
   pub last : World
-  pub leads : run nothing_known limit tasks.tasks (schedule found.log) ≡ Some last
+  pub leads : run (team_with nothing_known limit tasks.tasks) (schedule found.log) ≡ Some last
   pub told : TellsAnswer tasks.tasks last found.answer text

@@ -5,6 +5,7 @@ ghost use Rattle.mp_certify.specs.Certified.{solved_cost};
 ghost use Rattle.mp_solve.specs.Refused.{AreWithin};
 ghost use Rattle.mp_split.specs.Team.{AreTasksOf, IsFirstRefusal};
 ghost use Rattle.mp_world.specs.Answers.{answer_of};
+ghost use Rattle.mp_world.specs.Team.{most_expansions};
 ghost use Rattle.mp_optimality.specs.Certified.{IsCertified, TellsAnswer, TellsSolved};
 
 use mp_certificates::certificate_text;
@@ -74,7 +75,7 @@ fn certify_tasks(
     limit: u64,
 ) -> Result<Certified, OutOfMemory>
     requires from_1 { 1 ≤ limit }
-    requires limit { limit ≤ 10000000 }
+    requires limit { limit ≤ most_expansions }
     requires some { 1 ≤ length factors.now }
     requires at_most { length factors.now ≤ 16 }
     requires tasks { AreTasksOf factors.now given }
@@ -120,7 +121,7 @@ pub fn certify(
     limit: u64,
 ) -> Result<Certified, GroundRefusal>
     requires from_1 { 1 ≤ limit }
-    requires limit { limit ≤ 10000000 }
+    requires limit { limit ≤ most_expansions }
     requires some { 1 ≤ length factors.now }
     requires at_most { length factors.now ≤ 16 }
     ensures certified { IfOk result (λ c. IsCertified limit factors.now c.solution c.text) }

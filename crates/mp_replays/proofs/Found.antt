@@ -1,15 +1,15 @@
 -- What is found by one schedule is one thing.
-use Rattle.std.proofs.Common.{◌≡◌, ℕ, List, Option, Some, All, sym, ap, subst, ◌∙◌}
+use Rattle.std.proofs.Common.{◌≡◌, ℕ, List, Some, All, sym, ap, subst, ◌∙◌}
 use Rattle.std.proofs.lemmas.Option.{same_Some}
 use Rattle.mp_factor.specs.declared.factor.Factor.{Factor}
 use Rattle.mp_grounder.specs.Checked.{IsChecked}
-use Rattle.mp_sets.specs.Numbers.{Numbers}
-use Rattle.mp_task.specs.AgentTask.{AgentTask}
 use Rattle.mp_messages.specs.declared.history.Event.{Event}
 use Rattle.mp_messages.specs.History.{schedule as schedule_of}
 use Rattle.mp_world.specs.Answers.{answer_of, outcome_of}
 use Rattle.mp_world.specs.Events.{run}
 use Rattle.mp_world.specs.Logs.{IsLog, log_of_run}
+use Rattle.mp_world.specs.Team.{team_with}
+use Rattle.mp_world.specs.Values.{Values}
 use Rattle.mp_world.specs.World.{AreNumbered}
 use Rattle.mp_logs.proofs.OneSchedule.{logs_alike}
 use Rattle.mp_outcome.specs.Names.{names_of}
@@ -26,7 +26,7 @@ use Rattle.mp_replays.specs.Same.{AreSameSearches, IsFoundAgain}
 use Rattle.mp_replays.proofs.OneTeam.{one_names, one_tasks, one_views}
 use Rattle.mp_replays.proofs.Teams.{tasks_numbered}
 
-module _ (value : AgentTask → Numbers → Numbers → Option ℕ) (limit : ℕ) (schedule : List Event)
+module _ (value : Values) (limit : ℕ) (schedule : List Event)
     (found its : Solution) where
   -- two teams with the same tasks
   module _ (team other : List Factor) (f : IsFound value limit team schedule found)
@@ -34,27 +34,27 @@ module _ (value : AgentTask → Numbers → Numbers → Option ℕ) (limit : ℕ
       (same : g.tasks.tasks ≡ f.tasks.tasks) where
     pub same_world : g.last ≡ f.last
     same_world = same_Some g.last f.last
-        (sym (subst (λ ts. run value limit ts schedule ≡ Some g.last) same g.leads) ∙ f.leads)
+        (sym (subst (λ ts. run (team_with value limit ts) schedule ≡ Some g.last) same g.leads) ∙ f.leads)
 
     -- the logs are equal where the events of both happened one after another
-    pub same_log : found.log ≡ log_of_run value limit f.tasks.tasks schedule
-        → its.log ≡ log_of_run value limit g.tasks.tasks schedule → its.log ≡ found.log
-    same_log first second = second ∙ ap (λ ts. log_of_run value limit ts schedule) same ∙ sym first
+    pub same_log : found.log ≡ log_of_run (team_with value limit f.tasks.tasks) schedule
+        → its.log ≡ log_of_run (team_with value limit g.tasks.tasks) schedule → its.log ≡ found.log
+    same_log first second = second ∙ ap (λ ts. log_of_run (team_with value limit ts) schedule) same ∙ sym first
 
     pub same_answer : its.answer ≡ found.answer
     same_answer = g.answer ∙ ap answer_of same_world ∙ sym f.answer
 
     module _ (numbered : AreNumbered f.tasks.tasks) where
-      other_log : IsLog value limit f.tasks.tasks its.log
-      other_log = subst (λ ts. IsLog value limit ts its.log) same g.is_log
+      other_log : IsLog (team_with value limit f.tasks.tasks) its.log
+      other_log = subst (λ ts. IsLog (team_with value limit ts) its.log) same g.is_log
 
       one_schedule : schedule_of its.log ≡ schedule_of found.log
       one_schedule = g.logged ∙ sym f.logged
 
       pub same_search : AreSameSearches found its
       same_search = record {
-        alike = logs_alike value limit f.tasks.tasks numbered found.log its.log f.is_log other_log one_schedule;
-        told = tell_the_same value limit f.tasks.tasks numbered found.log its.log f.is_log other_log one_schedule;
+        alike = logs_alike (team_with value limit f.tasks.tasks) numbered found.log its.log f.is_log other_log one_schedule;
+        told = tell_the_same (team_with value limit f.tasks.tasks) numbered found.log its.log f.is_log other_log one_schedule;
         answer = same_answer;
       }
 
@@ -86,7 +86,7 @@ module _ (value : AgentTask → Numbers → Numbers → Option ℕ) (limit : ℕ
 
 -- ---- one agent renames
 
-module _ (law : KeepsTasks) (value : AgentTask → Numbers → Numbers → Option ℕ) (limit place : ℕ) (r : Renaming)
+module _ (law : KeepsTasks) (value : Values) (limit place : ℕ) (r : Renaming)
     (team other : List Factor)
     (schedule : List Event) (found : Solution) where
   pub views_stay : (u : Tasks) → All IsChecked team → All IsChecked other → IsRenamedTeam place r team other
@@ -95,9 +95,9 @@ module _ (law : KeepsTasks) (value : AgentTask → Numbers → Numbers → Optio
       ∙ sym f.views
 
   pub log_stays : (u : Tasks) → All IsChecked team → All IsChecked other → IsRenamedTeam place r team other
-      → IsFound value limit team schedule found → AreTasksOf other u → IsLog value limit u.tasks found.log
+      → IsFound value limit team schedule found → AreTasksOf other u → IsLog (team_with value limit u.tasks) found.log
   log_stays u checked also renamed f of =
-      subst (λ ts. IsLog value limit ts found.log)
+      subst (λ ts. IsLog (team_with value limit ts) found.log)
       (sym (law.tasks place r team other f.tasks u checked also renamed f.are_tasks of)) f.is_log
 
   module _ (its : Solution) (checked : All IsChecked team) (also : All IsChecked other)

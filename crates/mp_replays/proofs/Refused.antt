@@ -1,5 +1,5 @@
 -- A schedule's text has at most one refused line, and none where it is replayed.
-use Rattle.std.proofs.Common.{◌≡◌, ℕ, false, cond, ◌⊎◌, List, [], ◌∷◌, ◌++◌, length, map, Option, Some, None, All, sym, ap, subst, ◌∙◌, inl, inr}
+use Rattle.std.proofs.Common.{◌≡◌, ℕ, false, cond, ◌⊎◌, List, [], ◌∷◌, ◌++◌, length, map, Some, None, All, sym, ap, subst, ◌∙◌, inl, inr}
 use Rattle.std.specs.Prelude.{Ok, Err}
 use Rattle.std.specs.Option.{option_and_then}
 use Rattle.std.proofs.lemmas.List.{map-append}
@@ -8,10 +8,11 @@ use Rattle.mp_runs.proofs.Runs.{run_cut, run_parts}
 use Rattle.mp_factor.specs.declared.factor.Factor.{Factor}
 use Rattle.mp_grounder.specs.Checked.{IsChecked}
 use Rattle.mp_joint.specs.Fact.{Text}
-use Rattle.mp_sets.specs.Numbers.{Numbers}
 use Rattle.mp_task.specs.AgentTask.{AgentTask}
 use Rattle.mp_messages.specs.declared.history.Event.{Event}
 use Rattle.mp_world.specs.Events.{after_event, agent_of, if_good, is_legal, local_step, run}
+use Rattle.mp_world.specs.Team.{team_with}
+use Rattle.mp_world.specs.Values.{Values}
 use Rattle.mp_world.specs.World.{World, agent_at, start_world}
 use Rattle.mp_text.specs.Schedule.{schedule_in}
 use Rattle.mp_text.specs.declared.schedule.EventLine.{EventLine}
@@ -53,7 +54,7 @@ parted (e ∷ x) (d ∷ y) p q v w same =
 
 -- ---- an event that may not happen
 
-module _ (value : AgentTask → Numbers → Numbers → Option ℕ) where
+module _ (value : Values) where
   not_legal : (w : World) (event : Event) → is_legal w event ≡ false → after_event value w event ≡ None
   unfolding after_event
   not_legal w event illegal =
@@ -63,12 +64,12 @@ module _ (value : AgentTask → Numbers → Numbers → Option ℕ) where
   module _ (limit : ℕ) (tasks : List AgentTask) where
     -- no run goes on with an event that may not happen
     no_run : (before : List EventLine) (line : EventLine) (more : List EventLine) (last w : World)
-        → run value limit tasks (events before) ≡ Some last
-        → is_legal last line.event ≡ false → run value limit tasks (events (before ++ line ∷ more)) ≡ Some w → ⊥
+        → run (team_with value limit tasks) (events before) ≡ Some last
+        → is_legal last line.event ≡ false → run (team_with value limit tasks) (events (before ++ line ∷ more)) ≡ Some w → ⊥
     no_run before line more last w leads illegal ran =
-        let start = start_world value limit tasks in
-        let whole : run value limit tasks (events before ++ line.event ∷ events more) ≡ Some w =
-        ap (run value limit tasks) (sym (map-append (λ line. line.event) before (line ∷ more))) ∙ ran
+        let start = start_world (team_with value limit tasks) in
+        let whole : run (team_with value limit tasks) (events before ++ line.event ∷ events more) ≡ Some w =
+        ap (run (team_with value limit tasks)) (sym (map-append (λ line. line.event) before (line ∷ more))) ∙ ran
         in
         let cut = run_cut (after_event value) start w (events before) (line.event ∷ events more) whole in
         let same : cut.0 ≡ last = same_Some cut.0 last (sym cut.1 ∙ leads) in
@@ -86,20 +87,20 @@ module _ (value : AgentTask → Numbers → Numbers → Option ℕ) where
         by (inl same) = sym a.numbered ∙ ap (λ (line : EventLine). line.line) same ∙ b.numbered
         by (inr (inl begins)) =
             absurd (no_run a.before a.line begins.more a.last b.last a.leads a.illegal
-            (ap (λ lines. run value limit tasks (events lines)) (sym begins.is) ∙ b.leads))
+            (ap (λ lines. run (team_with value limit tasks) (events lines)) (sym begins.is) ∙ b.leads))
         by (inr (inr begins)) =
             absurd (no_run b.before b.line begins.more b.last a.last b.leads b.illegal
-            (ap (λ lines. run value limit tasks (events lines)) (sym begins.is) ∙ a.leads))
+            (ap (λ lines. run (team_with value limit tasks) (events lines)) (sym begins.is) ∙ a.leads))
 
-    no_stop : (lines : List EventLine) (n : ℕ) (w : World) → run value limit tasks (events lines) ≡ Some w
+    no_stop : (lines : List EventLine) (n : ℕ) (w : World) → run (team_with value limit tasks) (events lines) ≡ Some w
         → StopsAt value limit tasks lines n → ⊥
     no_stop lines n w ran a =
         no_run a.before a.line a.later a.last w a.leads a.illegal
-        (ap (λ lines. run value limit tasks (events lines)) (sym a.lines_are) ∙ ran)
+        (ap (λ lines. run (team_with value limit tasks) (events lines)) (sym a.lines_are) ∙ ran)
 
 -- ---- lines of a text
 
-module _ (law : KeepsTasks) (value : AgentTask → Numbers → Numbers → Option ℕ) (limit : ℕ) (team : List Factor)
+module _ (law : KeepsTasks) (value : Values) (limit : ℕ) (team : List Factor)
     (text : Text) (checked : All IsChecked team) where
   both : (lines : List EventLine) (n : ℕ) (R : Type 0) → schedule_in (length team) text ≡ Ok lines
       → schedule_in (length team) text ≡ Err n → R

@@ -1,12 +1,12 @@
 -- What was found is found again by the text of its trace.
-use Rattle.std.proofs.Common.{◌≡◌, ◌≤◌, ℕ, List, length, map, Option, All, sym, ap, subst, ◌∙◌}
+use Rattle.std.proofs.Common.{◌≡◌, ◌≤◌, ℕ, List, length, map, All, sym, ap, subst, ◌∙◌}
 use Rattle.std.specs.Prelude.{Ok}
 use Rattle.mp_factor.specs.declared.factor.Factor.{Factor}
 use Rattle.mp_grounder.specs.Checked.{IsChecked}
 use Rattle.mp_joint.specs.Fact.{Text}
-use Rattle.mp_sets.specs.Numbers.{Numbers}
-use Rattle.mp_task.specs.AgentTask.{AgentTask}
 use Rattle.mp_messages.specs.declared.history.Event.{Event}
+use Rattle.mp_world.specs.Team.{team_with}
+use Rattle.mp_world.specs.Values.{Values}
 use Rattle.mp_world.specs.World.{AreNumbered}
 use Rattle.mp_world.specs.Logs.{log_of_run}
 use Rattle.mp_text.specs.Again.{IsOfTeam, numbered_events}
@@ -24,7 +24,7 @@ use Rattle.mp_replays.proofs.OneTeam.{one_tasks}
 use Rattle.mp_replays.proofs.Refused.{no_refusal, one_reading}
 use Rattle.mp_replays.proofs.Teams.{one_each, tasks_numbered}
 
-module _ (law : KeepsTasks) (value : AgentTask → Numbers → Numbers → Option ℕ) (limit : ℕ) (team : List Factor)
+module _ (law : KeepsTasks) (value : Values) (limit : ℕ) (team : List Factor)
     (schedule : List Event) (found : Solution)
     (text : Text) (checked : All IsChecked team) (few : length team ≤ 16) (f : IsFound value limit team schedule found)
     (trace : IsTraceOf found.log text) where
@@ -53,7 +53,7 @@ module _ (law : KeepsTasks) (value : AgentTask → Numbers → Numbers → Optio
       (subst (λ s. IsFound value limit team s found) (sym events) f) refused
 
   -- the text leads to what was found, where the events happened one after another
-  pub trace_replayed : found.log ≡ log_of_run value limit f.tasks.tasks schedule → IsReplayed value limit team text found
+  pub trace_replayed : found.log ≡ log_of_run (team_with value limit f.tasks.tasks) schedule → IsReplayed value limit team text found
   trace_replayed logged = record {
     lines = again;
     read = read;
@@ -71,7 +71,7 @@ module _ (law : KeepsTasks) (value : AgentTask → Numbers → Numbers → Optio
     pub trace_again : IsFoundAgain found its
     trace_again = found_again value limit schedule found its law team checked f its_turn.is_found
 
-    pub log_again : found.log ≡ log_of_run value limit f.tasks.tasks schedule → its.log ≡ found.log
+    pub log_again : found.log ≡ log_of_run (team_with value limit f.tasks.tasks) schedule → its.log ≡ found.log
     log_again logged =
         same_log value limit schedule found its team team f its_turn.is_found
         (one_tasks law team checked f.tasks its_turn.is_found.tasks f.are_tasks its_turn.is_found.are_tasks)

@@ -1,17 +1,17 @@
 //! The laws. Each is the contract of a function that does nothing.
 
-ghost use Rattle.std.specs.Prelude.{◌≡◌, ◌≤◌, ℕ, List, All, Option, length};
+ghost use Rattle.std.specs.Prelude.{◌≡◌, ◌≤◌, ℕ, List, All, length};
 ghost use Rattle.mp_factor.specs.declared.factor.Factor.{Factor};
 ghost use Rattle.mp_grounder.specs.Checked.{IsChecked};
 ghost use Rattle.mp_joint.specs.Fact.{Text};
 ghost use Rattle.mp_messages.specs.declared.history.Event.{Event};
-ghost use Rattle.mp_sets.specs.Numbers.{Numbers};
 ghost use Rattle.mp_solutions.specs.Solution.{IsFound, IsFoundInTurn, IsRefusedLine, IsReplayed};
 ghost use Rattle.mp_solutions.specs.declared.solution.Solution.{Solution};
 ghost use Rattle.mp_split.specs.Team.{AreTasksOf};
 ghost use Rattle.mp_split.specs.declared.team.Tasks.{Tasks};
-ghost use Rattle.mp_task.specs.AgentTask.{AgentTask};
 ghost use Rattle.mp_world.specs.Logs.{IsLog};
+ghost use Rattle.mp_world.specs.Team.{team_with};
+ghost use Rattle.mp_world.specs.Values.{Values};
 ghost use Rattle.mp_stands.specs.Renaming.{Renaming};
 ghost use Rattle.mp_stands.specs.Team.{IsRenamedTeam};
 ghost use Rattle.mp_replays.specs.Renamed.{KeepsTasks};
@@ -37,10 +37,10 @@ pub fn tasks_are_one()
 
 /// A schedule's text has at most one refused line, and none where it is replayed.
 pub fn refused_lines_are_one()
-    ensures one { (value : AgentTask → Numbers → Numbers → Option ℕ) (limit : ℕ) (team : List Factor) (text : Text)
+    ensures one { (value : Values) (limit : ℕ) (team : List Factor) (text : Text)
         (m n : ℕ) → All IsChecked team
         → IsRefusedLine value limit team text m → IsRefusedLine value limit team text n → m ≡ n }
-    ensures none { (value : AgentTask → Numbers → Numbers → Option ℕ) (limit : ℕ) (team : List Factor) (text : Text)
+    ensures none { (value : Values) (limit : ℕ) (team : List Factor) (text : Text)
         (found : Solution) (n : ℕ) → All IsChecked team
         → IsReplayed value limit team text found → IsRefusedLine value limit team text n → ⊥ }
 {
@@ -52,23 +52,23 @@ pub fn refused_lines_are_one()
 /// Where the events happened one after another, the trace leads to just what was found, and the logs are equal where those of
 /// both did.
 pub fn traces_are_replayed()
-    ensures accepted { (value : AgentTask → Numbers → Numbers → Option ℕ) (limit : ℕ) (team : List Factor)
+    ensures accepted { (value : Values) (limit : ℕ) (team : List Factor)
         (schedule : List Event) (found : Solution) (text : Text) (n : ℕ)
         → All IsChecked team → length team ≤ 16
         → IsFound value limit team schedule found → IsTraceOf found.log text
         → IsRefusedLine value limit team text n → ⊥ }
-    ensures replayed { (value : AgentTask → Numbers → Numbers → Option ℕ) (limit : ℕ) (team : List Factor)
+    ensures replayed { (value : Values) (limit : ℕ) (team : List Factor)
         (schedule : List Event) (found : Solution) (text : Text)
         → All IsChecked team → length team ≤ 16
         → IsFoundInTurn value limit team schedule found → IsTraceOf found.log text
         → IsReplayed value limit team text found }
-    ensures same { (value : AgentTask → Numbers → Numbers → Option ℕ) (limit : ℕ) (team : List Factor)
+    ensures same { (value : Values) (limit : ℕ) (team : List Factor)
         (schedule : List Event) (found again : Solution) (text : Text)
         → All IsChecked team → length team ≤ 16
         → IsFound value limit team schedule found → IsTraceOf found.log text
         → IsReplayed value limit team text again
         → IsFoundAgain found again }
-    ensures in_turn { (value : AgentTask → Numbers → Numbers → Option ℕ) (limit : ℕ) (team : List Factor)
+    ensures in_turn { (value : Values) (limit : ℕ) (team : List Factor)
         (schedule : List Event) (found again : Solution) (text : Text)
         → All IsChecked team → length team ≤ 16
         → IsFoundInTurn value limit team schedule found → IsTraceOf found.log text
@@ -82,20 +82,20 @@ pub fn traces_are_replayed()
 /// is a log of the other; and by one schedule the same messages are sent between each two agents, byte for byte and in the
 /// same order, and the same answer is found. The logs are equal where the events of both happened one after another.
 pub fn renaming_changes_no_message()
-    ensures views { (value : AgentTask → Numbers → Numbers → Option ℕ) (limit place : ℕ) (r : Renaming)
+    ensures views { (value : Values) (limit place : ℕ) (r : Renaming)
         (team other : List Factor) (schedule : List Event) (found : Solution) (u : Tasks)
         → All IsChecked team → All IsChecked other → IsRenamedTeam place r team other
         → IsFound value limit team schedule found → AreTasksOf other u → u.views ≡ found.views }
-    ensures logs { (value : AgentTask → Numbers → Numbers → Option ℕ) (limit place : ℕ) (r : Renaming)
+    ensures logs { (value : Values) (limit place : ℕ) (r : Renaming)
         (team other : List Factor) (schedule : List Event) (found : Solution) (u : Tasks)
         → All IsChecked team → All IsChecked other → IsRenamedTeam place r team other
-        → IsFound value limit team schedule found → AreTasksOf other u → IsLog value limit u.tasks found.log }
-    ensures messages { (value : AgentTask → Numbers → Numbers → Option ℕ) (limit place : ℕ) (r : Renaming)
+        → IsFound value limit team schedule found → AreTasksOf other u → IsLog (team_with value limit u.tasks) found.log }
+    ensures messages { (value : Values) (limit place : ℕ) (r : Renaming)
         (team other : List Factor) (schedule : List Event) (found its : Solution)
         → All IsChecked team → All IsChecked other → IsRenamedTeam place r team other
         → IsFound value limit team schedule found → IsFound value limit other schedule its
         → AreSameSearches found its }
-    ensures in_turn { (value : AgentTask → Numbers → Numbers → Option ℕ) (limit place : ℕ) (r : Renaming)
+    ensures in_turn { (value : Values) (limit place : ℕ) (r : Renaming)
         (team other : List Factor) (schedule : List Event) (found its : Solution)
         → All IsChecked team → All IsChecked other → IsRenamedTeam place r team other
         → IsFoundInTurn value limit team schedule found → IsFoundInTurn value limit other schedule its

@@ -7,6 +7,7 @@ ghost use Rattle.mp_split.specs.Team.{AreTasksOf};
 ghost use Rattle.mp_task.specs.Agree.{Agree};
 ghost use Rattle.mp_task.specs.Limits.{IsWithinLimits};
 ghost use Rattle.mp_world.specs.RoundRobin.{is_over};
+ghost use Rattle.mp_world.specs.Team.{most_expansions};
 
 use crate::report::push_report;
 use crate::trace::traced;
@@ -55,7 +56,7 @@ fn begun<H: Heuristic>(
     counts: &mut Vec<Count>,
 ) -> Result<World<Counted<H>>, OutOfMemory>
     requires from_1 { 1 ≤ limit }
-    requires limit { limit ≤ 10000000 }
+    requires limit { limit ≤ most_expansions }
     requires agree { Agree tasks }
     requires some { 1 ≤ length tasks }
     requires at_most { length tasks ≤ 16 }
@@ -159,7 +160,7 @@ fn run_tasks<H: Heuristic, E: Sink>(
     err: &mut E,
 ) -> Result<ToldAnswer, OutOfMemory>
     requires from_1 { 1 ≤ limit }
-    requires limit { limit ≤ 10000000 }
+    requires limit { limit ≤ most_expansions }
     requires some { 1 ≤ length factors.now }
     requires at_most { length factors.now ≤ 16 }
     requires tasks { AreTasksOf factors.now given }
@@ -201,7 +202,7 @@ fn run_by<H: Heuristic, E: Sink>(
     err: &mut E,
 ) -> Result<ToldAnswer, GroundRefusal>
     requires from_1 { 1 ≤ limit }
-    requires limit { limit ≤ 10000000 }
+    requires limit { limit ≤ most_expansions }
     requires some { 1 ≤ length factors.now }
     requires at_most { length factors.now ≤ 16 }
     ensures { IfOk result (λ told. IsAnswered H.value limit factors.now told.answer) }
@@ -225,7 +226,7 @@ pub fn run_team<E: Sink>(
     err: &mut E,
 ) -> Result<ToldAnswer, GroundRefusal>
     requires from_1 { 1 ≤ limit }
-    requires limit { limit ≤ 10000000 }
+    requires limit { limit ≤ most_expansions }
     requires some { 1 ≤ length factors.now }
     requires at_most { length factors.now ≤ 16 }
     ensures { IfOk result (λ told. IsAnswered (values_of heuristic) limit factors.now told.answer) }

@@ -1,16 +1,15 @@
 -- The answers to an event, and that the run goes on.
-use Rattle.std.proofs.Common.{◌≡◌, ℕ, Bool, true, false, List, Option, Some, None, refl, sym, ap}
+use Rattle.std.proofs.Common.{◌≡◌, Bool, true, false, List, Option, Some, None, refl, sym, ap}
 use Rattle.std.proofs.Common.{subst, ◌∙◌}
 use Rattle.std.specs.Prelude.{IfSome, Result, Ok, Err, if◌then◌else◌}
 use Rattle.std.proofs.lemmas.Bool.{false≢true}
-use Rattle.mp_sets.specs.Numbers.{Numbers}
-use Rattle.mp_task.specs.AgentTask.{AgentTask}
 use Rattle.mp_messages.specs.declared.history.Entry.{Entry}
 use Rattle.mp_messages.specs.declared.history.Event.{Event}
 use Rattle.mp_messages.specs.declared.history.Event.TheVariants.{Expand, Take, Start}
 use Rattle.mp_messages.specs.History.{schedule as schedule_of}
 use Rattle.mp_machine.specs.Machine.{AgentMachine}
 use Rattle.mp_world.specs.Events.{agent_may, agent_of, has_message, is_legal}
+use Rattle.mp_world.specs.Values.{Values}
 use Rattle.mp_world.specs.World.{World}
 use Rattle.mp_schedule.specs.declared.refusal.EventRefusal.{EventRefusal}
 use Rattle.mp_schedule.specs.declared.refusal.EventRefusal.TheVariants.{NotNow}
@@ -56,7 +55,7 @@ nothing_against w event none = by (agent_may w event) refl (has_message w event)
     by false may q there = let same : Some (NotNow (agent_of event)) ≡ None = rw may at none in absurd
         (let impossible : ⊥ = cc in impossible)
 
-module _ (value : AgentTask → Numbers → Numbers → Option ℕ)
+module _ (value : Values)
     (ms ms' : List AgentMachine) (mail mail' : Mail) (log log' : List Entry) (event : Event)
     (failed : Bool)
     (works : failed ≡ false)

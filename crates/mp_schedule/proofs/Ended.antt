@@ -1,15 +1,10 @@
 -- How agent 1 has ended, once a run is over.
-use Rattle.std.proofs.Common.{◌≡◌, ℕ, ◌≤◌, Bool, true, false, List, [], ◌∷◌, length, map, Option, Some, None}
+use Rattle.std.proofs.Common.{◌≡◌, ℕ, Bool, true, false, List, [], ◌∷◌, length, map, Option, Some, None}
 use Rattle.std.proofs.Common.{refl, sym, ap, subst, ◌∙◌, inl, inr}
-use Rattle.std.specs.Prelude.{◌⊎◌, All, IfSome, not, slice_get}
+use Rattle.std.specs.Prelude.{◌⊎◌, IfSome, not, slice_get}
 use Rattle.std.specs.List.{list_all}
 use Rattle.std.proofs.lemmas.Bool.{and_parts, false≢true}
-use Rattle.std.proofs.lemmas.List.Elements.{All-contains}
 use Rattle.std.proofs.lemmas.Option.{none-some, same_Some}
-use Rattle.mp_sets.specs.Numbers.{Numbers}
-use Rattle.mp_task.specs.Agree.{Agree}
-use Rattle.mp_task.specs.AgentTask.{AgentTask}
-use Rattle.mp_task.specs.Limits.{IsWithinLimits}
 use Rattle.mp_task.specs.Plan.{TaskStep}
 use Rattle.mp_messages.specs.declared.history.Event.{Event}
 use Rattle.mp_messages.specs.declared.message.EndKind.{EndKind}
@@ -20,10 +15,13 @@ use Rattle.mp_machine.specs.AgentRecord.{AgentRecord, given_verdict, is_going}
 use Rattle.mp_machine.specs.Machine.{AgentMachine}
 use Rattle.mp_machine.specs.Taking.{ending_of}
 use Rattle.mp_world.specs.Events.{run}
+use Rattle.mp_world.specs.IsRun.{IsRun}
+use Rattle.mp_world.specs.Team.{Team, team_with}
+use Rattle.mp_world.specs.Values.{Values}
 use Rattle.mp_world.specs.World.{World, agent_at}
 use Rattle.mp_world.proofs.Agents.{agree_numbered, member_of}
 use Rattle.mp_world.proofs.Runs.{run_of_team}
-use Rattle.mp_team_snapshots.proofs.Agreeing.{agreeing_team}
+use Rattle.mp_team_snapshots.proofs.Agreeing.{are_of_team}
 use Rattle.mp_team_verdicts.specs.Ending.{EndsWith, EndsWithout, HasShare, IsAt, Stage, end_by}
 use Rattle.mp_team_verdicts.specs.Ending.Stage.{over, picking, searching, walking, without_plan}
 use Rattle.mp_team_verdicts.proofs.InRuns.{ends_so_far}
@@ -77,28 +75,25 @@ module _ (publics : ℕ) (w : World) (first : AgentRecord) (there : agent_at w 1
         let p = at.verdict.proved in
         with_plan p.agent p.cost plan (sym (same_verdict at.first at.there) ∙ p.verdict) (at.agents 1 first there)
 
-ends_in_run : (value : AgentTask → Numbers → Numbers → Option ℕ) (limit : ℕ) (tasks : List AgentTask)
-    → Agree tasks → All IsWithinLimits tasks → limit ≤ 10000000
-    → (schedule : List Event) (w : World) → run value limit tasks schedule ≡ Some w
+ends_in_run : (team : Team) (schedule : List Event) (w : World) → IsRun team schedule w
     → (first : AgentRecord) → agent_at w 1 ≡ Some first → is_going first.ending ≡ false
     → EndsBy (given_verdict first) first.ending
-ends_in_run value limit tasks agree within few schedule w ran first there ended =
-    let is_team = run_of_team value limit tasks schedule w ran in
-    let member = (member_of tasks (agree_numbered tasks agree) w is_team 1 first there).task in
-    let limits = All-contains IsWithinLimits tasks first.task within member in
-    let team = agreeing_team tasks first.task agree member limits in
-    let ends = ends_so_far value limit first.task.publics tasks agree within few team schedule w ran in
+ends_in_run team schedule w run first there ended =
+    let of_world = run_of_team team schedule w run.leads in
+    let member = (member_of team.tasks (agree_numbered team.tasks run.is_team.tasks.agree) w of_world 1 first there).task in
+    let of_team = are_of_team team.tasks first.task run.is_team.tasks member in
+    let ends = ends_so_far team run.is_team first.task.publics of_team schedule w run.leads in
     by_stage first.task.publics w first there ended ends.stage ends.is
 
 -- where all machines of a run have ended, agent 1 has ended by its verdict
-pub first_ends : (value : AgentTask → Numbers → Numbers → Option ℕ) (ms : List AgentMachine) → AreOfRun value ms
+pub first_ends : (value : Values) (ms : List AgentMachine) → AreOfRun value ms
     → list_all (λ r. not (is_going r.ending)) (map (λ m. m.done) ms) ≡ true
     → IfSome (slice_get ms 0) (λ m. EndsBy (given_verdict m.done) m.done.ending)
 first_ends value [] is ended = tt
 first_ends value (m ∷ ms) is ended =
     let others = list_all (λ r. not (is_going r.ending)) (map (λ m. m.done) ms) in
     let parts = and_parts (not (is_going m.done.ending)) others ended in
-    ends_in_run value is.limit is.tasks is.agree is.within is.few_entries is.schedule is.last is.leads m.done
+    ends_in_run (team_with value is.limit is.tasks) is.schedule is.last is.run m.done
     (ap (λ rs. slice_get rs 0) is.agents) (flipped (is_going m.done.ending) parts.0)
   where
     flipped : (b : Bool) → not b ≡ true → b ≡ false

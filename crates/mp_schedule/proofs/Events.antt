@@ -1,13 +1,11 @@
 -- What an event makes of a world: its message is taken, its agent takes the step, and messages go out.
-use Rattle.std.proofs.Common.{◌≡◌, ℕ, ◌+◌, ◌-◌, true, List, [], map, Option}
+use Rattle.std.proofs.Common.{◌≡◌, ◌+◌, ◌-◌, true, List, [], map, Option}
 use Rattle.std.proofs.Common.{Some, None, refl, sym, ap, ◌∙◌}
 use Rattle.std.specs.Prelude.{Result, Ok, Err, if◌then◌else◌, slice_get, slice_set}
 use Rattle.std.specs.List.{fold}
 use Rattle.std.specs.Option.{option_and_then, option_map_or}
 use Rattle.std.proofs.lemmas.Bool.{and_parts}
 use Rattle.std.proofs.lemmas.List.{map-set}
-use Rattle.mp_sets.specs.Numbers.{Numbers}
-use Rattle.mp_task.specs.AgentTask.{AgentTask}
 use Rattle.mp_messages.specs.declared.history.Event.{Event}
 use Rattle.mp_machine.specs.declared.outgoing.Out.{Out}
 use Rattle.mp_machine.specs.declared.refusal.BadKind.{BadKind}
@@ -19,12 +17,13 @@ use Rattle.mp_machine.specs.Outgoing.{Step}
 use Rattle.mp_world.specs.Events.{after_event, agent_may, agent_of, has_message, if_good, is_legal}
 use Rattle.mp_world.specs.Events.{local_of, local_step, sent_in, taken, with_sent, without_taken}
 use Rattle.mp_world.specs.Logs.{entries_if_good, entries_of, log_after}
+use Rattle.mp_world.specs.Values.{Values}
 use Rattle.mp_world.specs.World.{World, agent_at, with_agent}
 use Rattle.mp_schedule.specs.Machines.{world_of}
 use Rattle.mp_schedule.specs.UnderWay.{Mail, world_with}
 use Rattle.mp_schedule.proofs.Places.{agent_there, may_is}
 
-module _ (value : AgentTask → Numbers → Numbers → Option ℕ) (ms : List AgentMachine) (mail : Mail) (event : Event) where
+module _ (value : Values) (ms : List AgentMachine) (mail : Mail) (event : Event) where
   abbrev world : World
   world = world_of ms mail
 

@@ -1,13 +1,13 @@
 -- Where an agent takes a message of another one, fewer are under way between them.
-use Rattle.std.proofs.Common.{◌≡◌, ◌≢◌, ℕ, ◌<◌, Bool, true, false, List, [], ◌∷◌, ◌++◌, length, drop, Option, Some}
+use Rattle.std.proofs.Common.{◌≡◌, ◌≢◌, ℕ, ◌<◌, Bool, true, false, List, [], ◌∷◌, ◌++◌, length, drop, Some}
 use Rattle.std.proofs.Common.{refl, ap, ◌∙◌, append-nil, arith, length-drop}
 use Rattle.std.specs.Prelude.{◌==◌, if◌then◌else◌, not}
 use Rattle.std.proofs.lemmas.Bool.{eqb-true}
-use Rattle.mp_sets.specs.Numbers.{Numbers}
 use Rattle.mp_task.specs.AgentTask.{AgentTask}
 use Rattle.mp_messages.specs.declared.history.Event.TheVariants.{Take}
 use Rattle.mp_world.specs.Events.{after_event, sent_in, without_taken}
 use Rattle.mp_world.specs.Steps.{sent_to}
+use Rattle.mp_world.specs.Values.{Values}
 use Rattle.mp_world.specs.World.{AreNumbered, IsTeamWorld, World, under_way}
 use Rattle.mp_world.proofs.Agents.{sender_of}
 use Rattle.mp_world.proofs.Mail.{agent_of_team, under_way-same}
@@ -17,7 +17,7 @@ not_empty : (xs : List (List ℕ)) → not (length xs == 0) ≡ true → 0 < len
 not_empty [] test = absurd (let impossible : ⊥ = cc in impossible)
 not_empty (x ∷ xs) test = omega arith
 
-pub fewer : (value : AgentTask → Numbers → Numbers → Option ℕ) (tasks : List AgentTask) → AreNumbered tasks
+pub fewer : (value : Values) (tasks : List AgentTask) → AreNumbered tasks
     → (w : World) → IsTeamWorld tasks w → (by from : ℕ) (next : World)
     → after_event value w (Take by from) ≡ Some next
     → length (under_way next from by) < length (under_way w from by)

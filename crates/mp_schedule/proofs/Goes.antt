@@ -1,38 +1,34 @@
 -- The run of a team goes on by one event.
-use Rattle.std.proofs.Common.{◌≡◌, ℕ, List, [], ◌∷◌, ◌++◌, length, Option, Some, None, refl, sym, ap, subst, ◌∙◌}
+use Rattle.std.proofs.Common.{◌≡◌, List, [], ◌∷◌, ◌++◌, length, Option, Some, None, refl, sym, ap, subst, ◌∙◌}
 use Rattle.std.proofs.Common.{append_assoc, append-nil, ◌≤◌}
-use Rattle.std.specs.Prelude.{All}
 use Rattle.std.specs.Option.{option_and_then, option_map_or}
 use Rattle.std.proofs.lemmas.List.Elements.{filter_map-append}
 use Rattle.std.proofs.lemmas.Option.{same_Some}
 use Rattle.mp_runs.specs.Run.{run as run_of}
 use Rattle.mp_runs.proofs.Runs.{run-more, run-none, run_parts}
-use Rattle.mp_sets.specs.Numbers.{Numbers}
-use Rattle.mp_task.specs.Agree.{Agree}
-use Rattle.mp_task.specs.AgentTask.{AgentTask}
-use Rattle.mp_task.specs.Limits.{IsWithinLimits}
 use Rattle.mp_messages.specs.declared.history.Event.{Event}
 use Rattle.mp_messages.specs.declared.history.Entry.{Entry}
 use Rattle.mp_messages.specs.History.{event_of, schedule as schedule_of}
 use Rattle.mp_world.specs.Events.{after_event, local_step, sent_in, taken}
 use Rattle.mp_world.specs.Logs.{entries_if_good, entries_of, log_after, log_from}
+use Rattle.mp_world.specs.Team.{AreTeamTasks, most_expansions, team_with}
+use Rattle.mp_world.specs.Values.{Values}
 use Rattle.mp_world.specs.World.{World, start_world}
 use Rattle.mp_world.proofs.Entries.{entries_schedule}
 use Rattle.mp_world.proofs.Stepping.{stepped}
 use Rattle.mp_schedule.specs.Happening.{HasHappened}
-use Rattle.mp_schedule.specs.TeamRun.{IsRun, IsSameTeam, IsTeam, TeamRun}
+use Rattle.mp_schedule.specs.TeamRun.{IsLogged, IsSameTeam, MayRun, TeamRun, team_in}
 
 -- what is so of a team is so of the same team
-pub team_again : (old new : TeamRun) → IsSameTeam old new → IsTeam old → IsTeam new
+pub team_again : (old new : TeamRun) → IsSameTeam old new → MayRun old → MayRun new
 team_again old new same is = record {
-  agree = subst Agree (sym same.tasks) is.agree;
-  within = subst (All IsWithinLimits) (sym same.tasks) is.within;
-  few_entries = subst (λ n. n ≤ 10000000) (sym same.limit) is.few_entries;
+  tasks = subst AreTeamTasks (sym same.tasks) is.tasks;
+  most = subst (λ n. n ≤ most_expansions) (sym same.limit) is.most;
   from_1 = subst (λ ts. 1 ≤ length ts) (sym same.tasks) is.from_1;
   at_most = subst (λ ts. length ts ≤ 16) (sym same.tasks) is.at_most;
 }
 
-module _ (value : AgentTask → Numbers → Numbers → Option ℕ) where
+module _ (value : Values) where
   -- the log of a run with one event more
   log_of_one : (w : World) (event : Event) → log_from value w (event ∷ []) ≡ log_after value w event
   unfolding log_from
@@ -79,12 +75,12 @@ module _ (value : AgentTask → Numbers → Numbers → Option ℕ) where
       ∙ ap (λ es. schedule_of log ++ es) (entries_schedule event (taken w event) (sent_in s.step))
 
   -- the run goes on
-  pub run_again : (old new : TeamRun) (event : Event) → IsSameTeam old new → IsRun value old
-      → HasHappened value old event new → IsRun value new
+  pub run_again : (old new : TeamRun) (event : Event) → IsSameTeam old new → IsLogged value old
+      → HasHappened value old event new → IsLogged value new
   run_again old new event same is happened =
-      let first : World = start_world value old.limit old.tasks in
-      let start : start_world value new.limit new.tasks ≡ first = λ i. start_world value (same.limit i)
-      (same.tasks i) in
+      let first : World = start_world (team_in value old) in
+      let start : start_world (team_in value new) ≡ first = λ i. start_world (team_with value (same.limit i)
+      (same.tasks i)) in
       record {
         leads =
             (λ i. run_of (after_event value) (start i) (happened.appended i))

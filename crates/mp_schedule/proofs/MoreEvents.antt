@@ -1,20 +1,19 @@
 -- A round of a team that is not over is more events, and a log in memory has room for few.
-use Rattle.std.proofs.Common.{◌≡◌, ◌≢◌, ℕ, ◌+◌, ◌-◌, ◌≤◌, ◌<◌, ◌^◌, List, [], ◌∷◌, length, Option, Some, None}
+use Rattle.std.proofs.Common.{◌≡◌, ◌≢◌, ◌+◌, ◌-◌, ◌≤◌, ◌<◌, ◌^◌, List, [], ◌∷◌, length, Option, Some, None}
 use Rattle.std.proofs.Common.{refl, ap, ◌∙◌, arith}
 use Rattle.std.specs.List.{cons_option, filter_map}
 use Rattle.std.proofs.lemmas.List.{length-append}
-use Rattle.mp_sets.specs.Numbers.{Numbers}
-use Rattle.mp_task.specs.AgentTask.{AgentTask}
 use Rattle.mp_messages.specs.declared.history.Entry.{Entry}
 use Rattle.mp_messages.specs.declared.history.Event.{Event}
 use Rattle.mp_messages.specs.History.{event_of, schedule as schedule_of}
 use Rattle.mp_machine.specs.AgentRecord.{AgentRecord}
 use Rattle.mp_world.specs.RoundRobin.{Round}
+use Rattle.mp_world.specs.Values.{Values}
 use Rattle.mp_world.specs.World.{agent_at}
 use Rattle.mp_world.proofs.Agents.{agent_there}
 use Rattle.mp_world.proofs.Runs.{run_of_team}
 use Rattle.mp_world.proofs.Stepping.{team_size}
-use Rattle.mp_schedule.specs.TeamRun.{HasDone, IsRun, IsTeam, TeamRun}
+use Rattle.mp_schedule.specs.TeamRun.{HasDone, IsLogged, MayRun, TeamRun, team_in}
 
 -- what is made of some items is no more than these are
 made_of_some : {X Y : Type 0} (h : X → Option Y) (xs : List X) → length (filter_map h xs) ≤ length xs
@@ -36,14 +35,14 @@ pub few_events : (log : List Entry) → length log < 2 ^ 58 → length (schedule
 few_events log few = let fewer = made_of_some event_of log in omega arith
 
 -- there is an agent 1
-pub first_there : (value : AgentTask → Numbers → Numbers → Option ℕ) (r : TeamRun) → IsTeam r → IsRun value r
+pub first_there : (value : Values) (r : TeamRun) → MayRun r → IsLogged value r
     → (first : AgentRecord) × (agent_at r.world 1 ≡ Some first)
 first_there value r team is =
-    let size = team_size r.tasks r.world (run_of_team value r.limit r.tasks r.schedule r.world is.leads) in
+    let size = team_size r.tasks r.world (run_of_team (team_in value r) r.schedule r.world is.leads) in
     let some = team.from_1 in
     agent_there r.world 1 (record { from_1 = omega arith; at_most = omega arith })
 
-module _ (value : AgentTask → Numbers → Numbers → Option ℕ) (r s : TeamRun) (team : IsTeam r) (is : IsRun value r)
+module _ (value : Values) (r s : TeamRun) (team : MayRun r) (is : IsLogged value r)
     (few : length r.schedule < 2 ^ 58) (done : HasDone (Round value (length r.tasks)) r s)
   where
     more : (events : List Event) → events ≢ [] → length s.schedule ≡ length r.schedule + length events

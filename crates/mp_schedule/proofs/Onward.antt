@@ -1,10 +1,8 @@
 -- Parts of a schedule, one after another.
-use Rattle.std.proofs.Common.{◌≡◌, ◌≢◌, ℕ, zero, suc, ◌+◌, Bool, true, false, List, [], ◌∷◌, ◌++◌, Option}
+use Rattle.std.proofs.Common.{◌≡◌, ◌≢◌, ℕ, zero, suc, ◌+◌, Bool, true, false, List, [], ◌∷◌, ◌++◌}
 use Rattle.std.proofs.Common.{refl, sym, ap, subst, ◌∙◌, append-nil, append_assoc, arith}
 use Rattle.std.specs.Prelude.{Result, Ok, Err}
 use Rattle.std.specs.List.{range_with_len}
-use Rattle.mp_sets.specs.Numbers.{Numbers}
-use Rattle.mp_task.specs.AgentTask.{AgentTask}
 use Rattle.mp_messages.specs.declared.history.Event.{Event}
 use Rattle.mp_messages.specs.declared.history.Event.TheVariants.{Start}
 use Rattle.mp_world.specs.Events.{is_legal}
@@ -14,13 +12,14 @@ use Rattle.mp_world.specs.RoundRobin.AsLongAsItMay.{no_more, once_more}
 use Rattle.mp_world.specs.RoundRobin.IfItMay.{not_now, now}
 use Rattle.mp_world.specs.RoundRobin.Rounds.{over, round}
 use Rattle.mp_world.specs.RoundRobin.StartsIfFirst.{first, another}
+use Rattle.mp_world.specs.Values.{Values}
 use Rattle.mp_world.specs.World.{World}
 use Rattle.mp_world.proofs.Runs.{run_of_team}
 use Rattle.mp_schedule.specs.declared.refusal.EventRefusal.{EventRefusal}
 use Rattle.mp_schedule.specs.declared.refusal.EventRefusal.TheVariants.{OutOfMemory}
 use Rattle.mp_schedule.specs.Happening.{IsAnswer}
 use Rattle.mp_schedule.specs.GoingOn.{DidHappen, HappensIf, LeadsTo}
-use Rattle.mp_schedule.specs.TeamRun.{HasDone, IsRun, IsSameTeam, TeamRun}
+use Rattle.mp_schedule.specs.TeamRun.{HasDone, IsLogged, IsSameTeam, TeamRun, team_in}
 
 abbrev pub Part : Type 1
 Part = World → List Event → World → Type 0
@@ -131,7 +130,7 @@ leads_done P a b one last = record {
 done_again : (P : Part) (a b c : TeamRun) → c ≡ b → HasDone P a b → HasDone P a c
 done_again P a b c is = subst (HasDone P a) (sym is)
 
-module _ (value : AgentTask → Numbers → Numbers → Option ℕ) where
+module _ (value : Values) where
   -- ---- as long as it may
 
   pub takes_on : (event : Event) (a b c : TeamRun) → LeadsTo (AsLongAsItMay value event) a b
@@ -208,13 +207,13 @@ worked : (failed : Bool) → Worked {A = Unit {0}} (Ok tt) failed → failed ≡
 worked true again = absurd (let same : Ok tt ≡ Err OutOfMemory = again refl in cc)
 worked false again = refl
 
-pub did_happen : (value : AgentTask → Numbers → Numbers → Option ℕ) (a b : TeamRun) (event : Event)
+pub did_happen : (value : Values) (a b : TeamRun) (event : Event)
     → IsAnswer value {A = Unit {0}} a event (Ok tt) b
-    → (a.failed ≡ false → IsRun value a) → DidHappen value a event b
+    → (a.failed ≡ false → IsLogged value a) → DidHappen value a event b
 did_happen value a b event answer runs = record {
   happened = answer.says;
   same = answer.same;
-  team = run_of_team value a.limit a.tasks a.schedule a.world (runs (worked a.failed answer.again)).leads;
+  team = run_of_team (team_in value a) a.schedule a.world (runs (worked a.failed answer.again)).leads;
 }
 
 -- numbers from 1 on, and one more

@@ -1,24 +1,23 @@
 -- New machines make a team at the start.
-use Rattle.std.proofs.Common.{◌≡◌, ◌≤◌, ℕ, false, List, [], ◌∷◌, length, map, replicate, Option, refl}
+use Rattle.std.proofs.Common.{◌≡◌, ◌≤◌, ℕ, false, List, [], ◌∷◌, length, map, replicate, refl}
 use Rattle.std.proofs.Common.{sym, ap, subst, ◌∙◌}
 use Rattle.std.specs.Prelude.{All}
 use Rattle.std.proofs.lemmas.List.{length-map}
 use Rattle.std.proofs.lemmas.List.Elements.{All-head, All-tail, All-weaker}
 use Rattle.mp_runs.proofs.Runs.{run-none}
-use Rattle.mp_sets.specs.Numbers.{Numbers}
-use Rattle.mp_task.specs.AgentTask.{AgentTask}
 use Rattle.mp_messages.specs.declared.history.Entry.{Entry}
 use Rattle.mp_messages.specs.History.{schedule as schedule_of}
 use Rattle.mp_machine.specs.AgentRecord.{new_record}
 use Rattle.mp_machine.specs.Machine.{AgentMachine}
 use Rattle.mp_world.specs.Events.{after_event}
+use Rattle.mp_world.specs.Values.{Values}
 use Rattle.mp_world.specs.World.{start_world}
 use Rattle.mp_schedule.specs.Machines.{AreNew, AreOneRun, IsFree, limit_of, new_machine, tasks_of, team_run}
-use Rattle.mp_schedule.specs.TeamRun.{IsRun, TeamRun, start_run}
+use Rattle.mp_schedule.specs.TeamRun.{IsLogged, TeamRun, start_run, team_in}
 use Rattle.mp_schedule.specs.UnderWay.{Mail}
 use Rattle.mp_schedule.proofs.Goes.{log_of_none}
 
-module _ (value : AgentTask → Numbers → Numbers → Option ℕ) where
+module _ (value : Values) where
   agents_new : (limit : ℕ) (ms : List AgentMachine) → All (λ m. m ≡ new_machine value limit m.done.task) ms
       → map (λ m. m.done) ms ≡ map (λ t. new_record t (value t) limit) (tasks_of ms)
   agents_new limit [] new = refl
@@ -52,18 +51,17 @@ module _ (value : AgentTask → Numbers → Numbers → Option ℕ) where
       pub is_run : AreOneRun value ms mail log false
       is_run = record {
         team = record {
-          agree = new.agree;
-          within = new.within;
-          few_entries = new.few_entries;
+          tasks = new.tasks;
+          most = new.most;
           from_1 = subst (λ n. 1 ≤ n) size new.from_1;
           at_most = subst (λ n. n ≤ 16) size new.at_most;
         };
         going = λ works. record {
           free = All-weaker (λ m. m ≡ new_machine value (limit_of ms) m.done.task) IsFree (λ m is. ap (λ
               (x : AgentMachine). x.stopped) is) ms new.new;
-          run = subst (IsRun value) (sym starts) (record {
-            leads = run-none (after_event value) (start_world value (limit_of ms) (tasks_of ms));
-            logged = sym (log_of_none value (start_world value (limit_of ms) (tasks_of ms)));
+          run = subst (IsLogged value) (sym starts) (record {
+            leads = run-none (after_event value) (start_world (team_in value first));
+            logged = sym (log_of_none value (start_world (team_in value first)));
           });
         };
       }

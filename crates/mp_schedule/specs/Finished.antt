@@ -1,9 +1,6 @@
 -- The machines of a team after a legal schedule.
-use Rattle.std.specs.Prelude.{◌≡◌, ◌≤◌, ℕ, List, map, Option, Some, None, All}
-use Rattle.mp_sets.specs.Numbers.{Numbers}
-use Rattle.mp_task.specs.Agree.{Agree}
+use Rattle.std.specs.Prelude.{◌≡◌, ℕ, List, map, Option, Some, None}
 use Rattle.mp_task.specs.AgentTask.{AgentTask}
-use Rattle.mp_task.specs.Limits.{IsWithinLimits}
 use Rattle.mp_messages.specs.declared.history.Event.{Event}
 use Rattle.mp_snapshot.specs.declared.verdict.Verdict.{Verdict}
 use Rattle.mp_snapshot.specs.declared.verdict.Verdict.TheVariants.{Proved, NoPlan, Spent, Continue}
@@ -11,21 +8,21 @@ use Rattle.mp_machine.specs.declared.event.Ending.{Ending}
 use Rattle.mp_machine.specs.declared.event.Ending.TheVariants as endings
 use Rattle.mp_machine.specs.Machine.{AgentMachine}
 use Rattle.mp_world.specs.Events.{run}
+use Rattle.mp_world.specs.IsRun.{IsRun}
+use Rattle.mp_world.specs.Team.{team_with}
+use Rattle.mp_world.specs.Values.{Values}
 use Rattle.mp_world.specs.World.{World}
 
 -- what they have done is what the agents of a team have done after a legal schedule
 pub record AreOfRun
-    (value : AgentTask → Numbers → Numbers → Option ℕ)
+    (value : Values)
     (machines : List AgentMachine)
     : Type 0 where
   pub limit : ℕ
   pub tasks : List AgentTask
   pub schedule : List Event
   pub last : World
-  pub agree : Agree tasks
-  pub within : All IsWithinLimits tasks
-  pub few_entries : limit ≤ 10000000
-  pub leads : run value limit tasks schedule ≡ Some last
+  pub run : IsRun (team_with value limit tasks) schedule last
   pub agents : last.agents ≡ map (λ m. m.done) machines
 
 -- the ending of agent 1 is the one that its verdict leads to

@@ -1,16 +1,15 @@
 -- Whether an event happened, and parts of a schedule that go on.
-use Rattle.std.specs.Prelude.{◌≡◌, ℕ, Bool, true, false, List, ◌++◌, Option}
-use Rattle.mp_sets.specs.Numbers.{Numbers}
-use Rattle.mp_task.specs.AgentTask.{AgentTask}
+use Rattle.std.specs.Prelude.{◌≡◌, ℕ, Bool, true, false, List, ◌++◌}
 use Rattle.mp_messages.specs.declared.history.Event.{Event}
 use Rattle.mp_messages.specs.declared.history.Event.TheVariants.{Take}
 use Rattle.mp_world.specs.Events.{is_legal}
 use Rattle.mp_world.specs.RoundRobin.{AsLongAsItMay}
+use Rattle.mp_world.specs.Values.{Values}
 use Rattle.mp_world.specs.World.{IsTeamWorld, World}
 use Rattle.mp_schedule.specs.Happening.{HasHappened}
 use Rattle.mp_schedule.specs.TeamRun.{IsSameTeam, TeamRun}
 
-module _ (value : AgentTask → Numbers → Numbers → Option ℕ) where
+module _ (value : Values) where
   pub record DidHappen (old : TeamRun) (event : Event) (new : TeamRun) : Type 0 where
     pub happened : HasHappened value old event new
     pub same : IsSameTeam old new

@@ -1,12 +1,11 @@
 -- What an event of a team leads to, or why it does not happen.
 use Rattle.std.specs.Prelude.{◌≡◌, ◌≢◌, ◌≤◌, ℕ, true, false, [], ◌∷◌, ◌++◌, if◌then◌else◌}
 use Rattle.std.specs.Prelude.{Option, Some, None, IfSome, Result, Ok, Err}
-use Rattle.mp_sets.specs.Numbers.{Numbers}
-use Rattle.mp_task.specs.AgentTask.{AgentTask}
 use Rattle.mp_messages.specs.declared.history.Event.{Event}
 use Rattle.mp_messages.specs.declared.history.Event.TheVariants.{Expand, Take, Start}
 use Rattle.mp_world.specs.Events.{after_event, agent_may, agent_of, has_message}
 use Rattle.mp_world.specs.Logs.{log_after}
+use Rattle.mp_world.specs.Values.{Values}
 use Rattle.mp_world.specs.World.{World}
 use Rattle.mp_schedule.specs.declared.refusal.EventRefusal.{EventRefusal}
 use Rattle.mp_schedule.specs.declared.refusal.EventRefusal.TheVariants.{NotNow, Empty, OutOfMemory}
@@ -31,7 +30,7 @@ refusal_of w event =
     then (if has_message w event then None else missing event)
     else Some (NotNow (agent_of event))
 
-module _ (value : AgentTask → Numbers → Numbers → Option ℕ) where
+module _ (value : Values) where
   -- an event happened: the world and the log are those after it
   pub record HasHappened (old : TeamRun) (event : Event) (new : TeamRun) : Type 0 where
     pub leads : after_event value old.world event ≡ Some new.world

@@ -1,15 +1,14 @@
 -- The machines of a team, and how they make a run.
-use Rattle.std.specs.Prelude.{◌≡◌, ◌≤◌, ℕ, Bool, false, List, [], ◌∷◌, length, map, All, Option, None}
-use Rattle.mp_sets.specs.Numbers.{Numbers}
-use Rattle.mp_task.specs.Agree.{Agree}
+use Rattle.std.specs.Prelude.{◌≡◌, ◌≤◌, ℕ, Bool, false, List, [], ◌∷◌, length, map, All, None}
 use Rattle.mp_task.specs.AgentTask.{AgentTask}
-use Rattle.mp_task.specs.Limits.{IsWithinLimits}
 use Rattle.mp_messages.specs.declared.history.Entry.{Entry}
 use Rattle.mp_messages.specs.History.{schedule as schedule_of}
 use Rattle.mp_machine.specs.AgentRecord.{new_record}
 use Rattle.mp_machine.specs.Machine.{AgentMachine}
+use Rattle.mp_world.specs.Team.{AreTeamTasks, most_expansions}
+use Rattle.mp_world.specs.Values.{Values}
 use Rattle.mp_world.specs.World.{World}
-use Rattle.mp_schedule.specs.TeamRun.{IsRun, IsTeam, TeamRun}
+use Rattle.mp_schedule.specs.TeamRun.{IsLogged, MayRun, TeamRun}
 use Rattle.mp_schedule.specs.UnderWay.{Mail, world_with}
 
 abbrev pub tasks_of : List AgentMachine → List AgentTask
@@ -25,19 +24,14 @@ abbrev pub IsFree : AgentMachine → Type 0
 IsFree m = m.stopped ≡ None
 
 -- a machine that has done nothing yet
-abbrev pub new_machine
-    : (AgentTask → Numbers → Numbers → Option ℕ)
-    → ℕ
-    → AgentTask
-    → AgentMachine
+abbrev pub new_machine : Values → ℕ → AgentTask → AgentMachine
 new_machine value limit t = record { done = new_record t (value t) limit; stopped = None }
 
 -- new machines of a team whose tasks agree and are within the limits, and all of which may expand as many entries
-pub record AreNew (value : AgentTask → Numbers → Numbers → Option ℕ) (machines : List AgentMachine) : Type 0 where
+pub record AreNew (value : Values) (machines : List AgentMachine) : Type 0 where
   pub new : All (λ m. m ≡ new_machine value (limit_of machines) m.done.task) machines
-  pub agree : Agree (tasks_of machines)
-  pub within : All IsWithinLimits (tasks_of machines)
-  pub few_entries : limit_of machines ≤ 10000000
+  pub tasks : AreTeamTasks (tasks_of machines)
+  pub most : limit_of machines ≤ most_expansions
   pub from_1 : 1 ≤ length machines
   pub at_most : length machines ≤ 16
 
@@ -58,20 +52,20 @@ team_run machines mail log failed = record {
 
 -- machines that go on
 pub record IsGoing
-    (value : AgentTask → Numbers → Numbers → Option ℕ)
+    (value : Values)
     (machines : List AgentMachine)
     (mail : Mail)
     (log : List Entry)
     : Type 0 where
   pub free : All IsFree machines
-  pub run : IsRun value (team_run machines mail log false)
+  pub run : IsLogged value (team_run machines mail log false)
 
 pub record AreOneRun
-    (value : AgentTask → Numbers → Numbers → Option ℕ)
+    (value : Values)
     (machines : List AgentMachine)
     (mail : Mail)
     (log : List Entry)
     (failed : Bool)
     : Type 0 where
-  pub team : IsTeam (team_run machines mail log failed)
+  pub team : MayRun (team_run machines mail log failed)
   pub going : failed ≡ false → IsGoing value machines mail log

@@ -1,8 +1,6 @@
 -- An event of a team, part by part.
-use Rattle.std.specs.Prelude.{◌≡◌, ◌≤◌, ◌-◌, ℕ, List, ◌++◌, All, Option, Some, None, slice_get, slice_set}
+use Rattle.std.specs.Prelude.{◌≡◌, ◌≤◌, ◌-◌, ℕ, List, ◌++◌, All, Some, None, slice_get, slice_set}
 use Rattle.std.specs.Prelude.{Result, Ok, Err}
-use Rattle.mp_sets.specs.Numbers.{Numbers}
-use Rattle.mp_task.specs.AgentTask.{AgentTask}
 use Rattle.mp_messages.specs.declared.history.Entry.{Entry}
 use Rattle.mp_messages.specs.declared.history.Event.{Event}
 use Rattle.mp_machine.specs.declared.outgoing.Out.{Out}
@@ -11,13 +9,14 @@ use Rattle.mp_machine.specs.declared.refusal.StepRefusal.TheVariants.{NotNow, Ba
 use Rattle.mp_machine.specs.Machine.{AgentMachine, IsStep}
 use Rattle.mp_world.specs.Events.{after_event, agent_of, local_of}
 use Rattle.mp_world.specs.Logs.{log_after}
+use Rattle.mp_world.specs.Values.{Values}
 use Rattle.mp_world.specs.World.{World}
 use Rattle.mp_schedule.specs.Machines.{IsFree, world_of}
 use Rattle.mp_schedule.specs.UnderWay.{Mail}
 
 -- the machine of an event's agent took the step, and no other machine changed
 pub record HasStepped
-    (value : AgentTask → Numbers → Numbers → Option ℕ)
+    (value : Values)
     (old : List AgentMachine)
     (event : Event)
     (bytes : List ℕ)
@@ -40,7 +39,7 @@ pub record Parts : Type 0 where
 abbrev pub world_in : Parts → World
 world_in p = world_of p.machines p.mail
 
-module _ (value : AgentTask → Numbers → Numbers → Option ℕ) where
+module _ (value : Values) where
   -- the parts after an event
   pub record AreAfter (old : Parts) (event : Event) (new : Parts) : Type 0 where
     pub leads : after_event value (world_in old) event ≡ Some (world_in new)

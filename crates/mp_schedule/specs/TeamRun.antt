@@ -1,13 +1,12 @@
 -- A team that runs, as contracts see it: what has happened, and what it has led to.
-use Rattle.std.specs.Prelude.{◌≡◌, ◌≤◌, ℕ, Bool, false, List, [], ◌++◌, length, Option, Some, All}
-use Rattle.mp_sets.specs.Numbers.{Numbers}
-use Rattle.mp_task.specs.Agree.{Agree}
+use Rattle.std.specs.Prelude.{◌≡◌, ◌≤◌, ℕ, Bool, false, List, [], ◌++◌, length, Some}
 use Rattle.mp_task.specs.AgentTask.{AgentTask}
-use Rattle.mp_task.specs.Limits.{IsWithinLimits}
 use Rattle.mp_messages.specs.declared.history.Entry.{Entry}
 use Rattle.mp_messages.specs.declared.history.Event.{Event}
 use Rattle.mp_world.specs.Events.{run}
 use Rattle.mp_world.specs.Logs.{log_of_run}
+use Rattle.mp_world.specs.Team.{AreTeamTasks, Team, most_expansions, team_with}
+use Rattle.mp_world.specs.Values.{Values}
 use Rattle.mp_world.specs.World.{World, start_world}
 
 pub record TeamRun : Type 0 where
@@ -24,16 +23,19 @@ pub record TeamRun : Type 0 where
   -- memory ran out, and nothing is known of schedule, world and log
   pub failed : Bool
 
--- the world is the one that the schedule leads to, and the log is that of its run
-pub record IsRun (value : AgentTask → Numbers → Numbers → Option ℕ) (r : TeamRun) : Type 0 where
-  pub leads : run value r.limit r.tasks r.schedule ≡ Some r.world
-  pub logged : r.log ≡ log_of_run value r.limit r.tasks r.schedule
+-- its team, where the heuristic has such values
+abbrev pub team_in : Values → TeamRun → Team
+team_in value r = team_with value r.limit r.tasks
 
--- a team that may run: its tasks agree and are within the limits
-pub record IsTeam (r : TeamRun) : Type 0 where
-  pub agree : Agree r.tasks
-  pub within : All IsWithinLimits r.tasks
-  pub few_entries : r.limit ≤ 10000000
+-- the world is the one that the schedule leads to, and the log is that of its run
+pub record IsLogged (value : Values) (r : TeamRun) : Type 0 where
+  pub leads : run (team_in value r) r.schedule ≡ Some r.world
+  pub logged : r.log ≡ log_of_run (team_in value r) r.schedule
+
+-- a team that may run, of 1 to 16 agents
+pub record MayRun (r : TeamRun) : Type 0 where
+  pub tasks : AreTeamTasks r.tasks
+  pub most : r.limit ≤ most_expansions
   pub from_1 : 1 ≤ length r.tasks
   pub at_most : length r.tasks ≤ 16
 
@@ -43,16 +45,12 @@ pub record IsSameTeam (old new : TeamRun) : Type 0 where
   pub limit : new.limit ≡ old.limit
 
 -- a team at the start
-abbrev pub start_run
-    : (AgentTask → Numbers → Numbers → Option ℕ)
-    → ℕ
-    → List AgentTask
-    → TeamRun
+abbrev pub start_run : Values → ℕ → List AgentTask → TeamRun
 start_run value limit tasks = record {
   tasks = tasks;
   limit = limit;
   schedule = [];
-  world = start_world value limit tasks;
+  world = start_world (team_with value limit tasks);
   log = [];
   failed = false;
 }

@@ -3,7 +3,7 @@
 ghost use Rattle.std.specs.Prelude.{◌≡◌, ℕ, Some};
 ghost use Rattle.mp_messages.specs.declared.history.Event.TheVariants.{Expand};
 ghost use Rattle.mp_schedule.specs.Laws.{KeepsLaws};
-ghost use Rattle.mp_schedule.specs.TeamRun.{IsRun, IsTeam, TeamRun};
+ghost use Rattle.mp_schedule.specs.TeamRun.{IsLogged, MayRun, TeamRun};
 ghost use Rattle.mp_team_states.specs.Expansions.{ExpandsOne};
 ghost use Rattle.mp_world.specs.Events.{after_event};
 ghost use Rattle.mp_world.specs.World.{World};
@@ -19,8 +19,8 @@ use mp_world::runs_have_logs;
 
 /// Each run of a team keeps the laws of runs, and an expansion in it is not wasted.
 pub(crate) fn runs_keep_laws<H: Heuristic>()
-    ensures laws { (r : TeamRun) → IsTeam r → IsRun H.value r → KeepsLaws H.value r }
-    ensures one { (r : TeamRun) (agent : ℕ) (next : World) → IsTeam r → IsRun H.value r
+    ensures laws { (r : TeamRun) → MayRun r → IsLogged H.value r → KeepsLaws H.value r }
+    ensures one { (r : TeamRun) (agent : ℕ) (next : World) → MayRun r → IsLogged H.value r
         → after_event H.value r.world (Expand agent) ≡ Some next → ExpandsOne r.world agent next }
 {
     runs_have_logs();

@@ -6,7 +6,7 @@ ghost use Rattle.mp_machine.specs.Outgoing.{others};
 ghost use Rattle.mp_schedule.specs.GoingOn.{HappensIf, TakesAll};
 ghost use Rattle.mp_schedule.specs.Happening.{IsOfTeam};
 ghost use Rattle.mp_schedule.specs.Laws.{KeepsLaws};
-ghost use Rattle.mp_schedule.specs.TeamRun.{HasDone, IsRun};
+ghost use Rattle.mp_schedule.specs.TeamRun.{HasDone, IsLogged};
 ghost use Rattle.mp_search.specs.Concern.{one_if};
 ghost use Rattle.mp_team_verdicts.specs.Going.{TakesFewRounds};
 ghost use Rattle.mp_world.specs.RoundRobin.{ForEach, IfItMay, IsRoundRobin, Round, Rounds, StartsIfFirst, Then, Turn};
@@ -169,7 +169,7 @@ impl<H: Heuristic> World<H> {
     /// What has happened has led to where it is.
     fn has_run(&self)
         requires works { self.now.failed ≡ false }
-        ensures { IsRun H.value self.now }
+        ensures { IsLogged H.value self.now }
     {
         self.comes_from_a_run();
     }

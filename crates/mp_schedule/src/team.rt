@@ -7,7 +7,7 @@ ghost use Rattle.mp_messages.specs.declared.history.Event.TheVariants as events;
 ghost use Rattle.mp_schedule.specs.Happening.{IsAnswer, IsOfTeam};
 ghost use Rattle.mp_schedule.specs.Laws.{KeepsLaws};
 ghost use Rattle.mp_schedule.specs.Machines.{AreNew, IsFree, limit_of, tasks_of};
-ghost use Rattle.mp_schedule.specs.TeamRun.{IsRun, IsTeam, start_run};
+ghost use Rattle.mp_schedule.specs.TeamRun.{IsLogged, MayRun, start_run};
 ghost use Rattle.mp_team_states.specs.Expansions.{ExpandsOne};
 ghost use Rattle.mp_world.specs.RoundRobin.{is_over};
 
@@ -190,8 +190,8 @@ impl<H: Heuristic> World<H> {
     /// The tasks agree and are within the limits. Unless memory ran out, the world is the one that the schedule leads
     /// to, and the log is that of its run.
     pub fn comes_from_a_run(&self)
-        ensures team { IsTeam self.now }
-        ensures run { self.now.failed ≡ false → IsRun H.value self.now }
+        ensures team { MayRun self.now }
+        ensures run { self.now.failed ≡ false → IsLogged H.value self.now }
     {
         let _ = &self.log;
     }

@@ -1,11 +1,9 @@
 -- The answer of a team is right for its files.
-use Rattle.std.proofs.Common.{arith, ◌≡◌, ◌≤◌, ℕ, ◌∷◌, List, [], length, All, Option, Some, true, ap, subst, ◌∙◌}
+use Rattle.std.proofs.Common.{arith, ◌≡◌, ◌≤◌, ℕ, ◌∷◌, List, [], length, All, Some, true, ap, subst, ◌∙◌}
 use Rattle.std.specs.Prelude.{Contains}
-use Rattle.mp_sets.specs.Numbers.{Numbers}
 use Rattle.mp_factor.specs.declared.factor.Factor.{Factor}
 use Rattle.mp_joint.specs.declared.plan.PlanStep.{PlanStep}
 use Rattle.mp_list.proofs.Members.{contains_head}
-use Rattle.mp_task.specs.Agree.{Agree}
 use Rattle.mp_task.specs.AgentTask.{AgentTask}
 use Rattle.mp_task.specs.Limits.{IsWithinLimits}
 use Rattle.mp_messages.specs.declared.history.Entry.{Entry}
@@ -13,6 +11,8 @@ use Rattle.mp_messages.specs.declared.history.Event.{Event}
 use Rattle.mp_world.specs.Answers.{answer_of, outcome_of}
 use Rattle.mp_world.specs.Events.{run}
 use Rattle.mp_world.specs.RoundRobin.{is_over}
+use Rattle.mp_world.specs.Team.{AreTeamTasks, most_expansions, team_with}
+use Rattle.mp_world.specs.Values.{Values}
 use Rattle.mp_world.specs.World.{World}
 use Rattle.mp_world.specs.declared.answer.Answer.TheVariants.{Undecided}
 use Rattle.mp_world.proofs.Runs.{run_of_team}
@@ -37,10 +37,10 @@ some_task : (tasks : List AgentTask) → 1 ≤ length tasks → (t : AgentTask) 
 some_task [] some = absurd (omega (arith, some))
 some_task (t ∷ ts) some = (t, contains_head t ts)
 
-pub answer_for_files : (value : AgentTask → Numbers → Numbers → Option ℕ) (limit : ℕ) (team : List Factor) (t : Tasks)
-    → All IsChecked team → 1 ≤ length team → AreTasksOf team t → All IsWithinLimits t.tasks → limit ≤ 10000000
-    → (Agree t.tasks → IsHeuristic value t.tasks)
-    → (schedule : List Event) (last : World) → run value limit t.tasks schedule ≡ Some last → is_over last ≡ true
+pub answer_for_files : (value : Values) (limit : ℕ) (team : List Factor) (t : Tasks)
+    → All IsChecked team → 1 ≤ length team → AreTasksOf team t → All IsWithinLimits t.tasks → limit ≤ most_expansions
+    → (AreTeamTasks t.tasks → IsHeuristic value t.tasks)
+    → (schedule : List Event) (last : World) → run (team_with value limit t.tasks) schedule ≡ Some last → is_over last ≡ true
     → (plan : List PlanStep)
     × IsRight limit team last (answer_of last) plan
     × ((log : List Entry) → outcome_text (outcome_of last) (names_of team t.steps) log ≡ answer_text (length team) (answer_of last) plan log)
@@ -50,8 +50,9 @@ answer_for_files value limit team t all some are limits most heuristic schedule 
     let stands = found.2 in
     let one_each = stands.one_each in
     let member = some_task t.tasks (omega (arith, one_each, some)) in
-    let right = answer_right value limit t.tasks stands.agree limits most (heuristic stands.agree) member.0 member.1 schedule last ran finished in
-    let size : length last.agents ≡ length team = team_size t.tasks last (run_of_team value limit t.tasks schedule last ran) ∙ one_each in
+    let agreeing : AreTeamTasks t.tasks = record { agree = stands.agree; within = limits } in
+    let right = answer_right (team_with value limit t.tasks) (record { tasks = agreeing; most = most }) (heuristic agreeing) member.0 member.1 schedule last ran finished in
+    let size : length last.agents ≡ length team = team_size t.tasks last (run_of_team (team_with value limit t.tasks) schedule last ran) ∙ one_each in
     right_for_files value limit team t.tasks schedule last numbering stands (names_of team t.steps)
     (λ numbers plan shares named.
     texts_agree (names_of team t.steps) numbers plan numbering last shares named
@@ -61,10 +62,10 @@ answer_for_files value limit team t all some are limits most heuristic schedule 
     (answer_of last) right
 
 -- where it is that nothing is decided, the search is left undecided
-pub left_undecided : (value : AgentTask → Numbers → Numbers → Option ℕ) (limit : ℕ) (team : List Factor) (t : Tasks)
-    → All IsChecked team → 1 ≤ length team → AreTasksOf team t → All IsWithinLimits t.tasks → limit ≤ 10000000
-    → (Agree t.tasks → IsHeuristic value t.tasks)
-    → (schedule : List Event) (last : World) → run value limit t.tasks schedule ≡ Some last → is_over last ≡ true
+pub left_undecided : (value : Values) (limit : ℕ) (team : List Factor) (t : Tasks)
+    → All IsChecked team → 1 ≤ length team → AreTasksOf team t → All IsWithinLimits t.tasks → limit ≤ most_expansions
+    → (AreTeamTasks t.tasks → IsHeuristic value t.tasks)
+    → (schedule : List Event) (last : World) → run (team_with value limit t.tasks) schedule ≡ Some last → is_over last ≡ true
     → answer_of last ≡ Undecided
     → IsLeftUndecided value limit team t.tasks schedule last
 left_undecided value limit team t all some are limits most heuristic schedule last ran finished undecided =
@@ -72,6 +73,7 @@ left_undecided value limit team t all some are limits most heuristic schedule la
     let stands = found.2 in
     let one_each = stands.one_each in
     let member = some_task t.tasks (omega (arith, one_each, some)) in
-    let right = answer_right value limit t.tasks stands.agree limits most (heuristic stands.agree) member.0 member.1 schedule last ran finished in
+    let agreeing : AreTeamTasks t.tasks = record { agree = stands.agree; within = limits } in
+    let right = answer_right (team_with value limit t.tasks) (record { tasks = agreeing; most = most }) (heuristic agreeing) member.0 member.1 schedule last ran finished in
     left_for_files value limit team t.tasks schedule last found.0 stands (names_of team t.steps)
-    (subst (IsRightAnswer value limit t.tasks schedule last) undecided right)
+    (subst (IsRightAnswer (team_with value limit t.tasks) schedule last) undecided right)

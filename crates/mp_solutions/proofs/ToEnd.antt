@@ -1,20 +1,20 @@
 -- What was found by round robin was found by a schedule at the end of which all agents had ended.
-use Rattle.std.proofs.Common.{ℕ, Bool, true, false, List, Option}
+use Rattle.std.proofs.Common.{ℕ, Bool, true, false, List}
 use Rattle.mp_factor.specs.declared.factor.Factor.{Factor}
-use Rattle.mp_sets.specs.Numbers.{Numbers}
-use Rattle.mp_task.specs.AgentTask.{AgentTask}
+use Rattle.mp_world.specs.Team.{team_with}
+use Rattle.mp_world.specs.Values.{Values}
 use Rattle.mp_world.specs.World.{start_world}
 use Rattle.mp_world.proofs.Turns.{round_robin_end}
 use Rattle.mp_solutions.specs.Solution.{IsFoundOn, IsFoundToEnd, IsSolution}
 use Rattle.mp_solutions.specs.declared.solution.Solution.{Solution}
 
-module _ (value : AgentTask → Numbers → Numbers → Option ℕ) (limit : ℕ) (team : List Factor) (found : Solution) where
+module _ (value : Values) (limit : ℕ) (team : List Factor) (found : Solution) where
   in_turn_to_end : IsSolution value limit team found → IsFoundToEnd value limit team found
   in_turn_to_end is = record {
     schedule = is.schedule;
     is_found = is.in_turn.is_found;
     over =
-        round_robin_end value (start_world value limit is.in_turn.is_found.tasks.tasks) is.in_turn.is_found.last is.schedule
+        round_robin_end value (start_world (team_with value limit is.in_turn.is_found.tasks.tasks)) is.in_turn.is_found.last is.schedule
         is.round_robin;
   }
 

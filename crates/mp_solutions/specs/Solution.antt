@@ -1,7 +1,6 @@
 -- What the agents of a team find after a legal schedule, and the text that tells it.
-use Rattle.std.specs.Prelude.{◌≡◌, ◌⊎◌, ℕ, Bool, true, false, List, [], ◌∷◌, ◌++◌, map, length, Option, Some, Ok, Err}
+use Rattle.std.specs.Prelude.{◌≡◌, ◌⊎◌, ℕ, Bool, true, false, List, [], ◌∷◌, ◌++◌, map, length, Some, Ok, Err}
 use Rattle.mp_factor.specs.declared.factor.Factor.{Factor}
-use Rattle.mp_sets.specs.Numbers.{Numbers}
 use Rattle.mp_joint.specs.Fact.{Text}
 use Rattle.mp_joint.specs.declared.plan.PlanStep.{PlanStep}
 use Rattle.mp_task.specs.AgentTask.{AgentTask}
@@ -11,6 +10,8 @@ use Rattle.mp_world.specs.Answers.{answer_of, outcome_of}
 use Rattle.mp_world.specs.Events.{is_legal, run}
 use Rattle.mp_world.specs.Logs.{IsLog, log_of_run}
 use Rattle.mp_world.specs.RoundRobin.{IsRoundRobin, is_over}
+use Rattle.mp_world.specs.Team.{team_with}
+use Rattle.mp_world.specs.Values.{Values}
 use Rattle.mp_world.specs.World.{World, start_world}
 use Rattle.mp_world.specs.declared.answer.Answer.TheVariants.{Nothing}
 use Rattle.mp_outcome.specs.Names.{names_of}
@@ -25,7 +26,7 @@ use Rattle.mp_solutions.specs.Right.{IsRight}
 
 -- the events of these lines lead up to that of the line of this number, which may not happen then
 pub record StopsAt
-    (value : AgentTask → Numbers → Numbers → Option ℕ)
+    (value : Values)
     (limit : ℕ)
     (tasks : List AgentTask)
     (lines : List EventLine)
@@ -36,12 +37,12 @@ pub record StopsAt
   pub later : List EventLine
   pub lines_are : lines ≡ before ++ line ∷ later
   pub last : World
-  pub leads : run value limit tasks (map (λ line. line.event) before) ≡ Some last
+  pub leads : run (team_with value limit tasks) (map (λ line. line.event) before) ≡ Some last
   pub illegal : is_legal last line.event ≡ false
   pub numbered : line.line ≡ number
 
 module _
-    (value : AgentTask → Numbers → Numbers → Option ℕ)
+    (value : Values)
     (limit : ℕ)
     (team : List Factor)
   where
@@ -61,8 +62,8 @@ module _
       pub are_tasks : AreTasksOf team tasks
       pub views : found.views ≡ tasks.views
       pub last : World
-      pub leads : run value limit tasks.tasks schedule ≡ Some last
-      pub is_log : IsLog value limit tasks.tasks found.log
+      pub leads : run (team_with value limit tasks.tasks) schedule ≡ Some last
+      pub is_log : IsLog (team_with value limit tasks.tasks) found.log
       pub logged : schedule_of found.log ≡ schedule
       pub answer : found.answer ≡ answer_of last
       pub told : found.text ≡ outcome_text (outcome_of last) (names_of team tasks.steps) found.log
@@ -73,14 +74,14 @@ module _
     -- message stands directly behind the event that sent it.
     pub record IsFoundInTurn (schedule : List Event) (found : Solution) : Type 0 where
       pub is_found : IsFound schedule found
-      pub logged : found.log ≡ log_of_run value limit is_found.tasks.tasks schedule
+      pub logged : found.log ≡ log_of_run (team_with value limit is_found.tasks.tasks) schedule
 
     -- this was found by round robin, until all agents had ended
     pub record IsSolution (found : Solution) : Type 0 where
       pub schedule : List Event
       pub in_turn : IsFoundInTurn schedule found
       pub round_robin :
-          IsRoundRobin value (start_world value limit in_turn.is_found.tasks.tasks) schedule in_turn.is_found.last
+          IsRoundRobin value (start_world (team_with value limit in_turn.is_found.tasks.tasks)) schedule in_turn.is_found.last
 
     -- this was found by some legal schedule, at the end of which all agents had ended
     pub record IsFoundToEnd (found : Solution) : Type 0 where

@@ -10,6 +10,7 @@ ghost use Rattle.mp_task.specs.Limits.{IsWithinLimits};
 ghost use Rattle.mp_world.specs.Answers.{answer_of, outcome_of};
 ghost use Rattle.mp_world.specs.Events.{run};
 ghost use Rattle.mp_world.specs.RoundRobin.{is_over};
+ghost use Rattle.mp_world.specs.Team.{most_expansions, team_with};
 ghost use Rattle.mp_world.specs.World.{World};
 ghost use Rattle.mp_world.specs.declared.answer.Answer.TheVariants.{Undecided};
 ghost use Rattle.mp_split.specs.Team.{AreTasksOf};
@@ -27,8 +28,8 @@ use mp_task::Heuristic;
 pub fn answers_are_right_for_files<H: Heuristic>()
     ensures { (team : List Factor) (tasks : Tasks) (limit : ℕ) (schedule : List Event) (last : World)
         → All IsChecked team → 1 ≤ length team → AreTasksOf team tasks
-        → All IsWithinLimits tasks.tasks → limit ≤ 10000000
-        → run H.value limit tasks.tasks schedule ≡ Some last → is_over last ≡ true
+        → All IsWithinLimits tasks.tasks → limit ≤ most_expansions
+        → run (team_with H.value limit tasks.tasks) schedule ≡ Some last → is_over last ≡ true
         → (plan : List PlanStep)
         × IsRight limit team last (answer_of last) plan
         × ((log : List Entry) → outcome_text (outcome_of last) (names_of team tasks.steps) log
@@ -42,8 +43,8 @@ pub fn answers_are_right_for_files<H: Heuristic>()
 pub fn searches_are_left_undecided<H: Heuristic>()
     ensures { (team : List Factor) (tasks : Tasks) (limit : ℕ) (schedule : List Event) (last : World)
         → All IsChecked team → 1 ≤ length team → AreTasksOf team tasks
-        → All IsWithinLimits tasks.tasks → limit ≤ 10000000
-        → run H.value limit tasks.tasks schedule ≡ Some last → is_over last ≡ true
+        → All IsWithinLimits tasks.tasks → limit ≤ most_expansions
+        → run (team_with H.value limit tasks.tasks) schedule ≡ Some last → is_over last ≡ true
         → answer_of last ≡ Undecided
         → IsLeftUndecided H.value limit team tasks.tasks schedule last }
 {}

@@ -1,23 +1,22 @@
 -- New machines for the tasks of a team, and their turns until all have ended.
-use Rattle.std.proofs.Common.{◌≡◌, ◌≤◌, ℕ, false, List, [], ◌∷◌, ◌++◌, length, All, Option, refl}
+use Rattle.std.proofs.Common.{◌≡◌, ◌≤◌, ℕ, false, List, [], ◌∷◌, ◌++◌, length, refl}
 use Rattle.std.proofs.Common.{sym, ap, subst, ◌∙◌, arith}
 use Rattle.std.specs.Prelude.{slice_index_or}
 use Rattle.std.proofs.lemmas.List.{length-map}
 use Rattle.std.proofs.lemmas.List.Elements.{All-map}
-use Rattle.mp_sets.specs.Numbers.{Numbers}
-use Rattle.mp_task.specs.Agree.{Agree}
 use Rattle.mp_task.specs.AgentTask.{AgentTask}
-use Rattle.mp_task.specs.Limits.{IsWithinLimits}
 use Rattle.mp_machine.specs.Machine.{AgentMachine}
 use Rattle.mp_messages.specs.declared.history.Event.{Event}
 use Rattle.mp_world.specs.RoundRobin.{IsRoundRobin}
+use Rattle.mp_world.specs.Team.{AreTeamTasks, most_expansions, team_with}
+use Rattle.mp_world.specs.Values.{Values}
 use Rattle.mp_world.specs.World.{start_world}
 use Rattle.mp_schedule.specs.Machines.{AreNew, limit_of, new_machine, tasks_of}
-use Rattle.mp_schedule.specs.TeamRun.{HasDone, IsRun, IsTeam, TeamRun, start_run}
+use Rattle.mp_schedule.specs.TeamRun.{HasDone, IsLogged, MayRun, TeamRun, start_run}
 use Rattle.mp_solve.specs.Ended.{HasDoneAll, HasEnded}
 use Rattle.mp_solve.specs.Machines.{new_machines}
 
-module _ (value : AgentTask → Numbers → Numbers → Option ℕ) (limit : ℕ) where
+module _ (value : Values) (limit : ℕ) where
   pub new_tasks : (ts : List AgentTask) → tasks_of (new_machines value limit ts) ≡ ts
   new_tasks [] = refl
   new_tasks (t ∷ ts) = ap (λ us. t ∷ us) (new_tasks ts)
@@ -30,16 +29,15 @@ module _ (value : AgentTask → Numbers → Numbers → Option ℕ) (limit : ℕ
       (are : ms ≡ new_machines value limit ts)
     where
       -- they may run
-      pub are_new : length ts ≤ 16 → limit ≤ 10000000 → Agree ts → All IsWithinLimits ts → AreNew value ms
-      are_new few few_entries agree within =
+      pub are_new : length ts ≤ 16 → limit ≤ most_expansions → AreTeamTasks ts → AreNew value ms
+      are_new few few_entries team_tasks =
           let made = new_machines value limit ts in
           let size : length made ≡ length ts = length-map ts (new_machine value limit) in
           subst (AreNew value) (sym are) (record {
             new = All-map (λ m. m ≡ new_machine value (limit_of made) m.done.task) (new_machine value limit) ts
                 (λ k d inside. ap (λ n. new_machine value n (slice_index_or ts k d)) (sym (new_limit ts some)));
-            agree = subst Agree (sym (new_tasks ts)) agree;
-            within = subst (All IsWithinLimits) (sym (new_tasks ts)) within;
-            few_entries = subst (λ n. n ≤ 10000000) (sym (new_limit ts some)) few_entries;
+            tasks = subst AreTeamTasks (sym (new_tasks ts)) team_tasks;
+            most = subst (λ n. n ≤ most_expansions) (sym (new_limit ts some)) few_entries;
             from_1 = subst (λ n. 1 ≤ n) (sym size) some;
             at_most = subst (λ n. n ≤ 16) (sym size) few;
           })
@@ -50,9 +48,9 @@ module _ (value : AgentTask → Numbers → Numbers → Option ℕ) (limit : ℕ
           let limits : limit_of ms ≡ limit = ap limit_of are ∙ new_limit ts some in
           start ∙ (λ i. start_run value (limits i) (tasks i))
 
-module _ (value : AgentTask → Numbers → Numbers → Option ℕ) (limit : ℕ) (ts : List AgentTask) where
+module _ (value : Values) (limit : ℕ) (ts : List AgentTask) where
   -- they have done nothing yet
-  pub has_begun : (made : TeamRun) → made ≡ start_run value limit ts → IsTeam made → (made.failed ≡ false → IsRun value made)
+  pub has_begun : (made : TeamRun) → made ≡ start_run value limit ts → MayRun made → (made.failed ≡ false → IsLogged value made)
       → HasDoneAll value limit ts [] made
   has_begun made start team runs =
       let free : made.failed ≡ false = ap (λ (r : TeamRun). r.failed) start in
@@ -66,8 +64,8 @@ module _ (value : AgentTask → Numbers → Numbers → Option ℕ) (limit : ℕ
       }
 
   -- from the start they have taken turns until all have ended
-  pub has_ended : (old new : TeamRun) → old ≡ start_run value limit ts → HasDone (IsRoundRobin value) old new → IsTeam new
-      → (new.failed ≡ false → IsRun value new) → HasEnded value limit ts new
+  pub has_ended : (old new : TeamRun) → old ≡ start_run value limit ts → HasDone (IsRoundRobin value) old new → MayRun new
+      → (new.failed ≡ false → IsLogged value new) → HasEnded value limit ts new
   has_ended old new begun done team runs =
       let free : new.failed ≡ false = done.kept ∙ ap (λ (r : TeamRun). r.failed) begun in
       let events : new.schedule ≡ done.events =
@@ -81,12 +79,12 @@ module _ (value : AgentTask → Numbers → Numbers → Option ℕ) (limit : ℕ
           run = runs free;
           schedule_is = refl;
         };
-        round_robin = subst (λ es. IsRoundRobin value (start_world value limit ts) es new.world) (sym events)
+        round_robin = subst (λ es. IsRoundRobin value (start_world (team_with value limit ts)) es new.world) (sym events)
             (subst (λ w. IsRoundRobin value w done.events new.world) (ap (λ (r : TeamRun). r.world) begun) done.done);
       }
 
 -- by its own tasks, limit and schedule
-pub of_itself : (value : AgentTask → Numbers → Numbers → Option ℕ) (limit : ℕ) (ts : List AgentTask) (schedule : List Event)
+pub of_itself : (value : Values) (limit : ℕ) (ts : List AgentTask) (schedule : List Event)
     (r : TeamRun) → HasDoneAll value limit ts schedule r → HasDoneAll value r.limit r.tasks r.schedule r
 of_itself value limit ts schedule r done =
     record {
@@ -99,7 +97,7 @@ of_itself value limit ts schedule r done =
     }
 
 -- by other tasks and another limit that are the same
-pub done_for : (value : AgentTask → Numbers → Numbers → Option ℕ) (limit other : ℕ) (ts us : List AgentTask) (schedule : List Event)
+pub done_for : (value : Values) (limit other : ℕ) (ts us : List AgentTask) (schedule : List Event)
     (r : TeamRun) → other ≡ limit → us ≡ ts → HasDoneAll value other us schedule r → HasDoneAll value limit ts schedule r
 done_for value limit other ts us schedule r limits tasks done =
     record {

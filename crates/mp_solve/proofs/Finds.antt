@@ -1,20 +1,20 @@
 -- What a team has found.
-use Rattle.std.proofs.Common.{◌≡◌, ℕ, true, false, List, [], map, Option, Some, None, refl}
+use Rattle.std.proofs.Common.{◌≡◌, true, false, List, [], map, Option, Some, None, refl}
 use Rattle.std.proofs.Common.{sym, ap, ◌∙◌}
 use Rattle.std.specs.Prelude.{MatchOption}
 use Rattle.mp_joint.specs.declared.plan.PlanStep.{PlanStep}
 use Rattle.mp_messages.specs.declared.history.Entry.{Entry}
-use Rattle.mp_sets.specs.Numbers.{Numbers}
-use Rattle.mp_task.specs.AgentTask.{AgentTask}
 use Rattle.mp_machine.specs.AgentRecord.{AgentRecord}
 use Rattle.mp_machine.specs.Machine.{AgentMachine}
 use Rattle.mp_world.specs.declared.outcome.Outcome.{Outcome}
 use Rattle.mp_world.specs.declared.answer.Answer.TheVariants.{Nothing}
 use Rattle.mp_world.specs.Answers.{answer_of, outcome_of}
 use Rattle.mp_world.specs.RoundRobin.{is_over}
+use Rattle.mp_world.specs.Values.{Values}
 use Rattle.mp_world.specs.World.{World}
 use Rattle.mp_schedule.specs.Finished.{AreOfRun}
 use Rattle.mp_schedule.specs.TeamRun.{TeamRun}
+use Rattle.mp_schedule.proofs.Keeping.{is_run_of}
 use Rattle.mp_text.specs.Outcome.{outcome_text}
 use Rattle.mp_solve.specs.Ended.{HasDoneAll}
 
@@ -38,7 +38,7 @@ no_text w names log none =
     ap (λ a. outcome_text (record { answer = a; shares = map (λ (x : AgentRecord). x.share) w.agents }) names log) none
 
 -- the machines of a team that has done something
-pub are_of_run : (value : AgentTask → Numbers → Numbers → Option ℕ) (r : TeamRun)
+pub are_of_run : (value : Values) (r : TeamRun)
     → HasDoneAll value r.limit r.tasks r.schedule r → (machines : List AgentMachine)
     → map (λ m. m.done) machines ≡ r.world.agents → AreOfRun value machines
 are_of_run value r done machines agents = record {
@@ -46,10 +46,7 @@ are_of_run value r done machines agents = record {
   tasks = r.tasks;
   schedule = r.schedule;
   last = r.world;
-  agree = done.team.agree;
-  within = done.team.within;
-  few_entries = done.team.few_entries;
-  leads = done.run.leads;
+  run = is_run_of value r done.team done.run;
   agents = sym agents;
 }
 

@@ -1,10 +1,8 @@
 -- What a team has found by a legal schedule is right for its files, by whichever of the team's logs it is told.
-use Rattle.std.proofs.Common.{◌≡◌, ◌≤◌, ℕ, true, List, [], length, map, All, Option, Some}
+use Rattle.std.proofs.Common.{◌≡◌, ◌≤◌, ℕ, true, List, [], length, map, All, Some}
 use Rattle.std.proofs.Common.{sym, ap, subst, ◌∙◌}
 use Rattle.mp_factor.specs.declared.factor.Factor.{Factor}
-use Rattle.mp_sets.specs.Numbers.{Numbers}
 use Rattle.mp_joint.specs.declared.plan.PlanStep.{PlanStep}
-use Rattle.mp_task.specs.AgentTask.{AgentTask}
 use Rattle.mp_task.specs.Limits.{IsWithinLimits}
 use Rattle.mp_grounder.specs.Checked.{IsChecked}
 use Rattle.mp_machine.specs.AgentRecord.{AgentRecord}
@@ -16,6 +14,8 @@ use Rattle.mp_world.specs.Answers.{answer_of, outcome_of}
 use Rattle.mp_world.specs.Events.{run}
 use Rattle.mp_world.specs.Logs.{IsLog}
 use Rattle.mp_world.specs.RoundRobin.{is_over}
+use Rattle.mp_world.specs.Team.{most_expansions, team_with}
+use Rattle.mp_world.specs.Values.{Values}
 use Rattle.mp_world.specs.World.{World}
 use Rattle.mp_split.specs.Team.{AreTasksOf}
 use Rattle.mp_split.specs.declared.team.Tasks.{Tasks}
@@ -29,12 +29,12 @@ use Rattle.mp_solutions.specs.Solution.{IsFound, IsRightFor}
 use Rattle.mp_solve.proofs.Finds.{no_answer}
 
 -- the answers of a team are right for its files, as the law has it
-abbrev pub AnswersAreRight : (AgentTask → Numbers → Numbers → Option ℕ) → Type 0
+abbrev pub AnswersAreRight : Values → Type 0
 AnswersAreRight value =
     (team : List Factor) (tasks : Tasks) (limit : ℕ) (schedule : List Event) (last : World)
     → All IsChecked team → 1 ≤ length team → AreTasksOf team tasks
-    → All IsWithinLimits tasks.tasks → limit ≤ 10000000
-    → run value limit tasks.tasks schedule ≡ Some last → is_over last ≡ true
+    → All IsWithinLimits tasks.tasks → limit ≤ most_expansions
+    → run (team_with value limit tasks.tasks) schedule ≡ Some last → is_over last ≡ true
     → (plan : List PlanStep)
     × IsRight limit team last (answer_of last) plan
     × ((log : List Entry) → outcome_text (outcome_of last) (names_of team tasks.steps) log
@@ -46,15 +46,15 @@ pub no_text : (w : World) (names : List (List PlanStep)) (log : List Entry) → 
 no_text w names log none =
     ap (λ a. text_of_lines (found_lines a (map (λ (x : AgentRecord). x.share) w.agents) names log)) (sym none)
 
-module _ (value : AgentTask → Numbers → Numbers → Option ℕ) (limit : ℕ) (team : List Factor) (tasks : Tasks)
+module _ (value : Values) (limit : ℕ) (team : List Factor) (tasks : Tasks)
     (schedule : List Event) (last : World)
     (law : AnswersAreRight value)
     (checked : All IsChecked team)
     (some : 1 ≤ length team)
     (are : AreTasksOf team tasks)
     (within : All IsWithinLimits tasks.tasks)
-    (few_entries : limit ≤ 10000000)
-    (leads : run value limit tasks.tasks schedule ≡ Some last)
+    (few_entries : limit ≤ most_expansions)
+    (leads : run (team_with value limit tasks.tasks) schedule ≡ Some last)
     (s : Solution) (answer : s.answer ≡ answer_of last)
     (text : s.text ≡ outcome_text (outcome_of last) (names_of team tasks.steps) s.log)
   where
@@ -67,7 +67,7 @@ module _ (value : AgentTask → Numbers → Numbers → Option ℕ) (limit : ℕ
           printed = text ∙ found.2 s.log ∙ ap (λ a. answer_text (length team) a found.0 s.log) (sym answer);
         }
 
-    unfoldable pub is_found : s.views ≡ tasks.views → IsLog value limit tasks.tasks s.log → schedule_of s.log ≡ schedule
+    unfoldable pub is_found : s.views ≡ tasks.views → IsLog (team_with value limit tasks.tasks) s.log → schedule_of s.log ≡ schedule
         → IsFound value limit team schedule s
     is_found views is_log logged = record {
       tasks = tasks;

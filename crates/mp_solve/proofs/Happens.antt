@@ -1,10 +1,11 @@
 -- Events of a schedule that happen one after another, up to one that may not.
-use Rattle.std.proofs.Common.{◌≡◌, ℕ, suc, ◌+◌, ◌<◌, false, List, ◌∷◌, ◌++◌, map, length, get_or, drop, take, Option}
+use Rattle.std.proofs.Common.{◌≡◌, ℕ, suc, ◌+◌, ◌<◌, false, List, ◌∷◌, ◌++◌, map, length, get_or, drop, take}
 use Rattle.std.proofs.Common.{sym, ap, ◌∙◌, add-one, drop-cons}
 use Rattle.std.proofs.lemmas.List.{take-append-drop}
-use Rattle.mp_sets.specs.Numbers.{Numbers}
 use Rattle.mp_task.specs.AgentTask.{AgentTask}
 use Rattle.mp_world.specs.Events.{is_legal, run}
+use Rattle.mp_world.specs.Team.{team_with}
+use Rattle.mp_world.specs.Values.{Values}
 use Rattle.mp_schedule.specs.TeamRun.{TeamRun}
 use Rattle.mp_text.specs.declared.schedule.EventLine.{EventLine}
 use Rattle.mp_solutions.specs.Solution.{StopsAt}
@@ -24,7 +25,7 @@ pub parted : {A : Type 0} (items : List A) (i : ℕ) (item : A) → i < length i
 parted items i item within is =
     sym (take-append-drop i items) ∙ ap (λ xs. take i items ++ xs) (drop_here items i item within is)
 
-module _ (value : AgentTask → Numbers → Numbers → Option ℕ) (limit : ℕ) (tasks : List AgentTask)
+module _ (value : Values) (limit : ℕ) (tasks : List AgentTask)
     (lines before later : List EventLine) (line : EventLine) (old : TeamRun)
     (are : lines ≡ before ++ line ∷ later)
     (done : HasDoneAll value limit tasks (map (λ (l : EventLine). l.event) before) old)
@@ -38,7 +39,7 @@ module _ (value : AgentTask → Numbers → Numbers → Option ℕ) (limit : ℕ
           later = later;
           lines_are = are;
           last = old.world;
-          leads = sym (λ i. run value (done.limit_is i) (done.tasks_are i) (done.schedule_is i)) ∙ done.run.leads;
+          leads = sym (λ i. run (team_with value (done.limit_is i) (done.tasks_are i)) (done.schedule_is i)) ∙ done.run.leads;
           illegal = illegal;
           numbered = numbered;
         }

@@ -1,9 +1,8 @@
 -- What is refused of a schedule, of the team and of the text.
-use Rattle.std.proofs.Common.{◌≡◌, ◌≤◌, ℕ, List, length, Option, Result, Ok, Err, IfErr, sym, subst, inl, inr}
+use Rattle.std.proofs.Common.{◌≡◌, ◌≤◌, ℕ, List, length, Result, Ok, Err, IfErr, sym, subst, inl, inr}
 use Rattle.mp_factor.specs.declared.factor.Factor.{Factor}
 use Rattle.mp_joint.specs.Fact.{Text}
-use Rattle.mp_sets.specs.Numbers.{Numbers}
-use Rattle.mp_task.specs.AgentTask.{AgentTask}
+use Rattle.mp_world.specs.Values.{Values}
 use Rattle.mp_split.specs.Team.{AreTasksOf, IsFirstRefusal}
 use Rattle.mp_split.specs.declared.team.Tasks.{Tasks}
 use Rattle.mp_split.proofs.FirstAgents.{no_memory}
@@ -13,7 +12,7 @@ use Rattle.mp_solve.specs.Refused.{AreWithin, IsUnread, Refuses, Stops}
 use Rattle.mp_solve.specs.declared.refusal.ReplayRefusal.{ReplayRefusal}
 use Rattle.mp_solve.specs.declared.refusal.ReplayRefusal.TheVariants.{Sizes, Line}
 
-module _ (value : AgentTask → Numbers → Numbers → Option ℕ) (limit : ℕ) (team : List Factor) (text : Text)
+module _ (value : Values) (limit : ℕ) (team : List Factor) (text : Text)
     (some : 1 ≤ length team)
     (within : AreWithin team)
   where

@@ -1,16 +1,16 @@
 -- Why a schedule is not replayed.
-use Rattle.std.specs.Prelude.{◌≡◌, ℕ, false, List, Option, Some, Err, slice_get}
+use Rattle.std.specs.Prelude.{◌≡◌, ℕ, false, List, Some, Err, slice_get}
 use Rattle.mp_factor.specs.declared.factor.Factor.{Factor}
 use Rattle.mp_ground.specs.Limits.{IsWithin}
 use Rattle.mp_ground.specs.declared.refusal.GroundRefusal.TheVariants.{OutOfMemory}
 use Rattle.mp_joint.specs.Fact.{Text}
-use Rattle.mp_sets.specs.Numbers.{Numbers}
 use Rattle.mp_solutions.specs.Solution.{IsRefusedLine, StopsAt}
 use Rattle.mp_split.specs.Team.{IsFirstRefusal, known_at}
 use Rattle.mp_task.specs.AgentTask.{AgentTask}
 use Rattle.mp_text.specs.Schedule.{schedule_in}
 use Rattle.mp_text.specs.declared.schedule.EventLine.{EventLine}
 use Rattle.mp_world.specs.Events.{is_legal}
+use Rattle.mp_world.specs.Values.{Values}
 use Rattle.mp_world.specs.World.{World}
 use Rattle.mp_solve.specs.declared.refusal.ReplayRefusal.{ReplayRefusal}
 use Rattle.mp_solve.specs.declared.refusal.ReplayRefusal.TheVariants.{Sizes, Line}
@@ -22,7 +22,7 @@ AreWithin team =
 
 -- memory ran out, or an event of these lines may not happen when it is its turn
 abbrev pub Stops
-    : (AgentTask → Numbers → Numbers → Option ℕ) → ℕ → List AgentTask → List EventLine → ReplayRefusal → Type 0
+    : Values → ℕ → List AgentTask → List EventLine → ReplayRefusal → Type 0
 Stops value limit tasks lines (Sizes refusal) = refusal ≡ OutOfMemory
 Stops value limit tasks lines (Line number) = StopsAt value limit tasks lines number
 
@@ -38,6 +38,6 @@ IsUnread agents text (Line number) = schedule_in agents text ≡ Err number
 
 -- the first agent's factor that is too large, or, where none is, the refused line of the schedule's text
 abbrev pub Refuses
-    : (AgentTask → Numbers → Numbers → Option ℕ) → ℕ → List Factor → Text → ReplayRefusal → Type 0
+    : Values → ℕ → List Factor → Text → ReplayRefusal → Type 0
 Refuses value limit team text (Sizes refusal) = IsFirstRefusal team refusal
 Refuses value limit team text (Line number) = AreWithin team × IsRefusedLine value limit team text number

@@ -7,6 +7,7 @@ ghost use Rattle.mp_solve.specs.Ended.{HasDoneAll, HasEnded};
 ghost use Rattle.mp_solve.specs.Machines.{new_machines};
 ghost use Rattle.mp_task.specs.Agree.{Agree};
 ghost use Rattle.mp_task.specs.Limits.{IsWithinLimits};
+ghost use Rattle.mp_world.specs.Team.{most_expansions};
 
 use mp_list::OutOfMemory;
 use mp_machine::Machine;
@@ -21,7 +22,7 @@ fn machine_of<H: Heuristic>(
     limit: u64,
 ) -> Result<Machine<H>, OutOfMemory>
     requires from_1 { 1 ≤ limit }
-    requires limit { limit ≤ 10000000 }
+    requires limit { limit ≤ most_expansions }
     ensures { IfOk result (λ made. made ≡ new_machine H.value limit task) }
 {
     let heuristic = H::make(alloc, &task)?;
@@ -35,7 +36,7 @@ pub fn machines_of<H: Heuristic>(
     limit: u64,
 ) -> Result<Vec<Machine<H>>, OutOfMemory>
     requires from_1 { 1 ≤ limit }
-    requires limit { limit ≤ 10000000 }
+    requires limit { limit ≤ most_expansions }
     ensures { IfOk result (λ machines. machines.items ≡ new_machines H.value limit tasks) }
 {
     let mut machines = Vec::with_capacity(alloc, tasks.len())?;
@@ -68,7 +69,7 @@ pub(crate) fn begun<H: Heuristic>(
     limit: u64,
 ) -> Result<World<H>, OutOfMemory>
     requires from_1 { 1 ≤ limit }
-    requires limit { limit ≤ 10000000 }
+    requires limit { limit ≤ most_expansions }
     requires agree { Agree tasks }
     requires some { 1 ≤ length tasks }
     requires at_most { length tasks ≤ 16 }
@@ -90,7 +91,7 @@ pub fn ended<H: Heuristic>(
     limit: u64,
 ) -> Result<World<H>, OutOfMemory>
     requires from_1 { 1 ≤ limit }
-    requires limit { limit ≤ 10000000 }
+    requires limit { limit ≤ most_expansions }
     requires agree { Agree tasks }
     requires some { 1 ≤ length tasks }
     requires at_most { length tasks ≤ 16 }

@@ -7,6 +7,7 @@ ghost use Rattle.mp_solve.specs.Ended.{HasDoneAll};
 ghost use Rattle.mp_solve.specs.Refused.{AreWithin, IsUnread, MayNot, Refuses, Stops};
 ghost use Rattle.mp_split.specs.Team.{AreTasksOf};
 ghost use Rattle.mp_text.specs.Schedule.{schedule_in};
+ghost use Rattle.mp_world.specs.Team.{most_expansions};
 
 use crate::machines::begun;
 use crate::refusal::ReplayRefusal;
@@ -66,7 +67,7 @@ fn replayed<H: Heuristic>(
     lines: &[EventLine],
 ) -> Result<Solution, ReplayRefusal>
     requires from_1 { 1 ≤ limit }
-    requires limit { limit ≤ 10000000 }
+    requires limit { limit ≤ most_expansions }
     requires some { 1 ≤ length factors.now }
     requires at_most { length factors.now ≤ 16 }
     requires tasks { AreTasksOf factors.now given }
@@ -118,7 +119,7 @@ pub fn replay<H: Heuristic>(
     text: &[u8],
 ) -> Result<Solution, ReplayRefusal>
     requires from_1 { 1 ≤ limit }
-    requires limit { limit ≤ 10000000 }
+    requires limit { limit ≤ most_expansions }
     requires some { 1 ≤ length factors.now }
     requires at_most { length factors.now ≤ 16 }
     ensures replayed { IfOk result (IsReplayed H.value limit factors.now text.now) }

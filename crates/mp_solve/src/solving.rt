@@ -5,6 +5,7 @@ ghost use Rattle.mp_factor.specs.declared.factor.Factor.{Factor};
 ghost use Rattle.mp_ground.specs.Limits.{IsWithin};
 ghost use Rattle.mp_solutions.specs.Solution.{IsSolution};
 ghost use Rattle.mp_split.specs.Team.{AreTasksOf, IsFirstRefusal, known_at};
+ghost use Rattle.mp_world.specs.Team.{most_expansions};
 
 use crate::machines::ended;
 use crate::telling::solution_of;
@@ -26,7 +27,7 @@ fn solved<H: Heuristic>(
     limit: u64,
 ) -> Result<Solution, OutOfMemory>
     requires from_1 { 1 ≤ limit }
-    requires limit { limit ≤ 10000000 }
+    requires limit { limit ≤ most_expansions }
     requires some { 1 ≤ length factors.now }
     requires at_most { length factors.now ≤ 16 }
     requires tasks { AreTasksOf factors.now given }
@@ -55,7 +56,7 @@ pub fn solve<H: Heuristic>(
     limit: u64,
 ) -> Result<Solution, GroundRefusal>
     requires from_1 { 1 ≤ limit }
-    requires limit { limit ≤ 10000000 }
+    requires limit { limit ≤ most_expansions }
     requires some { 1 ≤ length factors.now }
     requires at_most { length factors.now ≤ 16 }
     ensures solution { IfOk result (IsSolution H.value limit factors.now) }

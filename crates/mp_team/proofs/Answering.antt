@@ -7,9 +7,8 @@ use Rattle.std.proofs.lemmas.List.Elements.{All-contains, Contains-append_left, 
 use mathlib.Core.Logic.{dite}
 use native.Mathlib.Decide.{ℕ_discrete}
 use Rattle.atomic_table.specs.Seated.{TableId}
-use Rattle.mp_sets.specs.Numbers.{Numbers}
-use Rattle.mp_task.specs.AgentTask.{AgentTask}
 use Rattle.mp_machine.specs.Machine.{AgentMachine}
+use Rattle.mp_world.specs.Values.{Values}
 use Rattle.mp_nodes.specs.Nodes.{AreSameAgents, IsPlaceAt, SeenNode, has_ended, have_ended, node_at}
 use Rattle.mp_nodes.specs.Served.{IsAnswer}
 use Rattle.mp_nodes.specs.Steps.{IsSeenHalted}
@@ -49,7 +48,7 @@ ended_either (n ∷ ns) (m ∷ ms) own other =
     let second = and_parts (option_map_or has_ended m true) (have_ended ms) other in
     λ i. ended_one n m first.0 second.0 i && ended_either ns ms first.1 second.1 i
 
-module _ (value : AgentTask → Numbers → Numbers → Option ℕ) (agents : ℕ) where
+module _ (value : Values) (agents : ℕ) where
   -- ---- an agent that goes on
 
   goes_on : (agent : ℕ) (v : View) (place : Option SeenNode) → IsPlaceAt value agents agent v place → IsAnsweredAt value agents agent v place
@@ -93,7 +92,7 @@ module _ (value : AgentTask → Numbers → Numbers → Option ℕ) (agents : �
           marked = All-contains (λ a. IfSome (party_at w a) (λ (p : Party). p.halted ≡ true)) w.seen agent merged.marks seen;
         }
 
-module _ {H : Type 0} (value : AgentTask → Numbers → Numbers → Option ℕ) (table : TableId) (agents : ℕ) where
+module _ {H : Type 0} (value : Values) (table : TableId) (agents : ℕ) where
   abbrev Answers : List Places → Answered H → Type 0
   Answers old a = AreAnswered value table agents old a
 

@@ -7,7 +7,6 @@ use Rattle.std.proofs.lemmas.Bool.{and_parts, eqb-true}
 use Rattle.std.proofs.lemmas.List.{append-nil, get_or-map, nil_from_length}
 use Rattle.std.proofs.lemmas.List.Elements.{All-weaker}
 use Rattle.std.proofs.lemmas.Option.{none-some, same_Some}
-use Rattle.mp_sets.specs.Numbers.{Numbers}
 use Rattle.mp_task.specs.AgentTask.{AgentTask}
 use Rattle.mp_task.proofs.Agreeing.{number_at}
 use Rattle.mp_messages.specs.declared.history.Entry.{Entry}
@@ -23,6 +22,8 @@ use Rattle.mp_schedule.specs.Machines.{AreNew, limit_of, tasks_of}
 use Rattle.mp_stamps.specs.Lists.{IsAgentOf, entries}
 use Rattle.mp_world.specs.Events.{run}
 use Rattle.mp_world.specs.Logs.{HasDone, IsLog}
+use Rattle.mp_world.specs.Team.{team_with}
+use Rattle.mp_world.specs.Values.{Values}
 use Rattle.mp_world.specs.World.{AreNumbered, agent_at}
 use Rattle.mp_world.proofs.Agents.{agree_numbered}
 use Rattle.mp_world.proofs.Runs.{run_of_team}
@@ -90,7 +91,7 @@ nothing_left nodes k n ended here =
     let both = and_parts (not (is_going n.machine.done.ending)) (length n.batch == 0) (ended_at nodes k n ended here) in
     nil_from_length n.batch (eqb-true (length n.batch) 0 both.1)
 
-module _ (value : AgentTask → Numbers → Numbers → Option ℕ) where
+module _ (value : Values) where
   pub moved : (t u : AgentTask) (l m : ℕ) (g h : List Entry) (r s : AgentRecord) → t ≡ u → l ≡ m → g ≡ h → r ≡ s
       → HasDone (value t) (new_record t (value t) l) g r → HasDone (value u) (new_record u (value u) m) h s
   moved t u l m g h r s task limits logs last done =
@@ -138,7 +139,7 @@ module _ (value : AgentTask → Numbers → Numbers → Option ℕ) where
           inside = low;
           node = found.0;
           member = is;
-          me = number_at (tasks_of ms) new.agree k t inside here;
+          me = number_at (tasks_of ms) new.tasks.agree k t inside here;
           own = ap (λ (o : Orders). o.task) is.orders_are ∙ task;
           limits = ap (λ (o : Orders). o.limit) is.orders_are ∙ limit value ms new k low is.machine is.here;
         }
@@ -170,7 +171,7 @@ module _ (value : AgentTask → Numbers → Numbers → Option ℕ) where
       record_of t = option_map_or (λ n. n.machine.done) (node_at nodes t.me) (new_record t (value t) limit_is)
 
       pub numbered : AreNumbered tasks
-      numbered = agree_numbered tasks new.agree
+      numbered = agree_numbered tasks new.tasks.agree
 
       record_is : (k : ℕ) (n : SeenNode) → IsMember k n → (t : AgentTask) → t.me ≡ suc k → record_of t ≡ n.machine.done
       record_is k n is t me =
@@ -191,12 +192,12 @@ module _ (value : AgentTask → Numbers → Numbers → Option ℕ) where
           (sym (record_is found.place n found.member t found.me)) node.fits.done
 
       module _ {H : Type 0} (f : Finished H) (machines : f.machines.items ≡ machines_in nodes) (log_is : f.log ≡ log)
-          (made : IsLogOfParts value limit_is tasks log record_of) where
+          (made : IsLogOfParts (team_with value limit_is tasks) log record_of) where
         many_nodes : length nodes ≡ length ms
         many_nodes = all.served.many ∙ count
 
         many_last : length made.last.agents ≡ length ms
-        many_last = team_size tasks made.last (run_of_team value limit_is tasks (schedule log) made.last made.runs) ∙ many_tasks value ms new
+        many_last = team_size tasks made.last (run_of_team (team_with value limit_is tasks) (schedule log) made.last made.runs) ∙ many_tasks value ms new
 
         last_is : made.last.agents ≡ map (λ m. m.done) (machines_in nodes)
         last_is = records_are made.last.agents nodes (many_last ∙ sym many_nodes) each
@@ -221,9 +222,9 @@ module _ (value : AgentTask → Numbers → Numbers → Option ℕ) where
         pub has_finished : HasFinished value limit_is tasks f
         has_finished = record {
           tasks_are = ap tasks_of machines ∙ same_tasks nodes ms many_nodes (λ k. same (suc k));
-          is_log = subst (IsLog value limit_is tasks) (sym log_is) made.is_log;
+          is_log = subst (IsLog (team_with value limit_is tasks)) (sym log_is) made.is_log;
           last = made.last;
-          leads = ap (λ l. run value limit_is tasks (schedule l)) log_is ∙ made.runs;
+          leads = ap (λ l. run (team_with value limit_is tasks) (schedule l)) log_is ∙ made.runs;
           agents = machines_are;
           over = ap (list_all (λ (r : AgentRecord). not (is_going r.ending))) last_is ∙ all_over nodes all.ended;
         }

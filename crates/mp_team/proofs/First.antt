@@ -1,10 +1,9 @@
 -- A team at the start: each machine is new, and each node fits its party.
 use Rattle.std.proofs.Common.{◌≡◌, ℕ, zero, suc, ◌<◌, ◌≤◌, ◌⊎◌, inl, inr, List, [], ◌∷◌, length, map, get_or, Some, None, refl, sym, ap, ◌∙◌, arith, subst}
-use Rattle.std.specs.Prelude.{Option, replicate}
+use Rattle.std.specs.Prelude.{replicate}
 use Rattle.std.specs.List.{range_with_len}
 use Rattle.std.proofs.lemmas.List.{get_or-map, get_or-replicate, get_or_past, length-map, length-replicate}
 use Rattle.std.proofs.lemmas.List.Elements.{All-contains, All-nil}
-use Rattle.mp_sets.specs.Numbers.{Numbers}
 use Rattle.mp_task.specs.Agree.{FitsTeam}
 use Rattle.mp_task.specs.AgentTask.{AgentTask}
 use Rattle.mp_task.proofs.Agreeing.{number_at}
@@ -15,6 +14,7 @@ use Rattle.mp_post_rule.specs.Queues.{IsSignable}
 use Rattle.mp_post_rule.specs.Views.{first_view, new_party}
 use Rattle.mp_schedule.specs.Machines.{AreNew, limit_of, new_machine, tasks_of}
 use Rattle.mp_world.specs.Logs.{HasDone}
+use Rattle.mp_world.specs.Values.{Values}
 use Rattle.mp_team.specs.Machines.{first_node, first_places}
 
 -- the machine of a place
@@ -36,12 +36,12 @@ map_twice : (ms : List AgentMachine) → map (λ (t : AgentTask). t.me) (tasks_o
 map_twice [] = refl
 map_twice (m ∷ ms) = ap (λ l. m.done.task.me ∷ l) (map_twice ms)
 
-module _ (value : AgentTask → Numbers → Numbers → Option ℕ) (ms : List AgentMachine) (new : AreNew value ms) where
+module _ (value : Values) (ms : List AgentMachine) (new : AreNew value ms) where
   pub many_tasks : length (tasks_of ms) ≡ length ms
   many_tasks = length-map ms (λ m. m.done.task)
 
   pub numbers : map (λ m. m.done.task.me) ms ≡ range_with_len 1 (length ms)
-  numbers = sym (map_twice ms) ∙ (new.agree.numbered ∙ ap (range_with_len 1) many_tasks)
+  numbers = sym (map_twice ms) ∙ (new.tasks.agree.numbered ∙ ap (range_with_len 1) many_tasks)
 
   module _ (k : ℕ) (inside : k < length ms) (m : AgentMachine) (here : get_or ms k m ≡ m) where
     pub is_new : m ≡ new_machine value (limit_of ms) m.done.task
@@ -54,10 +54,10 @@ module _ (value : AgentTask → Numbers → Numbers → Option ℕ) (ms : List A
     task_here = get_or-map (λ (n : AgentMachine). n.done.task) ms k m m.done.task inside ∙ ap (λ (n : AgentMachine). n.done.task) here
 
     pub number : m.done.task.me ≡ suc k
-    number = number_at (tasks_of ms) new.agree k m.done.task in_tasks task_here
+    number = number_at (tasks_of ms) new.tasks.agree k m.done.task in_tasks task_here
 
     pub team : m.done.task.agents ≡ length ms
-    team = (All-contains (FitsTeam (tasks_of ms)) (tasks_of ms) m.done.task new.agree.team (k, in_tasks, task_here)).agents ∙ many_tasks
+    team = (All-contains (FitsTeam (tasks_of ms)) (tasks_of ms) m.done.task new.tasks.agree.team (k, in_tasks, task_here)).agents ∙ many_tasks
 
     pub limit : m.done.limit ≡ limit_of ms
     limit = ap (λ (n : AgentMachine). n.done.limit) is_new

@@ -7,7 +7,6 @@ use Rattle.std.proofs.lemmas.List.{append-nil}
 use Rattle.std.proofs.lemmas.List.Elements.{All-nil, All-weaker}
 use Rattle.std.proofs.lemmas.Option.{none-some, same_Some}
 use Rattle.atomic_table.specs.Seated.{TableId}
-use Rattle.mp_sets.specs.Numbers.{Numbers}
 use Rattle.mp_task.specs.AgentTask.{AgentTask}
 use Rattle.mp_messages.specs.declared.history.Entry.{Entry}
 use Rattle.mp_messages.specs.declared.history.Entry.TheVariants.{Act, Put, Took}
@@ -16,6 +15,7 @@ use Rattle.mp_machine.specs.AgentRecord.{new_record}
 use Rattle.mp_machine.specs.LocalStep.{local}
 use Rattle.mp_machine.specs.Machine.{AgentMachine}
 use Rattle.mp_machine.specs.declared.event.Local.TheVariants as locals
+use Rattle.mp_world.specs.Values.{Values}
 use Rattle.mp_logs.specs.Served.{HasServed, Served, is_receipt}
 use Rattle.mp_nodes.specs.Nodes.{AreSameAgents, AreServed, IsNodeAt, IsPlaceAt, SeenNode, have_ended, node_at}
 use Rattle.mp_nodes.specs.Served.{AllEnded}
@@ -46,7 +46,7 @@ no_receipt agents agent (Act by kind) is = refl
 no_receipt agents agent (Put from to bytes) is = refl
 no_receipt agents agent (Took by from bytes) is = absurd is
 
-module _ {H : Type 0} (value : AgentTask → Numbers → Numbers → Option ℕ) (table : TableId) (agents : ℕ) (ms : List AgentMachine)
+module _ {H : Type 0} (value : Values) (table : TableId) (agents : ℕ) (ms : List AgentMachine)
     (a : Answered H) (all : AreAllAnswered value table agents ms a) (enough : lacks_memory a.served ≡ false) where
   abbrev nodes : Places
   nodes = a.work.nodes

@@ -4,11 +4,10 @@ use Rattle.std.specs.Prelude.{Option, replicate}
 use Rattle.std.specs.Option.{option_map}
 use Rattle.std.proofs.lemmas.List.{length-replicate, length-set, set-get_or}
 use Rattle.std.proofs.lemmas.Option.{none-some}
+use Rattle.mp_world.specs.Values.{Values}
 use lib.ListN.{length-map}
 use mathlib.Core.Logic.{dite}
 use native.Mathlib.Decide.{ℕ_discrete}
-use Rattle.mp_sets.specs.Numbers.{Numbers}
-use Rattle.mp_task.specs.AgentTask.{AgentTask}
 use Rattle.mp_nodes.specs.Nodes.{AreServed, IsNodeAt, IsPlaceAt, Orders, SeenNode, node_at, orders}
 use Rattle.mp_post.specs.Parts.{HasMerged, HasSplit}
 use Rattle.mp_post_rule.proofs.Parties.{either_at, first_at, second_at}
@@ -34,7 +33,7 @@ nowhere [] k = refl
 nowhere (p ∷ ps) zero = refl
 nowhere (p ∷ ps) (suc k) = nowhere ps k
 
-module _ (value : AgentTask → Numbers → Numbers → Option ℕ) (agents : ℕ) where
+module _ (value : Values) (agents : ℕ) where
   -- a place and its party stay what they were
   carried : (agent : ℕ) (v w : View) (x y : Option SeenNode) → y ≡ x → party_at w agent ≡ party_at v agent
       → IsPlaceAt value agents agent v x → IsPlaceAt value agents agent w y

@@ -3,9 +3,8 @@ use Rattle.std.proofs.Common.{◌≡◌, ℕ, ◌+◌, ◌<◌, List, [], ◌∷
 use Rattle.std.specs.Prelude.{All, Option, replicate}
 use Rattle.std.proofs.lemmas.List.{map-append}
 use Rattle.std.proofs.lemmas.List.Elements.{All-append, All-cons, All-head, All-nil, All-pop, All-tail}
+use Rattle.mp_world.specs.Values.{Values}
 use Rattle.atomic_table.specs.Seated.{TableId}
-use Rattle.mp_sets.specs.Numbers.{Numbers}
-use Rattle.mp_task.specs.AgentTask.{AgentTask}
 use Rattle.mp_nodes.specs.Nodes.{AreServed, SeenNode}
 use Rattle.mp_post.specs.Desks.{IsDeskOf}
 use Rattle.mp_post.specs.Parts.{HasMerged, HasSplit}
@@ -19,7 +18,7 @@ use Rattle.mp_team.proofs.Changing.{either_kept}
 use Rattle.mp_team.proofs.Keeping.{both_kept, same_kept, swap_kept, then_kept}
 use Rattle.mp_team.proofs.Serving.{joined_served, left_served, right_served, split_kept}
 
-module _ {H : Type 0} (value : AgentTask → Numbers → Numbers → Option ℕ) (table : TableId) (agents : ℕ) where
+module _ {H : Type 0} (value : Values) (table : TableId) (agents : ℕ) where
   abbrev Fits : Work H → Type 0
   Fits w = IsWork value table agents w
 

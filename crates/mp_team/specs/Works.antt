@@ -1,9 +1,8 @@
 -- Works, and what is answered of them.
 use Rattle.std.specs.Prelude.{◌≡◌, ◌⊎◌, ⊤, ℕ, Bool, false, true, List, [], ◌∷◌, length, map, Option, Some, None, Result, Ok, Err, All}
 use Rattle.atomic_table.specs.Seated.{TableId}
-use Rattle.mp_sets.specs.Numbers.{Numbers}
-use Rattle.mp_task.specs.AgentTask.{AgentTask}
 use Rattle.mp_machine.specs.Machine.{AgentMachine}
+use Rattle.mp_world.specs.Values.{Values}
 use Rattle.mp_nodes.specs.Nodes.{AreServed, IsNodeAt, SeenNode, have_ended, node_at}
 use Rattle.mp_nodes.specs.Steps.{IsBadAt, IsSeenHalted}
 use Rattle.mp_nodes.specs.declared.served.Served.{Served}
@@ -47,7 +46,7 @@ first_unended (answers.OutOfMemory agent) other = answers.OutOfMemory agent
 
 -- The node of an agent goes on and fits its party, or it found a message to be a bad one. Where there is no node there is no
 -- party.
-abbrev pub IsAnsweredAt : (AgentTask → Numbers → Numbers → Option ℕ) → ℕ → ℕ → View → Option SeenNode → Type 0
+abbrev pub IsAnsweredAt : Values → ℕ → ℕ → View → Option SeenNode → Type 0
 IsAnsweredAt value agents agent v None = party_at v agent ≡ None
 IsAnsweredAt value agents agent v (Some n) = IsNodeAt value agents agent v n ⊎ IsBadAt value agents agent v n
 
@@ -59,7 +58,7 @@ abbrev pub parts_of : {H : Type 0} → Option (Work H) → List (Work H)
 parts_of None = []
 parts_of (Some w) = w ∷ []
 
-module _ {H : Type 0} (value : AgentTask → Numbers → Numbers → Option ℕ) (table : TableId) (agents : ℕ) where
+module _ {H : Type 0} (value : Values) (table : TableId) (agents : ℕ) where
   -- a work is that of agents of a team: its desk is at their posts, and its nodes are those of the parties there
   pub record IsWork (w : Work H) : Type 0 where
     pub desk : IsDeskOf table agents w.desk

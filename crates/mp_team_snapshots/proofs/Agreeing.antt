@@ -6,6 +6,7 @@ use Rattle.std.proofs.lemmas.List.Elements.{All-contains}
 use Rattle.mp_task.specs.Agree.{Agree, FitsTeam}
 use Rattle.mp_task.specs.AgentTask.{AgentTask}
 use Rattle.mp_task.specs.Limits.{IsWithinLimits}
+use Rattle.mp_world.specs.Team.{AreTeamTasks}
 use Rattle.mp_world.proofs.Agents.{agree_numbered}
 use Rattle.mp_team_snapshots.specs.Team.{IsTeamOf}
 
@@ -20,3 +21,6 @@ agreeing_team tasks t agree member limits = record {
       let same = (All-contains (FitsTeam tasks) tasks t agree.team member).agents in
       subst (λ n. n ≤ 16) same limits.at_most_16_agents;
 }
+
+pub are_of_team : (tasks : List AgentTask) (t : AgentTask) → AreTeamTasks tasks → Contains tasks t → IsTeamOf t.publics tasks
+are_of_team tasks t are member = agreeing_team tasks t are.agree member (All-contains IsWithinLimits tasks t are.within member)

@@ -6,7 +6,6 @@ use Rattle.std.specs.Option.{option_map_or}
 use Rattle.std.proofs.lemmas.Bool.{eq-eqb, eqb-false, eqb-true}
 use Rattle.std.proofs.lemmas.List.Elements.{filter_map-append}
 use Rattle.std.proofs.lemmas.Option.{same_Some}
-use Rattle.mp_sets.specs.Numbers.{Numbers}
 use Rattle.mp_task.specs.AgentTask.{AgentTask}
 use Rattle.mp_messages.specs.declared.history.Event.{Event}
 use Rattle.mp_messages.specs.declared.message.Message.{Message}
@@ -15,6 +14,7 @@ use Rattle.mp_snapshot.specs.Rules.{before_all}
 use Rattle.mp_machine.specs.AgentRecord.{AgentRecord}
 use Rattle.mp_world.specs.Events.{agent_of, local_of, sent_in, taken, without_taken}
 use Rattle.mp_world.specs.Steps.{IsStepOf, sent_to}
+use Rattle.mp_world.specs.Values.{Values}
 use Rattle.mp_world.specs.World.{IsTeamWorld, World, agent_at, under_way}
 use Rattle.mp_world.proofs.Tasks.{local_keeps_task}
 use Rattle.mp_team_snapshots.specs.Messages.{marker_of, markers, messages, report_of, reports}
@@ -37,7 +37,7 @@ markers_part = record { state = λ s. refl; pick = λ n. refl; trace = λ sent b
 pub reports_part : IsPart report_of
 reports_part = record { state = λ s. refl; pick = λ n. refl; trace = λ sent back. refl; length = λ n. refl }
 
-module _ (value : AgentTask → Numbers → Numbers → Option ℕ) (publics : ℕ) (tasks : List AgentTask) (team : IsTeamOf publics tasks) (w : World)
+module _ (value : Values) (publics : ℕ) (tasks : List AgentTask) (team : IsTeamOf publics tasks) (w : World)
     (is : IsTeamWorld tasks w) (event : Event) (next : World) (step : IsStepOf value w event next) where
   -- ---- agents
 

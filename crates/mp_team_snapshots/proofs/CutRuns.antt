@@ -1,12 +1,10 @@
 -- The cut of each legal schedule is legal, and leads to a world that stays beside that of the schedule.
-use Rattle.std.proofs.Common.{◌≡◌, ℕ, ◌≤◌, Bool, true, false, eqb, List, [], ◌∷◌, ◌++◌, length, Option, Some, refl, sym}
+use Rattle.std.proofs.Common.{◌≡◌, ℕ, ◌≤◌, Bool, true, false, eqb, List, [], ◌∷◌, ◌++◌, length, Some, refl, sym}
 use Rattle.std.proofs.Common.{ap, ◌∙◌, append-nil, arith}
 use Rattle.std.specs.Option.{option_and_then}
 use Rattle.std.proofs.lemmas.Bool.{and_left, eqb-false, eqb-true, false_from_ne_true, false≢true, leb-true}
 use Rattle.mp_runs.specs.Run.{run as run_of}
 use Rattle.mp_runs.proofs.Runs.{run-more, run-none, run_keeps_history}
-use Rattle.mp_sets.specs.Numbers.{Numbers}
-use Rattle.mp_task.specs.AgentTask.{AgentTask}
 use Rattle.mp_messages.specs.declared.history.Event.{Event}
 use Rattle.mp_messages.specs.declared.message.Message.TheVariants.{Marker}
 use Rattle.mp_messages.specs.Spelling.{spelling}
@@ -14,6 +12,7 @@ use Rattle.mp_snapshot.specs.Rules.{has}
 use Rattle.mp_machine.specs.AgentRecord.{AgentRecord}
 use Rattle.mp_world.specs.Events.{after_event, agent_of}
 use Rattle.mp_world.specs.Steps.{IsStepOf}
+use Rattle.mp_world.specs.Team.{Team}
 use Rattle.mp_world.specs.World.{IsTeamWorld, World, agent_at, start_world, under_way}
 use Rattle.mp_world.proofs.Agents.{agent_there}
 use Rattle.mp_world.proofs.LogOfRun.{new_at}
@@ -36,20 +35,21 @@ use Rattle.mp_team_snapshots.proofs.Since.{agents_done, agents_recorded, agents_
 use Rattle.mp_team_snapshots.proofs.Skipped.{skipped_event}
 use Rattle.mp_team_snapshots.proofs.Taken.{both, cutting, is_its, passes, sound_view}
 
-module _ (value : AgentTask → Numbers → Numbers → Option ℕ) (publics : ℕ) (tasks : List AgentTask)
-    (team : IsTeamOf publics tasks) (limit k : ℕ) (some : 1 ≤ k) where
+module _ (team : Team) (publics : ℕ) (of_team : IsTeamOf publics team.tasks) (k : ℕ) (some : 1 ≤ k) where
+  open team use {tasks, value}
+
   abbrev start : World
-  start = start_world value limit tasks
+  start = start_world team
 
   abbrev pub HasCut : World → World → Type 0
   HasCut w c = (counted : ℕ → ℕ → List (List ℕ)) × IsCut (cutting (length tasks) publics k) (both w c counted)
 
   -- events, the world that they lead to, and the world after their cut
   pub record IsBeside (past : List Event) (w : World) : Type 0 where
-    pub ran : run_of (after_event value) (start_world value limit tasks) past ≡ Some w
+    pub ran : run_of (after_event value) (start_world team) past ≡ Some w
     pub cut : World
-    pub cut_ran : run_of (after_event value) (start_world value limit tasks)
-        (cut_from value k (start_world value limit tasks) past) ≡ Some cut
+    pub cut_ran : run_of (after_event value) (start_world team)
+        (cut_from value k (start_world team) past) ≡ Some cut
     pub agents : AreAgentsCut k w cut
     pub mail : (note_at w 1).number ≤ k → HasCut w cut
 
@@ -59,16 +59,16 @@ module _ (value : AgentTask → Numbers → Numbers → Option ℕ) (publics : �
   new_unrecorded agent r there =
       false_from_ne_true (has_recorded k r) (λ is_recorded.
       let low = leb-true k r.snapshot.number is_recorded in
-      let none : r.snapshot.number ≡ 0 = ap (λ x. x.snapshot.number) (new_at value limit tasks agent r there) in
+      let none : r.snapshot.number ≡ 0 = ap (λ x. x.snapshot.number) (new_at team agent r there) in
       let impossible : ⊥ = absurd (omega arith) in impossible)
 
   is_team : IsTeamWorld tasks start
-  is_team = start_is_team value limit tasks
+  is_team = start_is_team team
 
   new_note : (i : ℕ) → IsOf (length tasks) i → recorded k (note_at start i) ≡ false
   new_note i is =
       let found =
-      agent_there start i (is_agent_of publics tasks team start (team_numbers publics tasks team start is_team) i is) in
+      agent_there start i (is_agent_of publics tasks of_team start (team_numbers publics tasks of_team start is_team) i is) in
       ap (recorded k) (note_of start i found.0 found.1) ∙ new_unrecorded i found.0 found.1
 
   no_counted : ℕ → ℕ → List (List ℕ)
@@ -104,10 +104,10 @@ module _ (value : AgentTask → Numbers → Numbers → Option ℕ) (publics : �
   module _ (past : List Event) (w : World) (event : Event) (next : World) (old : IsBeside past w)
       (leads : after_event value w event ≡ Some next) where
     is : IsTeamWorld tasks w
-    is = run_of_team value limit tasks past w old.ran
+    is = run_of_team team past w old.ran
 
     holds : HoldsInRuns publics w
-    holds = holds_in_runs value publics tasks team limit past w old.ran
+    holds = holds_in_runs team publics of_team past w old.ran
 
     ran_next : run_of (after_event value) start (past ++ event ∷ []) ≡ Some next
     ran_next =
@@ -115,10 +115,10 @@ module _ (value : AgentTask → Numbers → Numbers → Option ℕ) (publics : �
         ∙ leads
 
     is_next : IsTeamWorld tasks next
-    is_next = run_of_team value limit tasks (past ++ event ∷ []) next ran_next
+    is_next = run_of_team team (past ++ event ∷ []) next ran_next
 
     holds_next : HoldsInRuns publics next
-    holds_next = holds_in_runs value publics tasks team limit (past ++ event ∷ []) next ran_next
+    holds_next = holds_in_runs team publics of_team (past ++ event ∷ []) next ran_next
 
     step : IsStepOf value w event next
     step = event_is_step value w (team_lists tasks w is) event next leads
@@ -135,7 +135,7 @@ module _ (value : AgentTask → Numbers → Numbers → Option ℕ) (publics : �
         ∙ old.cut_ran
 
     its : IsOf (length tasks) (agent_of event)
-    its = is_its value publics tasks team w is holds event next step
+    its = is_its value publics tasks of_team w is holds event next step
 
     -- agent 1's number does not fall
     upto_before : (note_at next 1).number ≤ k → (note_at w 1).number ≤ k
@@ -145,23 +145,23 @@ module _ (value : AgentTask → Numbers → Numbers → Option ℕ) (publics : �
         by true test =
             let here = eqb-true 1 (agent_of event) test in
             let rises =
-            number_rises step.agent step.step.after (passes value publics tasks team w is holds event next step) in
+            number_rises step.agent step.step.after (passes value publics tasks of_team w is holds event next step) in
             let was : (note_at w 1).number ≡ step.agent.snapshot.number =
             ap (λ i. (note_at w i).number) here
-            ∙ ap (λ s. s.number) (note_before value publics tasks team w is event next step) in
+            ∙ ap (λ s. s.number) (note_before value publics tasks of_team w is event next step) in
             let now : (note_at next 1).number ≡ step.step.after.snapshot.number =
             ap (λ i. (note_at next i).number) here
-            ∙ ap (λ s. s.number) (note_after value publics tasks team w is event next step) in
+            ∙ ap (λ s. s.number) (note_after value publics tasks of_team w is event next step) in
             omega arith
         by false test =
             let same =
-            ap (λ s. s.number) (note_other value publics tasks team w is event next step 1
+            ap (λ s. s.number) (note_other value publics tasks of_team w is event next step 1
             (eqb-false 1 (agent_of event) test)) in
             omega arith
 
     skipped : has_recorded k step.agent ≡ true → IsBeside (past ++ event ∷ []) next
     skipped was =
-        let passed = passes value publics tasks team w is holds event next step in
+        let passed = passes value publics tasks of_team w is holds event next step in
         let still = stays_recorded k step.agent step.step.after passed was in
         record {
           ran = ran_next;
@@ -170,21 +170,21 @@ module _ (value : AgentTask → Numbers → Numbers → Option ℕ) (publics : �
           agents = agents_skipped value w next event step k passed old.cut old.agents was;
           mail = λ upto.
               let mail = old.mail (upto_before upto) in
-              skipped_event value publics tasks team w is holds k some old.cut mail.0 mail.1
+              skipped_event value publics tasks of_team w is holds k some old.cut mail.0 mail.1
               (upto_before upto) event next step was still upto;
         }
 
     -- where the agent has not recorded, agent 1 has begun no later snapshot
     not_there : has_recorded k step.agent ≡ false → (note_at w 1).number ≤ k
     not_there not_was =
-        first_at_most (length tasks) (view publics w) (sound_view value publics tasks team w is holds) k some
+        first_at_most (length tasks) (view publics w) (sound_view value publics tasks of_team w is holds) k some
         (agent_of event) its
-        (ap (recorded k) (note_before value publics tasks team w is event next step) ∙ not_was)
+        (ap (recorded k) (note_before value publics tasks of_team w is event next step) ∙ not_was)
 
     records : has_recorded k step.agent ≡ false → has_recorded k step.step.after ≡ true
         → IsBeside (past ++ event ∷ []) next
     records not_was now =
-        let passed = passes value publics tasks team w is holds event next step in
+        let passed = passes value publics tasks of_team w is holds event next step in
         let mail = old.mail (not_there not_was) in
         record {
           ran = ran_next;
@@ -193,7 +193,7 @@ module _ (value : AgentTask → Numbers → Numbers → Option ℕ) (publics : �
           agents = agents_recorded value w next event step k passed old.cut old.agents not_was now;
           mail = λ upto. (
             mail.0,
-            recorded_event value publics tasks team w is holds k some old.cut mail.0 mail.1 event next step
+            recorded_event value publics tasks of_team w is holds k some old.cut mail.0 mail.1 event next step
                 is_next holds_next not_was now,
           );
         }
@@ -201,10 +201,10 @@ module _ (value : AgentTask → Numbers → Numbers → Option ℕ) (publics : �
     done : has_recorded k step.agent ≡ false → has_recorded k step.step.after ≡ false
         → IsBeside (past ++ event ∷ []) next
     done not_was not_now =
-        let passed = passes value publics tasks team w is holds event next step in
+        let passed = passes value publics tasks of_team w is holds event next step in
         let mail = old.mail (not_there not_was) in
-        let is_cut = run_of_team value limit tasks (cut_from value k start past) old.cut old.cut_ran in
-        let too = event_too value publics tasks team w is holds k old.cut is_cut mail.0 mail.1 event next step
+        let is_cut = run_of_team team (cut_from value k start past) old.cut old.cut_ran in
+        let too = event_too value publics tasks of_team w is holds k old.cut is_cut mail.0 mail.1 event next step
         (old.agents.unrecorded (agent_of event) step.agent step.there not_was) not_was not_now
         in
         record {
@@ -233,7 +233,7 @@ module _ (value : AgentTask → Numbers → Numbers → Option ℕ) (publics : �
         by false not_was false not_now = done not_was not_now
 
   pub beside : (schedule : List Event) (w : World)
-      → run_of (after_event value) (start_world value limit tasks) schedule ≡ Some w → IsBeside schedule w
+      → run_of (after_event value) (start_world team) schedule ≡ Some w → IsBeside schedule w
   beside schedule w ran =
       run_keeps_history (after_event value) IsBeside
       (λ past v next event old leads. beside_next past v event next old leads) [] schedule start w start_beside ran

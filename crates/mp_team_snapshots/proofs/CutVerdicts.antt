@@ -8,8 +8,6 @@ use Rattle.std.proofs.lemmas.Option.{get_or_from_slice_get, none-some, same_Some
 use Rattle.mp_list.specs.First.{leftmost}
 use Rattle.mp_list.proofs.FirstLemmas.{found_first}
 use Rattle.mp_runs.specs.Run.{run as run_of}
-use Rattle.mp_sets.specs.Numbers.{Numbers}
-use Rattle.mp_task.specs.AgentTask.{AgentTask}
 use Rattle.mp_messages.specs.declared.history.Event.{Event}
 use Rattle.mp_messages.specs.declared.message.Findings.{Findings}
 use Rattle.mp_messages.specs.declared.message.Message.TheVariants.{Marker}
@@ -28,6 +26,7 @@ use Rattle.mp_search.specs.Search.{bound}
 use Rattle.mp_machine.specs.AgentRecord.{AgentRecord, given_verdict}
 use Rattle.mp_machine.specs.Outgoing.{others}
 use Rattle.mp_world.specs.Events.{after_event}
+use Rattle.mp_world.specs.Team.{Team}
 use Rattle.mp_world.specs.World.{IsTeamWorld, World, agent_at, start_world, under_way}
 use Rattle.mp_world.proofs.Agents.{agent_there}
 use Rattle.mp_world.proofs.Runs.{run_of_team}
@@ -83,16 +82,16 @@ goal_of_bound cost r is = by (leftmost is_cheaper None (those (λ e. e.goal) r.e
           cost_is = costs;
         }
 
-module _ (value : AgentTask → Numbers → Numbers → Option ℕ) (publics : ℕ) (tasks : List AgentTask)
-    (team : IsTeamOf publics tasks) (limit : ℕ)
-    (schedule : List Event) (w : World)
-    (ran : run_of (after_event value) (start_world value limit tasks) schedule ≡ Some w)
-    (first : AgentRecord) (there : agent_at w 1 ≡ Some first) (v : Verdict) (given : given_verdict first ≡ Some v) where
+module _ (team : Team) (publics : ℕ) (of_team : IsTeamOf publics team.tasks) (schedule : List Event) (w : World)
+    (ran : run_of (after_event team.value) (start_world team) schedule ≡ Some w) (first : AgentRecord)
+    (there : agent_at w 1 ≡ Some first) (v : Verdict) (given : given_verdict first ≡ Some v) where
+  open team use {tasks, value}
+
   is : IsTeamWorld tasks w
-  is = run_of_team value limit tasks schedule w ran
+  is = run_of_team team schedule w ran
 
   holds : HoldsInRuns publics w
-  holds = holds_in_runs value publics tasks team limit schedule w ran
+  holds = holds_in_runs team publics of_team schedule w ran
 
   abbrev k : ℕ
   k = first.snapshot.number
@@ -101,24 +100,24 @@ module _ (value : AgentTask → Numbers → Numbers → Option ℕ) (publics : �
   some = let positive = (verdict_there first v given).some in omega arith
 
   over : IsSnapshotOver publics w first
-  over = verdict_is_over publics tasks team w is holds.sound first v there given
+  over = verdict_is_over publics tasks of_team w is holds.sound first v there given
 
-  pub next_to : IsBeside value publics tasks team limit first.snapshot.number some schedule w
-  next_to = beside value publics tasks team limit first.snapshot.number some schedule w ran
+  pub next_to : IsBeside team publics of_team first.snapshot.number some schedule w
+  next_to = beside team publics of_team first.snapshot.number some schedule w ran
 
   abbrev c : World
   c = next_to.cut
 
   is_c : IsTeamWorld tasks c
   is_c =
-      run_of_team value limit tasks
-      (cut_from value first.snapshot.number (start_world value limit tasks) schedule) c next_to.cut_ran
+      run_of_team team
+      (cut_from value first.snapshot.number (start_world team) schedule) c next_to.cut_ran
 
   numbers : HasNumbers tasks w
-  numbers = team_numbers publics tasks team w is
+  numbers = team_numbers publics tasks of_team w is
 
   numbers_c : HasNumbers tasks c
-  numbers_c = team_numbers publics tasks team c is_c
+  numbers_c = team_numbers publics tasks of_team c is_c
 
   upto : (note_at w 1).number ≤ k
   upto = let same = ap (λ s. s.number) (note_of w 1 first there) in omega arith
@@ -140,20 +139,20 @@ module _ (value : AgentTask → Numbers → Numbers → Option ℕ) (publics : �
 
   note_recorded : (i : ℕ) → IsOf (length tasks) i → recorded k (note_at w i) ≡ true
   note_recorded i of =
-      let found = agent_there w i (is_agent_of publics tasks team w numbers i of) in
+      let found = agent_there w i (is_agent_of publics tasks of_team w numbers i of) in
       ap (recorded k) (note_of w i found.0 found.1)
-      ∙ is_recorded found.0 (at_me publics tasks team w numbers i found.0 found.1)
+      ∙ is_recorded found.0 (at_me publics tasks of_team w numbers i found.0 found.1)
 
   note_taken : (i j : ℕ) → IsOf (length tasks) i → IsOf (length tasks) j → taken_in k (note_at w j) i ≡ true
   note_taken i j of_i of_j =
-      let found = agent_there w j (is_agent_of publics tasks team w numbers j of_j) in
+      let found = agent_there w j (is_agent_of publics tasks of_team w numbers j of_j) in
       let r = found.0 in
-      let at = at_me publics tasks team w numbers j r found.1 in
+      let at = at_me publics tasks of_team w numbers j r found.1 in
       let notes = holds.sound.notes r at in
       and_from (recorded k (note_at w j)) (has (note_at w j).marked i) (note_recorded j of_j)
       (ap (λ s. has s.marked i) (note_of w j r found.1)
       ∙ whole_has r.snapshot (length tasks) i
-      (notes.agents ∙ numbers.size) notes.marked of_i.from_1 of_i.at_most team.agents (over.whole r at))
+      (notes.agents ∙ numbers.size) notes.marked of_i.from_1 of_i.at_most of_team.agents (over.whole r at))
 
   -- what is under way after the cut is what was counted
   under_way_is : (i j : ℕ) → IsOf (length tasks) i → IsOf (length tasks) j → i ≢ j → under_way c i j ≡ counted i j
@@ -168,7 +167,7 @@ module _ (value : AgentTask → Numbers → Numbers → Option ℕ) (publics : �
 
   module _ (now : AgentRecord) (at : agent_at w now.task.me ≡ Some now) where
     its : IsOf (length tasks) now.task.me
-    its = is_of_there publics tasks team w numbers now.task.me now at
+    its = is_of_there publics tasks of_team w numbers now.task.me now at
 
     since : (then : AgentRecord) × (agent_at c now.task.me ≡ Some then) × IsSinceRecording k then now
     since = next_to.agents.recorded now.task.me now at (is_recorded now at)
@@ -182,7 +181,7 @@ module _ (value : AgentTask → Numbers → Numbers → Option ℕ) (publics : �
     under_way_found : (own now.snapshot).under_way ≡ least_under_way c then
     under_way_found =
         let me = ap (λ t. t.me) since.2.task in
-        let facts = sym (its_publics publics tasks team w is now at) ∙ ap (λ t. t.publics) since.2.task in
+        let facts = sym (its_publics publics tasks of_team w is now at) ∙ ap (λ t. t.publics) since.2.task in
         let size = sym numbers_c.size in
         ap (λ s. (own s).under_way) (sym (note_of w now.task.me now at))
         ∙ mail.least now.task.me its (note_recorded now.task.me its)
@@ -225,12 +224,12 @@ module _ (value : AgentTask → Numbers → Numbers → Option ℕ) (publics : �
       ≡ slice_index_or (map (λ r. own r.snapshot) w.agents) p d
   found_at p d inside =
       let of : IsOf (length tasks) (suc p) = record { from_1 = omega arith; at_most = omega arith } in
-      let here = agent_there w (suc p) (is_agent_of publics tasks team w numbers (suc p) of) in
+      let here = agent_there w (suc p) (is_agent_of publics tasks of_team w numbers (suc p) of) in
       let now = here.0 in
-      let at = at_me publics tasks team w numbers (suc p) now here.1 in
+      let at = at_me publics tasks of_team w numbers (suc p) now here.1 in
       let found = found_there now at in
       let then_at : slice_get c.agents p ≡ Some found.then =
-      sym (ap (agent_at c) (me_of publics tasks team w numbers (suc p) now here.1)) ∙ found.there in
+      sym (ap (agent_at c) (me_of publics tasks of_team w numbers (suc p) now here.1)) ∙ found.there in
       get_or-map (numbered k) (map (findings_in c) c.agents) p (findings_in c found.then) d
       (subst (λ n. p < n) (sym (length-map c.agents (findings_in c) ∙ numbers_c.size)) inside)
       ∙ ap (numbered k) (get_or-map (findings_in c) c.agents p found.then (findings_in c found.then)
@@ -253,7 +252,7 @@ module _ (value : AgentTask → Numbers → Numbers → Option ℕ) (publics : �
   rule : verdict_in c ≡ v
   rule =
       sym (verdict_same k (map (findings_in c) c.agents)) ∙ ap verdict_of all_found
-      ∙ verdict_is_rule publics tasks team w is holds.sound first v there given
+      ∙ verdict_is_rule publics tasks of_team w is holds.sound first v there given
 
   -- ---- a proved plan
 
@@ -284,11 +283,11 @@ module _ (value : AgentTask → Numbers → Numbers → Option ℕ) (publics : �
     found_now : (now : AgentRecord) × (agent_at w agent ≡ Some now)
     found_now =
         agent_there w agent
-        (is_agent_of publics tasks team w numbers agent
-        (is_of_there publics tasks team c numbers_c agent found_then.0 then_there))
+        (is_agent_of publics tasks of_team w numbers agent
+        (is_of_there publics tasks of_team c numbers_c agent found_then.0 then_there))
 
     now_there : agent_at w found_now.0.task.me ≡ Some found_now.0
-    now_there = at_me publics tasks team w numbers agent found_now.0 found_now.1
+    now_there = at_me publics tasks of_team w numbers agent found_now.0 found_now.1
 
     now_found : HasFoundThere k w c found_now.0
     now_found = found_there found_now.0 now_there
@@ -296,7 +295,7 @@ module _ (value : AgentTask → Numbers → Numbers → Option ℕ) (publics : �
     then_is : now_found.then ≡ found_then.0
     then_is =
         same_Some now_found.then found_then.0
-        (sym now_found.there ∙ ap (agent_at c) (me_of publics tasks team w numbers agent found_now.0 found_now.1)
+        (sym now_found.there ∙ ap (agent_at c) (me_of publics tasks of_team w numbers agent found_now.0 found_now.1)
         ∙ then_there)
 
     since_then : IsSinceRecording k found_then.0 found_now.0

@@ -1,11 +1,10 @@
 -- An event of an agent that has not recorded and does not record by it, in a world: it happens after the cut, too.
-use Rattle.std.proofs.Common.{◌≡◌, ◌≢◌, ℕ, true, false, List, [], ◌∷◌, ◌++◌, length, Option, Some, None, refl, sym, ap}
+use Rattle.std.proofs.Common.{◌≡◌, ◌≢◌, ℕ, true, false, List, [], ◌∷◌, ◌++◌, length, Some, None, refl, sym, ap}
 use Rattle.std.proofs.Common.{◌∙◌, arith, inl, inr}
 use Rattle.std.specs.Prelude.{◌==◌, not, slice_index_or, Ok}
 use Rattle.std.proofs.Math.Dec.{eqb-suc-zero}
 use Rattle.std.proofs.lemmas.Bool.{false≢true, le-leb}
 use Rattle.std.proofs.lemmas.Option.{same_Some}
-use Rattle.mp_sets.specs.Numbers.{Numbers}
 use Rattle.mp_task.specs.AgentTask.{AgentTask}
 use Rattle.mp_messages.specs.declared.history.Event.{Event}
 use Rattle.mp_messages.specs.declared.history.Event.TheVariants.{Expand, Take, Start}
@@ -16,6 +15,7 @@ use Rattle.mp_messages.specs.Spelling.{spelling}
 use Rattle.mp_machine.specs.LocalStep.{local}
 use Rattle.mp_world.specs.Events.{after_event, after_local, agent_of, has_message, local_of, local_step, sent_in, taken}
 use Rattle.mp_world.specs.Steps.{IsStepOf, sent_to}
+use Rattle.mp_world.specs.Values.{Values}
 use Rattle.mp_world.specs.World.{IsTeamWorld, World, agent_at, under_way}
 use Rattle.mp_world.proofs.Agents.{agent_there}
 use Rattle.mp_world.proofs.RunOfLog.{event_leads}
@@ -35,7 +35,7 @@ use Rattle.mp_team_snapshots.proofs.Moving.{moved, taken_front, to_expanding, to
 use Rattle.mp_team_snapshots.proofs.Readings.{marker_read}
 use Rattle.mp_team_snapshots.proofs.Taken.{a_b, both, cutting, is_a, is_b, is_its, read_in_team, small_number, taking}
 
-module _ (value : AgentTask → Numbers → Numbers → Option ℕ) (publics : ℕ) (tasks : List AgentTask)
+module _ (value : Values) (publics : ℕ) (tasks : List AgentTask)
     (team : IsTeamOf publics tasks) (w : World)
     (is : IsTeamWorld tasks w) (holds : HoldsInRuns publics w) (k : ℕ) (c : World) (is_c : IsTeamWorld tasks c)
     (counted : ℕ → ℕ → List (List ℕ))

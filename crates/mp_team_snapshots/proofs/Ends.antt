@@ -3,7 +3,6 @@ use Rattle.std.proofs.Common.{◌≡◌, ◌≢◌, ℕ, Bool, true, false, List
 use Rattle.std.specs.Prelude.{◌==◌, Contains, not}
 use Rattle.std.specs.List.{filter_map}
 use Rattle.std.proofs.lemmas.Bool.{eqb-false}
-use Rattle.mp_sets.specs.Numbers.{Numbers}
 use Rattle.mp_task.specs.AgentTask.{AgentTask}
 use Rattle.mp_messages.specs.declared.history.Event.{Event}
 use Rattle.mp_messages.specs.declared.history.Event.TheVariants.{Expand, Take, Start}
@@ -12,6 +11,8 @@ use Rattle.mp_messages.specs.declared.message.Message.{Message}
 use Rattle.mp_machine.specs.AgentRecord.{AgentRecord}
 use Rattle.mp_world.specs.Events.{agent_of, local_of, taken}
 use Rattle.mp_world.specs.Steps.{IsStepOf}
+use Rattle.mp_world.specs.Team.{Team}
+use Rattle.mp_world.specs.Values.{Values}
 use Rattle.mp_world.specs.World.{IsTeamWorld, World, agent_at, start_world}
 use Rattle.mp_team_snapshots.specs.Messages.{end_of, ends, messages}
 use Rattle.mp_team_snapshots.specs.Snapshots.{AreEndsOfFirst, AreTwo}
@@ -31,7 +32,7 @@ ends_part = record { state = λ s. refl; pick = λ n. refl; trace = λ sent back
 
 -- Where no message with some part is under way between certain agents, none is after an event that sends none.
 module _ {X : Type 0} (part : Message → Option X) (is_part : IsPart part) (Between : ℕ → ℕ → Type 0)
-    (value : AgentTask → Numbers → Numbers → Option ℕ) (publics : ℕ) (tasks : List AgentTask) (team : IsTeamOf publics tasks) (w : World)
+    (value : Values) (publics : ℕ) (tasks : List AgentTask) (team : IsTeamOf publics tasks) (w : World)
     (is : IsTeamWorld tasks w)
     (before : (i j : ℕ) → IsOf (length tasks) i → IsOf (length tasks) j → Between i j → filter_map part (messages publics w i j) ≡ []) where
   -- none in a list, and none where the first is taken
@@ -80,7 +81,7 @@ module _ {X : Type 0} (part : Message → Option X) (is_part : IsPart part) (Bet
 
 -- ---- in worlds
 
-pub ends_kept : (value : AgentTask → Numbers → Numbers → Option ℕ) (publics : ℕ) (tasks : List AgentTask) → IsTeamOf publics tasks
+pub ends_kept : (value : Values) (publics : ℕ) (tasks : List AgentTask) → IsTeamOf publics tasks
     → (w : World) (event : Event) (next : World) → IsTeamWorld tasks w → (step : IsStepOf value w event next) → SendsFitting step.step
     → AreEndsOfFirst publics w → AreEndsOfFirst publics next
 ends_kept value publics tasks team w event next is step fits old = record {
@@ -103,10 +104,9 @@ ends_kept value publics tasks team w event next is step fits old = record {
     before = both publics tasks team w (team_numbers publics tasks team w is) (λ i j. i ≢ j → i ≢ 1 → ends publics w i j ≡ [])
         (λ a b there_a there_b off other. old.none a b (record { one = there_a; other = there_b; different = off }) other)
 
-pub ends_new : (value : AgentTask → Numbers → Numbers → Option ℕ) (limit publics : ℕ) (tasks : List AgentTask) → IsTeamOf publics tasks
-    → AreEndsOfFirst publics (start_world value limit tasks)
-ends_new value limit publics tasks team = record {
-  none = λ a b two other. ap (filter_map end_of) (no_messages value limit publics tasks team a.task.me b.task.me);
+pub ends_new : (team : Team) (publics : ℕ) → IsTeamOf publics team.tasks → AreEndsOfFirst publics (start_world team)
+ends_new team publics of_team = record {
+  none = λ a b two other. ap (filter_map end_of) (no_messages team publics of_team a.task.me b.task.me);
 }
 
 -- so an end that is under way is not strange

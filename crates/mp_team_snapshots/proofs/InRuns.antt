@@ -1,9 +1,8 @@
 -- In every world that a legal schedule leads to snapshots are sound, and agent 1 alone has ended the search.
-use Rattle.std.proofs.Common.{◌≡◌, ℕ, zero, suc, ◌-◌, ◌<◌, ◌^◌, Bool, true, false, List, length, Option, Some, eqb, refl, sym, ap, subst, ◌∙◌, lit<}
+use Rattle.std.proofs.Common.{◌≡◌, ℕ, zero, suc, ◌-◌, ◌<◌, ◌^◌, Bool, true, false, List, length, Some, eqb, refl, sym, ap, subst, ◌∙◌, lit<}
 use Rattle.std.specs.Prelude.{replicate, slice_index_or}
 use Rattle.std.proofs.lemmas.Bool.{eqb-false, eqb-true}
 use Rattle.std.proofs.lemmas.Option.{same_Some}
-use Rattle.mp_sets.specs.Numbers.{Numbers}
 use Rattle.mp_task.specs.AgentTask.{AgentTask}
 use Rattle.mp_messages.specs.declared.history.Event.{Event}
 use Rattle.mp_messages.specs.Spelling.{AreFindings}
@@ -11,6 +10,8 @@ use Rattle.mp_snapshot.specs.Rules.{before_all, nothing, own}
 use Rattle.mp_machine.specs.AgentRecord.{AgentRecord}
 use Rattle.mp_world.specs.Events.{agent_of, run}
 use Rattle.mp_world.specs.Steps.{IsStepOf}
+use Rattle.mp_world.specs.Team.{Team}
+use Rattle.mp_world.specs.Values.{Values}
 use Rattle.mp_world.specs.World.{IsTeamWorld, World, agent_at, start_world}
 use Rattle.mp_world.proofs.LogOfRun.{new_at}
 use Rattle.mp_world.proofs.Runs.{run_has}
@@ -38,7 +39,7 @@ pub record HoldsInRuns (publics : ℕ) (w : World) : Type 0 where
   pub ends : AreEndsOfFirst publics w
   pub room : (i : ℕ) (r : AgentRecord) → agent_at w i ≡ Some r → IsRoomy r
 
-module _ (value : AgentTask → Numbers → Numbers → Option ℕ) (publics : ℕ) (tasks : List AgentTask) (team : IsTeamOf publics tasks) where
+module _ (value : Values) (publics : ℕ) (tasks : List AgentTask) (team : IsTeamOf publics tasks) where
   module _ (w : World) (event : Event) (next : World) (is : IsTeamWorld tasks w) (old : HoldsInRuns publics w) (step : IsStepOf value w event next) where
     seen : Sound (length tasks) (view publics w)
     seen = to_view publics tasks team w (team_numbers publics tasks team w is) old.sound
@@ -68,26 +69,28 @@ module _ (value : AgentTask → Numbers → Numbers → Option ℕ) (publics : �
       room = room_next;
     }
 
-  module _ (limit : ℕ) where
-    new_room : (i : ℕ) (r : AgentRecord) → agent_at (start_world value limit tasks) i ≡ Some r → IsRoomy r
-    new_room i r there =
-        subst IsRoomy (sym (new_at value limit tasks i r there)) (record {
-          number = lit< tt;
-          own = new_own r.task.me r.task.agents;
-          entries = start_small r.task (value r.task);
-        })
-      where
-        nothing_fits : AreFindings nothing
-        nothing_fits = record { number = lit< tt; least = tt; under_way = tt; goal = tt }
+module _ (team : Team) (publics : ℕ) (of_team : IsTeamOf publics team.tasks) where
+  open team use {tasks, value}
 
-        new_own : (me agents : ℕ) → AreFindings (own (before_all me agents))
-        new_own me agents = own_new me agents nothing_fits
+  new_room : (i : ℕ) (r : AgentRecord) → agent_at (start_world team) i ≡ Some r → IsRoomy r
+  new_room i r there =
+      subst IsRoomy (sym (new_at team i r there)) (record {
+        number = lit< tt;
+        own = new_own r.task.me r.task.agents;
+        entries = start_small r.task (value r.task);
+      })
+    where
+      nothing_fits : AreFindings nothing
+      nothing_fits = record { number = lit< tt; least = tt; under_way = tt; goal = tt }
 
-    pub holds_in_runs : (schedule : List Event) (w : World) → run value limit tasks schedule ≡ Some w → HoldsInRuns publics w
-    holds_in_runs = run_has value limit tasks (HoldsInRuns publics)
-        (record {
-          sound = start_snapshots value limit publics tasks team;
-          ends = ends_new value limit publics tasks team;
-          room = new_room;
-        })
-        (λ w event next is old step. holds_next w event next is old step)
+      new_own : (me agents : ℕ) → AreFindings (own (before_all me agents))
+      new_own me agents = own_new me agents nothing_fits
+
+  pub holds_in_runs : (schedule : List Event) (w : World) → run team schedule ≡ Some w → HoldsInRuns publics w
+  holds_in_runs = run_has team (HoldsInRuns publics)
+      (record {
+        sound = start_snapshots team publics of_team;
+        ends = ends_new team publics of_team;
+        room = new_room;
+      })
+      (λ w event next is old step. holds_next value publics tasks of_team w event next is old step)

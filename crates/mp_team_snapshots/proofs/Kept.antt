@@ -1,10 +1,9 @@
 -- Snapshots are sound at the start, and each event keeps them so.
-use Rattle.std.proofs.Common.{◌≡◌, ℕ, zero, suc, ◌+◌, ◌-◌, false, List, [], length, replicate, Option, Some, None, refl, sym, ap, subst, ◌∙◌, arith, inl, inr}
+use Rattle.std.proofs.Common.{◌≡◌, ℕ, zero, suc, ◌+◌, ◌-◌, false, List, [], length, replicate, Some, None, refl, sym, ap, subst, ◌∙◌, arith, inl, inr}
 use Rattle.std.specs.Prelude.{nat_lt, slice_index_or}
 use Rattle.std.specs.List.{filter_map}
 use Rattle.std.proofs.lemmas.Bool.{and_left}
 use Rattle.std.proofs.lemmas.List.{get_or-replicate, length-replicate}
-use Rattle.mp_sets.specs.Numbers.{Numbers}
 use Rattle.mp_task.specs.AgentTask.{AgentTask}
 use Rattle.mp_messages.specs.declared.history.Event.{Event}
 use Rattle.mp_messages.specs.declared.history.Event.TheVariants.{Expand, Take, Start}
@@ -16,6 +15,8 @@ use Rattle.mp_snapshot.specs.Rules.{before_all, has, is_whole, nothing, own}
 use Rattle.mp_machine.specs.LocalStep.{with_search}
 use Rattle.mp_world.specs.Events.{taken}
 use Rattle.mp_world.specs.Steps.{IsStepOf}
+use Rattle.mp_world.specs.Team.{Team}
+use Rattle.mp_world.specs.Values.{Values}
 use Rattle.mp_world.specs.World.{IsTeamWorld, World, start_world, under_way}
 use Rattle.mp_world.proofs.Agents.{agent_there, member_of}
 use Rattle.mp_world.proofs.LogOfRun.{new_at}
@@ -36,7 +37,7 @@ use Rattle.mp_team_snapshots.proofs.TakenReport.{report_taken_sound}
 use Rattle.mp_team_snapshots.proofs.TakingFirst.{is_receiver, is_sender, markers_left, reports_left}
 use Rattle.mp_team_snapshots.proofs.Worlds.{from_view, is_agent_of, note_at, note_of, team_numbers, to_view, view}
 
-module _ (value : AgentTask → Numbers → Numbers → Option ℕ) (publics : ℕ) (tasks : List AgentTask) (team : IsTeamOf publics tasks) (w : World)
+module _ (value : Values) (publics : ℕ) (tasks : List AgentTask) (team : IsTeamOf publics tasks) (w : World)
     (is : IsTeamWorld tasks w) (before : Sound (length tasks) (view publics w)) where
   expansion_keeps : (agent : ℕ) (next : World) (step : IsStepOf value w (Expand agent) next) → SendsFitting step.step
       → Sound (length tasks) (view publics next)
@@ -95,7 +96,7 @@ module _ (value : AgentTask → Numbers → Numbers → Option ℕ) (publics : �
   event_keeps (Take b a) next step fits = take_keeps b a next step fits
   event_keeps Start next step fits = start_sound value publics tasks team w is next step fits before
 
-pub sound_kept : (value : AgentTask → Numbers → Numbers → Option ℕ) (publics : ℕ) (tasks : List AgentTask) → IsTeamOf publics tasks
+pub sound_kept : (value : Values) (publics : ℕ) (tasks : List AgentTask) → IsTeamOf publics tasks
     → (w : World) (event : Event) (next : World) → IsTeamWorld tasks w → (step : IsStepOf value w event next) → SendsFitting step.step
     → AreSnapshotsSound publics w → AreSnapshotsSound publics next
 sound_kept value publics tasks team w event next is step fits sound =
@@ -112,21 +113,23 @@ none_in k zero = refl
 none_in zero (suc n) = refl
 none_in (suc k) (suc n) = none_in k n
 
-module _ (value : AgentTask → Numbers → Numbers → Option ℕ) (limit publics : ℕ) (tasks : List AgentTask) (team : IsTeamOf publics tasks) where
+module _ (team : Team) (publics : ℕ) (of_team : IsTeamOf publics team.tasks) where
+  open team use {tasks}
+
   abbrev w : World
-  w = start_world value limit tasks
+  w = start_world team
 
   is_team : IsTeamWorld tasks w
-  is_team = start_is_team value limit tasks
+  is_team = start_is_team team
 
   note_new : (i : ℕ) → IsOf (length tasks) i → note_at w i ≡ before_all i (length tasks)
   note_new i is =
-      let found = agent_there w i (is_agent_of publics tasks team w (team_numbers publics tasks team w is_team) i is) in
+      let found = agent_there w i (is_agent_of publics tasks of_team w (team_numbers publics tasks of_team w is_team) i is) in
       let r = found.0 in
-      let of = member_of tasks team.numbered w is_team i r found.1 in
+      let of = member_of tasks of_team.numbered w is_team i r found.1 in
       let me = of.me in
       let agents = of.agents in
-      note_of w i r found.1 ∙ ap (λ x. x.snapshot) (new_at value limit tasks i r found.1) ∙ (λ k. before_all (me k) (agents k))
+      note_of w i r found.1 ∙ ap (λ x. x.snapshot) (new_at team i r found.1) ∙ (λ k. before_all (me k) (agents k))
 
   nothing_under_way : (i j : ℕ) → under_way w i j ≡ []
   nothing_under_way i j = row (i - 1) (length tasks) (length tasks)
@@ -140,7 +143,7 @@ module _ (value : AgentTask → Numbers → Numbers → Option ℕ) (limit publi
   no_messages i j = ap (filter_map (message_of (length w.agents) publics)) (nothing_under_way i j)
 
   is_first : IsOf (length tasks) 1
-  is_first = record { from_1 = omega arith; at_most = team.some }
+  is_first = record { from_1 = omega arith; at_most = of_team.some }
 
   last_new : (note_at w 1).number ≡ 0
   last_new = ap (λ s. s.number) (note_new 1 is_first)
@@ -152,7 +155,7 @@ module _ (value : AgentTask → Numbers → Numbers → Option ℕ) (limit publi
   new_number i is =
       let low = is.from_1 in
       let high = is.at_most in
-      let small = team.agents in
+      let small = of_team.agents in
       ap (λ f. f.number) (get_or-replicate 16 (i - 1) nothing nothing (omega arith))
 
   new_sound : Sound (length tasks) (view publics w)
@@ -183,4 +186,4 @@ module _ (value : AgentTask → Numbers → Numbers → Option ℕ) (limit publi
   }
 
   pub start_snapshots : AreSnapshotsSound publics w
-  start_snapshots = from_view publics tasks team w (team_numbers publics tasks team w is_team) new_sound
+  start_snapshots = from_view publics tasks of_team w (team_numbers publics tasks of_team w is_team) new_sound

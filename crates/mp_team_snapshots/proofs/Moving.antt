@@ -1,14 +1,14 @@
 -- The messages under way between two agents, before and after an event.
-use Rattle.std.proofs.Common.{◌≡◌, ◌≢◌, ℕ, Bool, true, List, [], ◌∷◌, ◌++◌, length, drop, Option, refl, sym, ap, ◌∙◌}
+use Rattle.std.proofs.Common.{◌≡◌, ◌≢◌, ℕ, Bool, true, List, [], ◌∷◌, ◌++◌, length, drop, refl, sym, ap, ◌∙◌}
 use Rattle.std.proofs.Common.{append-nil, ◌⊎◌, inl, inr}
 use Rattle.std.specs.Prelude.{◌==◌, not, if◌then◌else◌, slice_index_or}
 use Rattle.std.proofs.lemmas.Bool.{eq-eqb, eqb-true, false_from_ne_true}
-use Rattle.mp_sets.specs.Numbers.{Numbers}
 use Rattle.mp_task.specs.AgentTask.{AgentTask}
 use Rattle.mp_messages.specs.declared.history.Event.{Event}
 use Rattle.mp_messages.specs.declared.history.Event.TheVariants.{Expand, Take, Start}
 use Rattle.mp_world.specs.Events.{agent_of, sent_in, taken, without_taken}
 use Rattle.mp_world.specs.Steps.{IsStepOf, sent_to}
+use Rattle.mp_world.specs.Values.{Values}
 use Rattle.mp_world.specs.World.{IsAgent, IsTeamWorld, World, under_way}
 use Rattle.mp_world.proofs.Mail.{under_way-other, under_way-same}
 use Rattle.mp_world.proofs.Stepping.{team_lists}
@@ -21,7 +21,7 @@ front_there : (xs : List (List ℕ)) → not (length xs == 0) ≡ true → xs �
 front_there [] some = absurd cc
 front_there (x ∷ xs) some = refl
 
-module _ (value : AgentTask → Numbers → Numbers → Option ℕ) (publics : ℕ) (tasks : List AgentTask)
+module _ (value : Values) (publics : ℕ) (tasks : List AgentTask)
     (team : IsTeamOf publics tasks) (w : World)
     (is : IsTeamWorld tasks w) where
   in_world : (i : ℕ) → IsOf (length tasks) i → IsAgent w i

@@ -1,11 +1,10 @@
 -- Events by which no snapshot begins and no marker and no report is taken or sent: expansions, and states and messages of a
 -- walk back that are taken.
-use Rattle.std.proofs.Common.{◌≡◌, ℕ, ◌-◌, ◌≤◌, ◌<◌, Bool, true, false, eqb, List, length, Option, Some, refl, sym, ap, subst, ◌∙◌, arith, inr}
+use Rattle.std.proofs.Common.{◌≡◌, ℕ, ◌-◌, ◌≤◌, ◌<◌, Bool, true, false, eqb, List, length, Some, refl, sym, ap, subst, ◌∙◌, arith, inr}
 use Rattle.std.specs.Prelude.{nat_lt, not, if◌then◌else◌}
 use Rattle.std.specs.List.{filter_map}
 use Rattle.std.proofs.lemmas.Bool.{and_parts, eqb-false, eqb-true, false_from_ne_true}
 use Rattle.std.proofs.lemmas.List.{get_or-set_other, get_or-set_same, length-set}
-use Rattle.mp_sets.specs.Numbers.{Numbers}
 use Rattle.mp_task.specs.AgentTask.{AgentTask}
 use Rattle.mp_messages.specs.declared.history.Event.{Event}
 use Rattle.mp_snapshot.specs.Minima.{lesser}
@@ -13,6 +12,7 @@ use Rattle.mp_snapshot.specs.Notes.{Notes}
 use Rattle.mp_snapshot.specs.Rules.{after_state, has, is_counted, is_whole, nothing, own, with_state}
 use Rattle.mp_world.specs.Events.{agent_of}
 use Rattle.mp_world.specs.Steps.{IsStepOf}
+use Rattle.mp_world.specs.Values.{Values}
 use Rattle.mp_world.specs.World.{IsTeamWorld, World}
 use Rattle.mp_team_snapshots.specs.Messages.{marker_of, markers, report_of, reports}
 use Rattle.mp_team_snapshots.specs.Snapshots.{AreNotesOf}
@@ -58,7 +58,7 @@ counts_state agents small s b from f notes is_b is = by (is_counted s from) refl
     by true test = counted test
     by false test = counts_nothing s s refl
 
-module _ (value : AgentTask → Numbers → Numbers → Option ℕ) (publics : ℕ) (tasks : List AgentTask) (team : IsTeamOf publics tasks) (w : World)
+module _ (value : Values) (publics : ℕ) (tasks : List AgentTask) (team : IsTeamOf publics tasks) (w : World)
     (is : IsTeamWorld tasks w) (event : Event) (next : World) (step : IsStepOf value w event next) (fits : SendsFitting step.step)
     (before : Sound (length tasks) (view publics w))
     (silent : IsSilent step.step.out)

@@ -1,11 +1,10 @@
 -- The event by which an agent records, in a world: the world after the cut stays.
 use Rattle.std.proofs.Common.{◌≡◌, ◌≢◌, ℕ, ◌+◌, ◌-◌, ◌≤◌, ◌<◌, ◌^◌, Bool, true, false, List, [], ◌∷◌, ◌++◌, length, map}
-use Rattle.std.proofs.Common.{replicate, Option, None, refl, sym, ap, subst, ◌∙◌, arith, inl, inr}
+use Rattle.std.proofs.Common.{replicate, None, refl, sym, ap, subst, ◌∙◌, arith, inl, inr}
 use Rattle.std.specs.Prelude.{◌==◌, slice_set}
 use Rattle.std.specs.List.{filter_map}
 use Rattle.std.proofs.lemmas.Bool.{and_parts, false_from_ne_true, false≢true, le-leb, leb-false, leb-true}
 use Rattle.std.proofs.lemmas.List.{length-replicate, length-set}
-use Rattle.mp_sets.specs.Numbers.{Numbers}
 use Rattle.mp_task.specs.AgentTask.{AgentTask}
 use Rattle.mp_messages.specs.declared.history.Event.{Event}
 use Rattle.mp_messages.specs.declared.history.Event.TheVariants.{Expand, Take, Start}
@@ -20,6 +19,7 @@ use Rattle.mp_machine.specs.Snapshots.{findings}
 use Rattle.mp_machine.proofs.NotesLemmas.{own_begun}
 use Rattle.mp_world.specs.Events.{agent_of, sent_in, taken}
 use Rattle.mp_world.specs.Steps.{IsStepOf, sent_to}
+use Rattle.mp_world.specs.Values.{Values}
 use Rattle.mp_world.specs.World.{IsTeamWorld, World, under_way}
 use Rattle.mp_world.proofs.Agents.{member_of}
 use Rattle.mp_team_snapshots.specs.Messages.{marker_of}
@@ -52,7 +52,7 @@ sent_bytes j (x ∷ xs) = by (x.to == j) refl (sent_bytes j xs)
     by true test more = rw test (ap (λ ms. spelling x.message ∷ ms) more)
     by false test more = rw test more
 
-module _ (value : AgentTask → Numbers → Numbers → Option ℕ) (publics : ℕ) (tasks : List AgentTask)
+module _ (value : Values) (publics : ℕ) (tasks : List AgentTask)
     (team : IsTeamOf publics tasks) (w : World)
     (is : IsTeamWorld tasks w) (holds : HoldsInRuns publics w) (k : ℕ) (some : 1 ≤ k) (c : World)
     (counted : ℕ → ℕ → List (List ℕ))

@@ -1,9 +1,8 @@
 -- The numbers of all agents stay such as messages have room for, and so are the markers and the reports that go out.
-use Rattle.std.proofs.Common.{◌≡◌, ℕ, ◌+◌, ◌≤◌, ◌<◌, ◌^◌, Bool, true, false, List, ◌∷◌, length, Option, Some, refl, sym, ap, subst, ◌∙◌, arith, inl, inr}
+use Rattle.std.proofs.Common.{◌≡◌, ℕ, ◌+◌, ◌≤◌, ◌<◌, ◌^◌, Bool, true, false, List, ◌∷◌, length, Some, refl, sym, ap, subst, ◌∙◌, arith, inl, inr}
 use Rattle.std.specs.Prelude.{if◌then◌else◌}
 use Rattle.std.specs.List.{filter_map}
 use Rattle.std.proofs.lemmas.Bool.{and_parts}
-use Rattle.mp_sets.specs.Numbers.{Numbers}
 use Rattle.mp_task.specs.AgentTask.{AgentTask}
 use Rattle.mp_messages.specs.declared.history.Event.{Event}
 use Rattle.mp_messages.specs.declared.history.Event.TheVariants.{Expand, Take, Start}
@@ -23,6 +22,7 @@ use Rattle.mp_machine.proofs.NotesLemmas.{own_begun, own_fits_state, own_reporte
 use Rattle.mp_machine.proofs.StepLemmas.{start_parts}
 use Rattle.mp_world.specs.Events.{taken}
 use Rattle.mp_world.specs.Steps.{IsStepOf}
+use Rattle.mp_world.specs.Values.{Values}
 use Rattle.mp_world.specs.World.{IsTeamWorld, World}
 use Rattle.mp_team_snapshots.specs.Messages.{marker_of, markers}
 use Rattle.mp_team_snapshots.specs.Snapshots.{AreNotesOf}
@@ -105,7 +105,7 @@ module _ (agents : ℕ) (small : agents ≤ 16) (r : AgentRecord) (b : ℕ) (not
 
 -- ---- any event
 
-module _ (value : AgentTask → Numbers → Numbers → Option ℕ) (publics : ℕ) (tasks : List AgentTask) (team : IsTeamOf publics tasks) (w : World)
+module _ (value : Values) (publics : ℕ) (tasks : List AgentTask) (team : IsTeamOf publics tasks) (w : World)
     (is : IsTeamWorld tasks w) (before : Sound (length tasks) (view publics w)) (first : (note_at w 1).number < 2 ^ 60) where
   expansion_roomy : (agent : ℕ) (next : World) (step : IsStepOf value w (Expand agent) next) → IsRoomy step.agent → StaysRoomy step.step
   expansion_roomy agent next step room =

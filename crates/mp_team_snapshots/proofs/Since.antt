@@ -1,14 +1,13 @@
 -- The agents after a schedule and after its cut, once an event has happened.
-use Rattle.std.proofs.Common.{◌≡◌, ◌≢◌, ℕ, ◌≤◌, Bool, true, false, eqb, Option, Some, refl, sym, ap, subst, ◌∙◌, arith}
+use Rattle.std.proofs.Common.{◌≡◌, ◌≢◌, ℕ, ◌≤◌, Bool, true, false, eqb, Some, refl, sym, ap, subst, ◌∙◌, arith}
 use Rattle.std.proofs.Common.{◌⊎◌, inl, inr}
 use Rattle.std.proofs.lemmas.Bool.{eqb-false, eqb-true, false≢true, le-leb, leb-false, leb-true}
 use Rattle.std.proofs.lemmas.Option.{same_Some}
-use Rattle.mp_sets.specs.Numbers.{Numbers}
-use Rattle.mp_task.specs.AgentTask.{AgentTask}
 use Rattle.mp_messages.specs.declared.history.Event.{Event}
 use Rattle.mp_machine.specs.AgentRecord.{AgentRecord}
 use Rattle.mp_world.specs.Events.{agent_of}
 use Rattle.mp_world.specs.Steps.{IsStepOf}
+use Rattle.mp_world.specs.Values.{Values}
 use Rattle.mp_world.specs.World.{World, agent_at}
 use Rattle.mp_team_states.specs.Further.{IsFurther}
 use Rattle.mp_team_states.proofs.Growth.{grown_then}
@@ -87,7 +86,7 @@ since_now k r s not_was now further (inr starts) = record {
   };
 }
 
-module _ (value : AgentTask → Numbers → Numbers → Option ℕ) (w next : World) (event : Event)
+module _ (value : Values) (w next : World) (event : Event)
     (step : IsStepOf value w event next) (k : ℕ)
     (passes : Keeps step.agent step.step.after ⊎ Starts step.agent step.step.after) (c : World)
     (before : AreAgentsCut k w c) where

@@ -1,11 +1,10 @@
 -- An event of an agent that has recorded, in a world: the world after the cut stays.
 use Rattle.std.proofs.Common.{◌≡◌, ◌≢◌, ℕ, ◌+◌, ◌≤◌, ◌<◌, ◌^◌, Bool, true, false, ◌&&◌, List, [], ◌∷◌, ◌++◌, length}
-use Rattle.std.proofs.Common.{Option, Some, None, refl, sym, ap, ◌∙◌, arith, inl, inr}
+use Rattle.std.proofs.Common.{Some, None, refl, sym, ap, ◌∙◌, arith, inl, inr}
 use Rattle.std.specs.Prelude.{◌==◌, if◌then◌else◌, not}
 use Rattle.std.specs.List.{filter_map}
 use Rattle.std.specs.Option.{option_and_then}
 use Rattle.std.proofs.lemmas.Bool.{and_from, and_left, and_right, eq-eqb, eqb-true, false_from_ne_true, lt-ltb}
-use Rattle.mp_sets.specs.Numbers.{Numbers}
 use Rattle.mp_task.specs.AgentTask.{AgentTask}
 use Rattle.mp_messages.specs.declared.history.Event.{Event}
 use Rattle.mp_messages.specs.declared.history.Event.TheVariants.{Expand, Take, Start}
@@ -17,6 +16,7 @@ use Rattle.mp_snapshot.specs.Minima.{lesser}
 use Rattle.mp_snapshot.specs.Rules.{has, is_counted, own, with_marker}
 use Rattle.mp_world.specs.Events.{agent_of, sent_in, taken}
 use Rattle.mp_world.specs.Steps.{IsStepOf, sent_to}
+use Rattle.mp_world.specs.Values.{Values}
 use Rattle.mp_world.specs.World.{IsTeamWorld, World, under_way}
 use Rattle.mp_team_snapshots.specs.Messages.{marker_of}
 use Rattle.mp_team_snapshots.specs.Snapshots.{AreNotesOf}
@@ -60,7 +60,7 @@ with_other_from counted a b x i j off =
     ap (λ (t : Bool). if t then counted i j ++ x ∷ [] else counted i j)
     (and_left (i == a) (j == b) (false_from_ne_true (i == a) (λ same. off (eqb-true i a same))))
 
-module _ (value : AgentTask → Numbers → Numbers → Option ℕ) (publics : ℕ) (tasks : List AgentTask)
+module _ (value : Values) (publics : ℕ) (tasks : List AgentTask)
     (team : IsTeamOf publics tasks) (w : World)
     (is : IsTeamWorld tasks w) (holds : HoldsInRuns publics w) (k : ℕ) (some : 1 ≤ k) (c : World)
     (counted : ℕ → ℕ → List (List ℕ))

@@ -1,9 +1,8 @@
 -- Agent 1 starts a snapshot in a world.
-use Rattle.std.proofs.Common.{◌≡◌, ◌≢◌, ℕ, ◌+◌, ◌≤◌, ◌<◌, ◌^◌, Bool, true, false, ◌&&◌, List, [], ◌∷◌, ◌++◌, length, Option, refl, sym, ap, subst, ◌∙◌, append-nil, arith, ◌⊎◌, inl, inr}
+use Rattle.std.proofs.Common.{◌≡◌, ◌≢◌, ℕ, ◌+◌, ◌≤◌, ◌<◌, ◌^◌, Bool, true, false, ◌&&◌, List, [], ◌∷◌, ◌++◌, length, refl, sym, ap, subst, ◌∙◌, append-nil, arith, ◌⊎◌, inl, inr}
 use Rattle.std.specs.Prelude.{All, ◌==◌, nat_lt, not, if◌then◌else◌}
 use Rattle.std.specs.List.{filter_map}
 use Rattle.std.proofs.lemmas.Bool.{and_parts, eq-eqb, ltb-false, ltb-true}
-use Rattle.mp_sets.specs.Numbers.{Numbers}
 use Rattle.mp_task.specs.AgentTask.{AgentTask}
 use Rattle.mp_messages.specs.declared.history.Event.TheVariants.{Start}
 use Rattle.mp_messages.specs.declared.message.Message.TheVariants.{Marker}
@@ -14,6 +13,7 @@ use Rattle.mp_machine.specs.LocalStep.{may_start}
 use Rattle.mp_machine.specs.Outgoing.{Step, others, to_others}
 use Rattle.mp_machine.specs.Snapshots.{findings, judged, started, with_notes}
 use Rattle.mp_world.specs.Steps.{IsStepOf}
+use Rattle.mp_world.specs.Values.{Values}
 use Rattle.mp_world.specs.World.{IsTeamWorld, World}
 use Rattle.mp_machine.proofs.StepLemmas.{start_parts}
 use Rattle.mp_world.proofs.Agents.{member_of}
@@ -59,7 +59,7 @@ start_effect r =
           markers_to-append to first (judged after).out ∙ ap (λ ms. markers_to to first ++ ms) (quiet.silent.markers to) ∙ append-nil (markers_to to first);
     }
 
-module _ (value : AgentTask → Numbers → Numbers → Option ℕ) (publics : ℕ) (tasks : List AgentTask) (team : IsTeamOf publics tasks) (w : World)
+module _ (value : Values) (publics : ℕ) (tasks : List AgentTask) (team : IsTeamOf publics tasks) (w : World)
     (is : IsTeamWorld tasks w) (next : World) (step : IsStepOf value w Start next) (fits : SendsFitting step.step)
     (before : Sound (length tasks) (view publics w)) where
   effect : IsStarted step.agent step.step

@@ -1,10 +1,9 @@
 -- What an agent of a world does at an event, as far as snapshots go.
-use Rattle.std.proofs.Common.{◌≡◌, ◌≢◌, ℕ, ◌+◌, ◌<◌, ◌^◌, true, List, ◌∷◌, length, Option, Some, refl, sym, ap, subst}
+use Rattle.std.proofs.Common.{◌≡◌, ◌≢◌, ℕ, ◌+◌, ◌<◌, ◌^◌, true, List, ◌∷◌, length, Some, refl, sym, ap, subst}
 use Rattle.std.proofs.Common.{◌∙◌, arith, ◌⊎◌, inl, inr}
 use Rattle.std.specs.List.{filter_map}
 use Rattle.std.proofs.lemmas.Bool.{leb-true}
 use Rattle.std.proofs.lemmas.List.Elements.{All-contains}
-use Rattle.mp_sets.specs.Numbers.{Numbers}
 use Rattle.mp_task.specs.AgentTask.{AgentTask}
 use Rattle.mp_messages.specs.declared.history.Event.{Event}
 use Rattle.mp_messages.specs.declared.history.Event.TheVariants.{Expand, Take, Start}
@@ -19,6 +18,7 @@ use Rattle.mp_machine.specs.Outgoing.{others}
 use Rattle.mp_machine.specs.Snapshots.{findings, started}
 use Rattle.mp_world.specs.Events.{agent_of, taken}
 use Rattle.mp_world.specs.Steps.{IsStepOf}
+use Rattle.mp_world.specs.Values.{Values}
 use Rattle.mp_world.specs.World.{IsTeamWorld, World, agent_at, under_way}
 use Rattle.mp_world.proofs.Agents.{member_of}
 use Rattle.mp_team_snapshots.specs.Messages.{marker_of, markers}
@@ -57,7 +57,7 @@ both w c counted = record {
   counted = counted;
 }
 
-module _ (value : AgentTask → Numbers → Numbers → Option ℕ) (publics : ℕ) (tasks : List AgentTask)
+module _ (value : Values) (publics : ℕ) (tasks : List AgentTask)
     (team : IsTeamOf publics tasks) (w : World)
     (is : IsTeamWorld tasks w) (holds : HoldsInRuns publics w) where
   pub sound_view : Sound (length tasks) (view publics w)

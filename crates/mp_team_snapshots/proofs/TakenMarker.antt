@@ -1,7 +1,6 @@
 -- A marker is taken in a world.
-use Rattle.std.proofs.Common.{◌≡◌, ◌≢◌, ℕ, ◌+◌, ◌≤◌, List, [], ◌∷◌, ◌++◌, length, Option, Some, refl, sym, ap, subst, ◌∙◌, ◌⊎◌, inr}
+use Rattle.std.proofs.Common.{◌≡◌, ◌≢◌, ℕ, ◌+◌, ◌≤◌, List, [], ◌∷◌, ◌++◌, length, Some, refl, sym, ap, subst, ◌∙◌, ◌⊎◌, inr}
 use Rattle.std.specs.List.{filter_map}
-use Rattle.mp_sets.specs.Numbers.{Numbers}
 use Rattle.mp_task.specs.AgentTask.{AgentTask}
 use Rattle.mp_messages.specs.declared.history.Event.TheVariants.{Take}
 use Rattle.mp_messages.specs.declared.message.Findings.{Findings}
@@ -13,6 +12,7 @@ use Rattle.mp_machine.specs.Outgoing.{to_others}
 use Rattle.mp_machine.specs.Snapshots.{findings}
 use Rattle.mp_world.specs.Events.{taken}
 use Rattle.mp_world.specs.Steps.{IsStepOf}
+use Rattle.mp_world.specs.Values.{Values}
 use Rattle.mp_world.specs.World.{IsTeamWorld, World}
 use Rattle.mp_world.proofs.Agents.{member_of}
 use Rattle.mp_team_snapshots.specs.Messages.{marker_of, markers, report_of, reports}
@@ -27,7 +27,7 @@ use Rattle.mp_team_snapshots.proofs.Sendings.{markers_to, messages_to, others_ge
 use Rattle.mp_team_snapshots.proofs.TakingFirst.{apart, is_receiver, is_sender, left_others, reports_left, taken_first}
 use Rattle.mp_team_snapshots.proofs.Worlds.{note_at, view}
 
-module _ (value : AgentTask → Numbers → Numbers → Option ℕ) (publics : ℕ) (tasks : List AgentTask) (team : IsTeamOf publics tasks) (w : World)
+module _ (value : Values) (publics : ℕ) (tasks : List AgentTask) (team : IsTeamOf publics tasks) (w : World)
     (is : IsTeamWorld tasks w) (b a : ℕ) (next : World) (step : IsStepOf value w (Take b a) next) (fits : SendsFitting step.step)
     (before : Sound (length tasks) (view publics w))
     (number : ℕ) (read : message_of step.agent.task.agents step.agent.task.publics (taken w (Take b a)) ≡ Some (Marker number)) where

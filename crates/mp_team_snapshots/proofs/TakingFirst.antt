@@ -1,15 +1,15 @@
 -- The message that an agent takes is the oldest one from its sender; all others are left.
-use Rattle.std.proofs.Common.{◌≡◌, ◌≢◌, ℕ, true, List, [], ◌∷◌, length, drop, Option, Some, None, refl, sym, ap, subst, ◌∙◌, ◌⊎◌, inl, inr}
+use Rattle.std.proofs.Common.{◌≡◌, ◌≢◌, ℕ, true, List, [], ◌∷◌, length, drop, Some, None, refl, sym, ap, subst, ◌∙◌, ◌⊎◌, inl, inr}
 use Rattle.std.specs.Prelude.{◌==◌, not, slice_index_or}
 use Rattle.std.specs.List.{filter_map}
 use Rattle.std.proofs.lemmas.List.Elements.{All-contains}
-use Rattle.mp_sets.specs.Numbers.{Numbers}
 use Rattle.mp_task.specs.AgentTask.{AgentTask}
 use Rattle.mp_messages.specs.declared.history.Event.TheVariants.{Take}
 use Rattle.mp_messages.specs.declared.message.Message.{Message}
 use Rattle.mp_messages.specs.Reading.{message_of}
 use Rattle.mp_world.specs.Events.{taken}
 use Rattle.mp_world.specs.Steps.{IsStepOf}
+use Rattle.mp_world.specs.Values.{Values}
 use Rattle.mp_world.specs.World.{IsAgent, IsTeamWorld, World, under_way}
 use Rattle.mp_world.proofs.Agents.{member_of, sender_of}
 use Rattle.mp_world.proofs.Mail.{agent_of_team, under_way-other, under_way-same}
@@ -25,7 +25,7 @@ front_there : (xs : List (List ℕ)) → not (length xs == 0) ≡ true → xs �
 front_there [] some = absurd cc
 front_there (x ∷ xs) some = refl
 
-module _ (value : AgentTask → Numbers → Numbers → Option ℕ) (publics : ℕ) (tasks : List AgentTask) (team : IsTeamOf publics tasks) (w : World)
+module _ (value : Values) (publics : ℕ) (tasks : List AgentTask) (team : IsTeamOf publics tasks) (w : World)
     (is : IsTeamWorld tasks w) (b a : ℕ) (next : World) (step : IsStepOf value w (Take b a) next) where
   sender : IsAgent w a × (a ≢ b)
   sender = sender_of tasks team.numbered w is b a step.agent step.there step.may

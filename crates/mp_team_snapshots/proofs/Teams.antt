@@ -1,25 +1,24 @@
 -- The laws for tasks that agree and are within the limits, of which there may be none.
-use Rattle.std.proofs.Common.{◌≡◌, ℕ, zero, suc, ◌≤◌, Bool, true, false, List, [], ◌∷◌, Option, Some, All, refl, sym}
+use Rattle.std.proofs.Common.{◌≡◌, ℕ, zero, suc, ◌≤◌, Bool, true, false, List, [], ◌∷◌, Some, refl, sym}
 use Rattle.std.proofs.Common.{ap, subst, ◌∙◌, ◌⊎◌, inl, inr}
 use Rattle.std.proofs.lemmas.List.Elements.{All-head}
 use Rattle.std.proofs.lemmas.Option.{none-some, same_Some}
 use Rattle.mp_list.proofs.Members.{contains_head}
 use Rattle.mp_runs.specs.Run.{run as run_of}
 use Rattle.mp_runs.proofs.Runs.{run-none, run_parts}
-use Rattle.mp_sets.specs.Numbers.{Numbers}
 use Rattle.mp_task.specs.AgentTask.{AgentTask}
-use Rattle.mp_task.specs.Agree.{Agree}
-use Rattle.mp_task.specs.Limits.{IsWithinLimits}
 use Rattle.mp_messages.specs.declared.history.Event.{Event}
 use Rattle.mp_snapshot.specs.declared.verdict.Verdict.{Verdict}
 use Rattle.mp_machine.specs.AgentRecord.{AgentRecord, given_verdict}
 use Rattle.mp_world.specs.Events.{after_event, agent_of, run}
+use Rattle.mp_world.specs.Team.{AreTeamTasks, Team, team_with}
+use Rattle.mp_world.specs.Values.{Values}
 use Rattle.mp_world.specs.World.{IsTeamWorld, World, agent_at, start_world}
 use Rattle.mp_world.proofs.Agents.{agent_there}
 use Rattle.mp_world.proofs.Runs.{run_of_team}
 use Rattle.mp_world.proofs.Stepping.{stepped}
 use Rattle.mp_team_snapshots.specs.Team.{IsTeamOf}
-use Rattle.mp_team_snapshots.proofs.Agreeing.{agreeing_team}
+use Rattle.mp_team_snapshots.proofs.Agreeing.{are_of_team}
 use Rattle.mp_team_snapshots.proofs.Worlds.{is_agent_of, is_of_there, note_of, team_numbers}
 use Rattle.mp_team_states.specs.Further.{HaveGrown, IsFurther}
 use Rattle.mp_team_states.proofs.Growth.{grown_not}
@@ -51,38 +50,40 @@ all_grown publics tasks team w is c is_c k agents agent r there =
         (record { task = refl; kept = grown_not now.search.kept })
 
 -- there is no task, or the tasks are those of a team
-none_or_team : (tasks : List AgentTask) → Agree tasks → All IsWithinLimits tasks
-    → (tasks ≡ []) ⊎ ((publics : ℕ) × IsTeamOf publics tasks)
-none_or_team [] agree limits = inl refl
-none_or_team (t ∷ ts) agree limits =
-    inr (t.publics, agreeing_team (t ∷ ts) t agree (contains_head t ts) (All-head IsWithinLimits t ts limits))
+none_or_team : (tasks : List AgentTask) → AreTeamTasks tasks → (tasks ≡ []) ⊎ ((publics : ℕ) × IsTeamOf publics tasks)
+none_or_team [] are = inl refl
+none_or_team (t ∷ ts) are = inr (t.publics, are_of_team (t ∷ ts) t are (contains_head t ts))
 
-module _ (value : AgentTask → Numbers → Numbers → Option ℕ) (limit : ℕ) where
+module _ (value : Values) (limit : ℕ) where
+  -- a team of none
+  abbrev empty : Team
+  empty = team_with value limit []
+
   -- ---- nobody
 
-  nobody : (agent : ℕ) (r : AgentRecord) → agent_at (start_world value limit []) agent ≡ Some r → ⊥
+  nobody : (agent : ℕ) (r : AgentRecord) → agent_at (start_world empty) agent ≡ Some r → ⊥
   nobody zero r there = none-some r there
   nobody (suc k) r there = none-some r there
 
   -- nothing happens
-  nothing_happens : (schedule : List Event) (w : World) → run value limit [] schedule ≡ Some w
-      → (schedule ≡ []) × (start_world value limit [] ≡ w)
+  nothing_happens : (schedule : List Event) (w : World) → run empty schedule ≡ Some w
+      → (schedule ≡ []) × (start_world empty ≡ w)
   nothing_happens [] w ran = (
     refl,
-    same_Some (start_world value limit []) w
-        (sym (run-none (after_event value) (start_world value limit [])) ∙ ran),
+    same_Some (start_world empty) w
+        (sym (run-none (after_event value) (start_world empty)) ∙ ran),
   )
   nothing_happens (e ∷ es) w ran =
-      let parts = run_parts (after_event value) (start_world value limit []) w e es ran in
-      let s = stepped value (start_world value limit []) e parts.0 parts.1 in
+      let parts = run_parts (after_event value) (start_world empty) w e es ran in
+      let s = stepped value (start_world empty) e parts.0 parts.1 in
       absurd (nobody (agent_of e) s.agent s.there)
 
-  none_cut : (k : ℕ) → HasCut value limit [] k [] (start_world value limit [])
+  none_cut : (k : ℕ) → HasCut empty k [] (start_world empty)
   none_cut k = record {
-    world = start_world value limit [];
+    world = start_world empty;
     runs =
-        ap (run_of (after_event value) (start_world value limit [])) (cut_none value k (start_world value limit []))
-        ∙ run-none (after_event value) (start_world value limit []);
+        ap (run_of (after_event value) (start_world empty)) (cut_none value k (start_world empty))
+        ∙ run-none (after_event value) (start_world empty);
     agents = record {
       unrecorded = λ agent r there not_r. there;
       recorded = λ agent r there is_r. absurd (nobody agent r there);
@@ -91,61 +92,62 @@ module _ (value : AgentTask → Numbers → Numbers → Option ℕ) (limit : ℕ
     messages = λ first there upto. absurd (nobody 1 first there);
   }
 
-  nobody_cut : (k : ℕ) (schedule : List Event) (w : World) → run value limit [] schedule ≡ Some w
-      → HasCut value limit [] k schedule w
+  nobody_cut : (k : ℕ) (schedule : List Event) (w : World) → run empty schedule ≡ Some w
+      → HasCut empty k schedule w
   nobody_cut k schedule w ran =
       let nothing = nothing_happens schedule w ran in
-      subst (λ v. HasCut value limit [] k schedule v) nothing.1
-      (subst (λ es. HasCut value limit [] k es (start_world value limit [])) (sym nothing.0) (none_cut k))
+      subst (λ v. HasCut empty k schedule v) nothing.1
+      (subst (λ es. HasCut empty k es (start_world empty)) (sym nothing.0) (none_cut k))
 
-  -- ---- a team
+-- ---- a team
 
-  module _ (tasks : List AgentTask) (schedule : List Event) (w : World)
-      (ran : run value limit tasks schedule ≡ Some w) where
-    team_cut : (publics : ℕ) → IsTeamOf publics tasks → (k : ℕ) → 1 ≤ k → HasCut value limit tasks k schedule w
-    team_cut publics team k some =
-        let b = beside value publics tasks team limit k some schedule w ran in
-        record {
-          world = b.cut;
-          runs = b.cut_ran;
-          agents = b.agents;
-          grown = all_grown publics tasks team w (run_of_team value limit tasks schedule w ran) b.cut
-              (run_of_team value limit tasks
-              (cut_from value k (start_world value limit tasks) schedule) b.cut b.cut_ran) k b.agents;
-          messages = λ first there upto.
-              let mail = b.mail (subst (λ s. s.number ≤ k) (sym (note_of w 1 first there)) upto) in
-              messages_cut publics tasks team w (run_of_team value limit tasks schedule w ran) k b.cut mail.0 mail.1;
-        }
+module _ (team : Team) (schedule : List Event) (w : World) (ran : run team schedule ≡ Some w) where
+  open team use {tasks, value, limit}
 
-    pub has_cut : Agree tasks → All IsWithinLimits tasks → (k : ℕ) → 1 ≤ k → HasCut value limit tasks k schedule w
-    has_cut agree limits k some = by (none_or_team tasks agree limits)
+  team_cut : (publics : ℕ) → IsTeamOf publics tasks → (k : ℕ) → 1 ≤ k → HasCut team k schedule w
+  team_cut publics of_team k some =
+      let b = beside team publics of_team k some schedule w ran in
+      record {
+        world = b.cut;
+        runs = b.cut_ran;
+        agents = b.agents;
+        grown = all_grown publics tasks of_team w (run_of_team team schedule w ran) b.cut
+            (run_of_team team
+            (cut_from value k (start_world team) schedule) b.cut b.cut_ran) k b.agents;
+        messages = λ first there upto.
+            let mail = b.mail (subst (λ s. s.number ≤ k) (sym (note_of w 1 first there)) upto) in
+            messages_cut publics tasks of_team w (run_of_team team schedule w ran) k b.cut mail.0 mail.1;
+      }
+
+  pub has_cut : AreTeamTasks tasks → (k : ℕ) → 1 ≤ k → HasCut team k schedule w
+  has_cut are k some = by (none_or_team tasks are)
+    where
+      by : (tasks ≡ []) ⊎ ((publics : ℕ) × IsTeamOf publics tasks) → HasCut team k schedule w
+      by (inl none) =
+          subst (λ ts. HasCut (record team { tasks = ts }) k schedule w) (sym none)
+          (nobody_cut value limit k schedule w (subst (λ ts. run (record team { tasks = ts }) schedule ≡ Some w) none ran))
+      by (inr (publics, of_team)) = team_cut publics of_team k some
+
+  module _ (first : AgentRecord) (there : agent_at w 1 ≡ Some first) (v : Verdict)
+      (given : given_verdict first ≡ Some v) where
+    pub has_verdict_world : AreTeamTasks tasks
+        → HasVerdictWorld team first.snapshot.number schedule w v
+    has_verdict_world are = by (none_or_team tasks are)
       where
-        by : (tasks ≡ []) ⊎ ((publics : ℕ) × IsTeamOf publics tasks) → HasCut value limit tasks k schedule w
+        by : (tasks ≡ []) ⊎ ((publics : ℕ) × IsTeamOf publics tasks)
+            → HasVerdictWorld team first.snapshot.number schedule w v
         by (inl none) =
-            subst (λ ts. HasCut value limit ts k schedule w) (sym none)
-            (nobody_cut k schedule w (subst (λ ts. run value limit ts schedule ≡ Some w) none ran))
-        by (inr (publics, team)) = team_cut publics team k some
-
-    module _ (first : AgentRecord) (there : agent_at w 1 ≡ Some first) (v : Verdict)
-        (given : given_verdict first ≡ Some v) where
-      pub has_verdict_world : Agree tasks → All IsWithinLimits tasks
-          → HasVerdictWorld value limit tasks first.snapshot.number schedule w v
-      has_verdict_world agree limits = by (none_or_team tasks agree limits)
-        where
-          by : (tasks ≡ []) ⊎ ((publics : ℕ) × IsTeamOf publics tasks)
-              → HasVerdictWorld value limit tasks first.snapshot.number schedule w v
-          by (inl none) =
-              let nothing = nothing_happens schedule w (subst (λ ts. run value limit ts schedule ≡ Some w) none ran) in
-              absurd (nobody 1 first (ap (λ u. agent_at u 1) nothing.1 ∙ there))
-          by (inr (publics, team)) =
-              let cut =
-              team_cut publics team first.snapshot.number
-              (some value publics tasks team limit schedule w ran first there v given) in
-              let b = next_to value publics tasks team limit schedule w ran first there v given in
-              record {
-                cut = cut;
-                verdict_on =
-                    subst (λ c. IsVerdictOn first.snapshot.number w c v)
-                    (same_Some b.cut cut.world (sym b.cut_ran ∙ cut.runs))
-                    (verdict_on value publics tasks team limit schedule w ran first there v given);
-              }
+            let nothing = nothing_happens value limit schedule w (subst (λ ts. run (record team { tasks = ts }) schedule ≡ Some w) none ran) in
+            absurd (nobody value limit 1 first (ap (λ u. agent_at u 1) nothing.1 ∙ there))
+        by (inr (publics, of_team)) =
+            let cut =
+            team_cut publics of_team first.snapshot.number
+            (some team publics of_team schedule w ran first there v given) in
+            let b = next_to team publics of_team schedule w ran first there v given in
+            record {
+              cut = cut;
+              verdict_on =
+                  subst (λ c. IsVerdictOn first.snapshot.number w c v)
+                  (same_Some b.cut cut.world (sym b.cut_ran ∙ cut.runs))
+                  (verdict_on team publics of_team schedule w ran first there v given);
+            }

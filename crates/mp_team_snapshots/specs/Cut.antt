@@ -1,12 +1,12 @@
 -- The events of a schedule that come before their own agents record a snapshot (Chandy and Lamport
 -- 1985).
-use Rattle.std.specs.Prelude.{ℕ, ◌&&◌, not, nat_le, Bool, false, List, [], ◌∷◌, ◌++◌, Option, if◌then◌else◌}
+use Rattle.std.specs.Prelude.{ℕ, ◌&&◌, not, nat_le, Bool, false, List, [], ◌∷◌, ◌++◌, if◌then◌else◌}
 use Rattle.std.specs.Option.{option_map_or}
-use Rattle.mp_sets.specs.Numbers.{Numbers}
-use Rattle.mp_task.specs.AgentTask.{AgentTask}
 use Rattle.mp_messages.specs.declared.history.Event.{Event}
 use Rattle.mp_machine.specs.AgentRecord.{AgentRecord}
 use Rattle.mp_world.specs.Events.{after_event, agent_of}
+use Rattle.mp_world.specs.Team.{Team}
+use Rattle.mp_world.specs.Values.{Values}
 use Rattle.mp_world.specs.World.{World, agent_at, start_world}
 
 -- An agent has recorded the snapshot of a number: it has begun it, or a later one.
@@ -27,7 +27,7 @@ is_before_cut k w event next =
 abbrev pub kept_event : ℕ → World → Event → World → List Event
 kept_event k w event next = if is_before_cut k w event next then event ∷ [] else []
 
-module _ (value : AgentTask → Numbers → Numbers → Option ℕ) (k : ℕ) where
+module _ (value : Values) (k : ℕ) where
   -- the events before the cut, from a world on
   unfoldable pub cut_from : World → List Event → List Event
   cut_from w [] = []
@@ -38,11 +38,5 @@ module _ (value : AgentTask → Numbers → Numbers → Option ℕ) (k : ℕ) wh
       []
 
 -- The cut of a schedule at the snapshot of a number.
-abbrev pub cut_schedule :
-    (AgentTask → Numbers → Numbers → Option ℕ)
-    → ℕ
-    → List AgentTask
-    → ℕ
-    → List Event
-    → List Event
-cut_schedule value limit tasks k schedule = cut_from value k (start_world value limit tasks) schedule
+abbrev pub cut_schedule : Team → ℕ → List Event → List Event
+cut_schedule team k schedule = cut_from team.value k (start_world team) schedule

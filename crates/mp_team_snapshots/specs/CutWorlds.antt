@@ -1,7 +1,5 @@
 -- The world after a schedule beside the world after its cut (Chandy and Lamport 1985).
-use Rattle.std.specs.Prelude.{◌≡◌, ◌≤◌, ◌<◌, ◌&&◌, ℕ, true, false, List, [], length, map, Option, Some}
-use Rattle.mp_sets.specs.Numbers.{Numbers}
-use Rattle.mp_task.specs.AgentTask.{AgentTask}
+use Rattle.std.specs.Prelude.{◌≡◌, ◌≤◌, ◌<◌, ◌&&◌, ℕ, true, false, List, [], length, map, Some}
 use Rattle.mp_messages.specs.declared.history.Event.{Event}
 use Rattle.mp_messages.specs.declared.message.Findings.{Findings}
 use Rattle.mp_messages.specs.declared.message.Message.TheVariants.{Marker}
@@ -15,6 +13,7 @@ use Rattle.mp_team_snapshots.specs.Snapshots.{AreTwo}
 use Rattle.mp_team_states.specs.Further.{HaveGrown}
 use Rattle.mp_team_states.specs.Growing.{HasGrown}
 use Rattle.mp_world.specs.Events.{run}
+use Rattle.mp_world.specs.Team.{Team}
 use Rattle.mp_world.specs.World.{World, agent_at, under_way}
 use Rattle.mp_team_snapshots.specs.Cut.{cut_schedule, has_recorded}
 use Rattle.mp_team_snapshots.specs.CutMail.{AreCut}
@@ -79,15 +78,13 @@ pub record AreMessagesCut (k : ℕ) (w c : World) : Type 0 where
 -- The cut of a schedule is legal, and this is the world after it; what each agent keeps and has sent
 -- there has grown since. Of the messages is told as long as agent 1 has begun no later snapshot.
 pub record HasCut
-    (value : AgentTask → Numbers → Numbers → Option ℕ)
-    (limit : ℕ)
-    (tasks : List AgentTask)
+    (team : Team)
     (k : ℕ)
     (schedule : List Event)
     (w : World)
     : Type 0 where
   pub world : World
-  pub runs : run value limit tasks (cut_schedule value limit tasks k schedule) ≡ Some world
+  pub runs : run team (cut_schedule team k schedule) ≡ Some world
   pub agents : AreAgentsCut k w world
   pub grown : HaveGrown world w
   pub messages :

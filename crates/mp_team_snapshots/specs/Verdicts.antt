@@ -1,7 +1,5 @@
 -- The verdict of agent 1 beside the world after the cut (MAD-A*, Nissim and Brafman 2014).
-use Rattle.std.specs.Prelude.{◌≡◌, ℕ, true, List, Option, Some, slice_get}
-use Rattle.mp_sets.specs.Numbers.{Numbers}
-use Rattle.mp_task.specs.AgentTask.{AgentTask}
+use Rattle.std.specs.Prelude.{◌≡◌, ℕ, true, List, Some, slice_get}
 use Rattle.mp_messages.specs.declared.history.Event.{Event}
 use Rattle.mp_snapshot.specs.Rules.{own}
 use Rattle.mp_snapshot.specs.declared.verdict.Verdict.{Verdict}
@@ -11,6 +9,7 @@ use Rattle.mp_store.specs.Minima.{least_goal}
 use Rattle.mp_search.specs.AgentState.{AgentState}
 use Rattle.mp_machine.specs.AgentRecord.{AgentRecord}
 use Rattle.mp_machine.specs.Snapshots.{goal_entry}
+use Rattle.mp_world.specs.Team.{Team}
 use Rattle.mp_world.specs.World.{World, agent_at}
 use Rattle.mp_team_snapshots.specs.CutWorlds.{HasCut, IsSinceRecording}
 use Rattle.mp_team_snapshots.specs.Found.{findings_in, numbered, verdict_in}
@@ -51,13 +50,11 @@ pub record IsVerdictOn (k : ℕ) (w c : World) (verdict : Verdict) : Type 0 wher
 
 -- The cut of a schedule at a snapshot is legal, and the verdict is that on the world after it.
 pub record HasVerdictWorld
-    (value : AgentTask → Numbers → Numbers → Option ℕ)
-    (limit : ℕ)
-    (tasks : List AgentTask)
+    (team : Team)
     (k : ℕ)
     (schedule : List Event)
     (w : World)
     (verdict : Verdict)
     : Type 0 where
-  pub cut : HasCut value limit tasks k schedule w
+  pub cut : HasCut team k schedule w
   pub verdict_on : IsVerdictOn k w cut.world verdict

@@ -1,20 +1,17 @@
 //! Laws of the cut of a schedule at a snapshot, and of verdicts. Each is the contract of a function
 //! that does nothing.
 
-ghost use Rattle.std.specs.Prelude.{◌≡◌, ◌≤◌, All, ℕ, List, map, Option, Some};
+ghost use Rattle.std.specs.Prelude.{◌≡◌, ◌≤◌, ℕ, List, map, Some};
 ghost use Rattle.mp_machine.specs.AgentRecord.{AgentRecord, given_verdict};
 ghost use Rattle.mp_messages.specs.declared.history.Event.{Event};
 ghost use Rattle.mp_messages.specs.declared.message.Findings.{Findings};
-ghost use Rattle.mp_sets.specs.Numbers.{Numbers};
 ghost use Rattle.mp_snapshot.specs.declared.verdict.Verdict.{Verdict};
 ghost use Rattle.mp_snapshot.specs.VerdictRule.{verdict_of};
-ghost use Rattle.mp_task.specs.AgentTask.{AgentTask};
-ghost use Rattle.mp_task.specs.Agree.{Agree};
-ghost use Rattle.mp_task.specs.Limits.{IsWithinLimits};
 ghost use Rattle.mp_team_snapshots.specs.CutWorlds.{HasCut};
 ghost use Rattle.mp_team_snapshots.specs.Found.{numbered};
 ghost use Rattle.mp_team_snapshots.specs.Verdicts.{HasVerdictWorld};
 ghost use Rattle.mp_world.specs.Events.{run};
+ghost use Rattle.mp_world.specs.Team.{AreTeamTasks, Team};
 ghost use Rattle.mp_world.specs.World.{World, agent_at};
 
 /// The cut of each legal schedule at a snapshot is legal. An agent that has not recorded that
@@ -23,10 +20,8 @@ ghost use Rattle.mp_world.specs.World.{World, agent_at};
 /// no later snapshot, each message under way after the cut is still under way, or was taken and
 /// counted.
 pub fn cuts_are_worlds()
-    ensures { (value : AgentTask → Numbers → Numbers → Option ℕ) (limit k : ℕ)
-        (tasks : List AgentTask) (schedule : List Event) (w : World)
-        → Agree tasks → All IsWithinLimits tasks → 1 ≤ k → run value limit tasks schedule ≡ Some w
-        → HasCut value limit tasks k schedule w }
+    ensures { (team : Team) (k : ℕ) (schedule : List Event) (w : World)
+        → AreTeamTasks team.tasks → 1 ≤ k → run team schedule ≡ Some w → HasCut team k schedule w }
 {}
 
 /// Where agent 1 has a verdict on a snapshot, it is that of the rule on the world after the cut at
@@ -34,12 +29,11 @@ pub fn cuts_are_worlds()
 /// it. An agent that is named for a proved plan has a goal entry of its cost there, and that is the
 /// one that it noted.
 pub fn verdicts_are_of_one_world()
-    ensures { (value : AgentTask → Numbers → Numbers → Option ℕ) (limit : ℕ)
-        (tasks : List AgentTask) (schedule : List Event) (w : World) (first : AgentRecord)
+    ensures { (team : Team) (schedule : List Event) (w : World) (first : AgentRecord)
         (verdict : Verdict)
-        → Agree tasks → All IsWithinLimits tasks → run value limit tasks schedule ≡ Some w
-        → agent_at w 1 ≡ Some first → given_verdict first ≡ Some verdict
-        → HasVerdictWorld value limit tasks first.snapshot.number schedule w verdict }
+        → AreTeamTasks team.tasks → run team schedule ≡ Some w → agent_at w 1 ≡ Some first
+        → given_verdict first ≡ Some verdict
+        → HasVerdictWorld team first.snapshot.number schedule w verdict }
 {}
 
 /// The rule of verdicts does not look at the numbers of snapshots.

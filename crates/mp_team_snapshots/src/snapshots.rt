@@ -1,13 +1,12 @@
 //! Laws of snapshots in a team that runs. Each is the contract of a function that does nothing.
 
-ghost use Rattle.std.specs.Prelude.{◌≡◌, Contains, ℕ, false, List, length, map, Ok, Option, Some};
+ghost use Rattle.std.specs.Prelude.{◌≡◌, Contains, ℕ, false, List, length, map, Ok, Some};
 ghost use Rattle.mp_machine.specs.AgentRecord.{AgentRecord, given_verdict};
 ghost use Rattle.mp_machine.specs.Outgoing.{without_messages};
 ghost use Rattle.mp_machine.specs.Taking.{ending_of, took_done};
 ghost use Rattle.mp_messages.specs.declared.history.Event.{Event};
 ghost use Rattle.mp_messages.specs.declared.message.EndKind.{EndKind};
 ghost use Rattle.mp_messages.specs.declared.message.Findings.{Findings};
-ghost use Rattle.mp_sets.specs.Numbers.{Numbers};
 ghost use Rattle.mp_snapshot.specs.declared.verdict.Verdict.{Verdict};
 ghost use Rattle.mp_snapshot.specs.Rules.{is_strange_marker, is_strange_report, own};
 ghost use Rattle.mp_snapshot.specs.VerdictRule.{verdict_of};
@@ -24,15 +23,16 @@ ghost use Rattle.mp_team_snapshots.specs.Snapshots.{
 ghost use Rattle.mp_team_snapshots.specs.Team.{IsTeamOf, SendsFitting};
 ghost use Rattle.mp_world.specs.Events.{run};
 ghost use Rattle.mp_world.specs.Steps.{IsStepOf};
+ghost use Rattle.mp_world.specs.Team.{Team};
+ghost use Rattle.mp_world.specs.Values.{Values};
 ghost use Rattle.mp_world.specs.World.{IsTeamWorld, World, agent_at, start_world};
 
 /// Snapshots are sound in the world at the start, and each event keeps them so, where the markers
 /// and the reports that it sends are such as messages have room for.
 pub fn snapshots_are_sound()
-    ensures start { (value : AgentTask → Numbers → Numbers → Option ℕ) (limit publics : ℕ)
-        (tasks : List AgentTask)
-        → IsTeamOf publics tasks → AreSnapshotsSound publics (start_world value limit tasks) }
-    ensures step { (value : AgentTask → Numbers → Numbers → Option ℕ) (publics : ℕ)
+    ensures start { (team : Team) (publics : ℕ)
+        → IsTeamOf publics team.tasks → AreSnapshotsSound publics (start_world team) }
+    ensures step { (value : Values) (publics : ℕ)
         (tasks : List AgentTask) (w : World) (event : Event) (next : World)
         → IsTeamOf publics tasks → IsTeamWorld tasks w
         → (is : IsStepOf value w event next) → SendsFitting is.step
@@ -49,14 +49,10 @@ pub fn tasks_that_agree_are_of_a_team()
 /// In every world that a legal schedule leads to, snapshots are sound, and no end is under way from
 /// any agent but agent 1.
 pub fn snapshots_are_sound_in_all_runs()
-    ensures sound { (value : AgentTask → Numbers → Numbers → Option ℕ) (limit publics : ℕ)
-        (tasks : List AgentTask) (schedule : List Event) (w : World)
-        → IsTeamOf publics tasks → run value limit tasks schedule ≡ Some w
-        → AreSnapshotsSound publics w }
-    ensures ends { (value : AgentTask → Numbers → Numbers → Option ℕ) (limit publics : ℕ)
-        (tasks : List AgentTask) (schedule : List Event) (w : World)
-        → IsTeamOf publics tasks → run value limit tasks schedule ≡ Some w
-        → AreEndsOfFirst publics w }
+    ensures sound { (team : Team) (publics : ℕ) (schedule : List Event) (w : World)
+        → IsTeamOf publics team.tasks → run team schedule ≡ Some w → AreSnapshotsSound publics w }
+    ensures ends { (team : Team) (publics : ℕ) (schedule : List Event) (w : World)
+        → IsTeamOf publics team.tasks → run team schedule ≡ Some w → AreEndsOfFirst publics w }
 {}
 
 /// Where snapshots are sound, no marker that is under way is strange to the agent that it goes to,
@@ -94,10 +90,9 @@ pub fn verdicts_are_on_snapshots_that_are_over()
 /// have room for: so it is at the start, and each event keeps it so. An end that is under way comes
 /// from agent 1 then, from which no agent takes it as a bad one.
 pub fn agent_1_alone_ends_the_search()
-    ensures start { (value : AgentTask → Numbers → Numbers → Option ℕ) (limit publics : ℕ)
-        (tasks : List AgentTask)
-        → IsTeamOf publics tasks → AreEndsOfFirst publics (start_world value limit tasks) }
-    ensures step { (value : AgentTask → Numbers → Numbers → Option ℕ) (publics : ℕ)
+    ensures start { (team : Team) (publics : ℕ)
+        → IsTeamOf publics team.tasks → AreEndsOfFirst publics (start_world team) }
+    ensures step { (value : Values) (publics : ℕ)
         (tasks : List AgentTask) (w : World) (event : Event) (next : World)
         → IsTeamOf publics tasks → IsTeamWorld tasks w
         → (is : IsStepOf value w event next) → SendsFitting is.step

@@ -1,5 +1,5 @@
 -- What the agents have found is explored at the start, and stays so at each event.
-use Rattle.std.proofs.Common.{◌≡◌, ℕ, ◌+◌, ◌-◌, ◌<◌, ◌≤◌, ◌^◌, ◌⊎◌, List, [], get_or, map, Option, Some, None, All, sym, ap, subst, ◌∙◌, arith, inl, inr}
+use Rattle.std.proofs.Common.{◌≡◌, ℕ, ◌+◌, ◌-◌, ◌<◌, ◌^◌, ◌⊎◌, List, [], get_or, map, Option, Some, None, sym, ap, subst, ◌∙◌, arith, inl, inr}
 use Rattle.std.specs.Prelude.{Contains, slice_get}
 use Rattle.std.specs.FinSet as set
 use Rattle.std.proofs.lemmas.Bool.{cases_eq}
@@ -9,9 +9,7 @@ use Rattle.mp_list.proofs.Members.{no_member}
 use Rattle.mp_runs.specs.System.{state_after}
 use Rattle.mp_runs.proofs.Runs.{run-none}
 use Rattle.mp_sets.specs.Numbers.{Numbers}
-use Rattle.mp_task.specs.Agree.{Agree}
 use Rattle.mp_task.specs.AgentTask.{AgentTask}
-use Rattle.mp_task.specs.Limits.{IsWithinLimits}
 use Rattle.mp_task.specs.Plan.{JointState, after_step, joint_start, private_of, team_system}
 use Rattle.mp_task.proofs.Agreeing.{number_at, public_start-at}
 use Rattle.mp_task.proofs.JointStates.{start_is_joint}
@@ -30,6 +28,8 @@ use Rattle.mp_reach.specs.LeadsOn.{IsRoot, IsTeamExploredFor, IsTeamHopelessFor,
 use Rattle.mp_world.specs.Events.{agent_of}
 use Rattle.mp_world.specs.Joint.{joint}
 use Rattle.mp_world.specs.Steps.{IsStepOf}
+use Rattle.mp_world.specs.Team.{AreTeamTasks, IsTeam, Team}
+use Rattle.mp_world.specs.Values.{Values}
 use Rattle.mp_world.specs.World.{IsTeamWorld, World, agent_at, start_world}
 use Rattle.mp_world.proofs.Agents.{task_there, agree_numbered}
 use Rattle.mp_team_states.specs.Paths.IsPath.{at_root}
@@ -50,7 +50,7 @@ use Rattle.mp_team_states.proofs.Leading.{leads_reached}
 use Rattle.mp_team_states.proofs.Staying.{IsLater, has_kept, known, later_entry, reached_stays, sent_reached}
 use Rattle.mp_team_states.proofs.Stepping.{HasStepped, event_stepped}
 
-module _ (tasks : List AgentTask) (agree : Agree tasks) (limits : All IsWithinLimits tasks) where
+module _ (tasks : List AgentTask) (are : AreTeamTasks tasks) where
   -- what makes a world explored, agent by agent
   pub record AreReached (Goal : Known → Type 0) (w : World) : Type 0 where
     pub roots : (k : Known) → IsRoot tasks k → TeamReachesFor tasks Goal (found_of w) k 0
@@ -66,14 +66,14 @@ module _ (tasks : List AgentTask) (agree : Agree tasks) (limits : All IsWithinLi
       live = λ i seen there. live_at i seen there;
       closed = λ i seen there mark. inr (λ cost last leads. closed_at i seen there mark cost last leads);
       sent = λ x here. sent_at x here;
-      entries = entry_bounds tasks agree limits Goal w team sound bounds;
-      messages = message_bounds tasks agree limits Goal w team sound bounds;
+      entries = entry_bounds tasks are Goal w team sound bounds;
+      messages = message_bounds tasks are Goal w team sound bounds;
     }
       where
         live_at : (i : ℕ × ℕ) (seen : Seen Known) → IsAt (found_of w) i seen → HasLiveEntry (found_of w) seen.state seen.cost
         live_at i seen there =
             let f = found_entry w i seen there in
-            subst (λ (x : Seen Known). HasLiveEntry (found_of w) x.state x.cost) (sym f.is) (lives tasks agree limits w team sound i.0 i.1 f.agent_is f.entry f.there f.at)
+            subst (λ (x : Seen Known). HasLiveEntry (found_of w) x.state x.cost) (sym f.is) (lives tasks are w team sound i.0 i.1 f.agent_is f.entry f.there f.at)
 
         closed_at : (i : ℕ × ℕ) (seen : Seen Known) → IsAt (found_of w) i seen → seen.mark ≡ Expanded → (cost : ℕ) (last : Known) → LeadsOn tasks seen.state cost last
             → TeamReachesFor tasks Goal (found_of w) last (seen.cost + cost)
@@ -86,30 +86,30 @@ module _ (tasks : List AgentTask) (agree : Agree tasks) (limits : All IsWithinLi
         sent_at : (x : Sent Known) → Contains (found_of w).sent x → TeamReachesFor tasks Goal (found_of w) x.state x.cost
         sent_at x here =
             let f = found_sent w x here in
-            let me = me_is tasks agree limits w team f.agent f.agent_is f.there in
+            let me = me_is tasks are w team f.agent f.agent_is f.there in
             subst (λ (y : Sent Known). TeamReachesFor tasks Goal (found_of w) y.state y.cost) f.is
             (subst (λ (a : ℕ). TeamReachesFor tasks Goal (found_of w) (known f.receiver (joint w a f.entry.key)) f.entry.g) (sym me)
             (reached.sent f.agent f.sent f.number f.receiver f.agent_is f.entry f.there f.given f.at f.here))
 
   -- ---- an event
 
-  module _ {Goal : Known → Type 0} (value : AgentTask → Numbers → Numbers → Option ℕ) (heuristic : IsHeuristicFor Goal value tasks) (w : World) (team : IsTeamWorld tasks w) (sound : AreStatesSound tasks w)
+  module _ {Goal : Known → Type 0} (value : Values) (heuristic : IsHeuristicFor Goal value tasks) (w : World) (team : IsTeamWorld tasks w) (sound : AreStatesSound tasks w)
       (small : AreSmall w) (next : World) (later_team : IsTeamWorld tasks next) (later_sound : AreStatesSound tasks next) (bounds : AreEstimatesBoundsFor tasks Goal next)
       (event : Event) (is : IsStepOf value w event next) (explored : IsTeamExploredFor tasks Goal None (found_of w)) where
     stays : (k : Known) (cost : ℕ) → TeamReachesFor tasks Goal (found_of w) k cost → TeamReachesFor tasks Goal (found_of next) k cost
-    stays = reached_stays tasks agree limits w team sound small value heuristic next later_team later_sound event is
+    stays = reached_stays tasks are w team sound small value heuristic next later_team later_sound event is
 
     sends : (agent k n receiver : ℕ) (r : AgentRecord) (e : Entry AgentState) → agent_at next agent ≡ Some r → slice_get r.search.kept.sent k ≡ Some n
         → slice_get r.search.kept.entries n ≡ Some e → Contains (receivers r.task e.key) receiver → TeamReachesFor tasks Goal (found_of next) (known receiver (joint next agent e.key)) e.g
-    sends = sent_reached tasks agree limits w team sound small value heuristic next later_team later_sound event is explored
+    sends = sent_reached tasks are w team sound small value heuristic next later_team later_sound event is explored
 
     -- an entry that was expanded before
     old_closed : (agent n : ℕ) (o : AgentRecord) (old : Entry AgentState) → agent_at w agent ≡ Some o → slice_get o.search.kept.entries n ≡ Some old → old.mark ≡ Expanded
         → (r : AgentRecord) (e : Entry AgentState) → agent_at next agent ≡ Some r → slice_get r.search.kept.entries n ≡ Some e
         → (cost : ℕ) (last : Known) → LeadsOn tasks (known agent (joint next agent e.key)) cost last → TeamReachesFor tasks Goal (found_of next) last (e.g + cost)
     old_closed agent n o old o_there o_at mark r e there at cost last leads =
-        let x : IsLater tasks agree limits w team sound small value heuristic next later_team later_sound event is agent n o old =
-        later_entry tasks agree limits w team sound small value heuristic next later_team later_sound event is agent n o old o_there o_at
+        let x : IsLater tasks are w team sound small value heuristic next later_team later_sound event is agent n o old =
+        later_entry tasks are w team sound small value heuristic next later_team later_sound event is agent n o old o_there o_at
         in
         let r_is : x.agent_is ≡ r = same_Some x.agent_is r (sym x.there ∙ there) in
         let e_is : x.entry ≡ e = same_Some x.entry e (sym x.at ∙ ap (λ (r : AgentRecord). slice_get r.search.kept.entries n) r_is ∙ at) in
@@ -131,7 +131,7 @@ module _ (tasks : List AgentTask) (agree : Agree tasks) (limits : All IsWithinLi
     closed_later agent n r e there at mark cost last leads = by (cases_eq agent (agent_of event))
       where
         stepped : HasStepped (value is.agent.task) is.agent is.step
-        stepped = event_stepped tasks agree limits w team sound value next small heuristic.small event is
+        stepped = event_stepped tasks are w team sound value next small heuristic.small event is
 
         now : agent ≡ agent_of event → is.step.after ≡ r → WasExpanded is.agent.search.kept n ⊎ AreOffered is.agent.task (value is.agent.task) e is.step.after.search.kept
             → TeamReachesFor tasks Goal (found_of next) last (e.g + cost)
@@ -141,7 +141,7 @@ module _ (tasks : List AgentTask) (agree : Agree tasks) (limits : All IsWithinLi
             subst (λ (t : AgentTask). AreOffered t (value t) e is.step.after.search.kept) (sym stepped.task) offers
             in
             let offers_now : AreOffered r.task (value r.task) e r.search.kept = subst (λ (r : AgentRecord). AreOffered r.task (value r.task) e r.search.kept) r_is offers_last in
-            leads_reached tasks agree limits next later_team later_sound value heuristic agent r there (λ k m receiver f given f_at here. sends agent k m receiver r f there given f_at here)
+            leads_reached tasks are next later_team later_sound value heuristic agent r there (λ k m receiver f given f_at here. sends agent k m receiver r f there given f_at here)
             n e at offers_now cost last leads
 
         by : (agent ≡ agent_of event) ⊎ (agent ≡ agent_of event → ⊥) → TeamReachesFor tasks Goal (found_of next) last (e.g + cost)
@@ -155,34 +155,37 @@ module _ (tasks : List AgentTask) (agree : Agree tasks) (limits : All IsWithinLi
         explored_if Goal next later_team later_sound bounds
         (record { roots = λ k root. stays k 0 (explored.roots k root); closed = closed_later; sent = sends })
 
-  -- ---- the start
+-- ---- the start
 
-  module _ {Goal : Known → Type 0} (value : AgentTask → Numbers → Numbers → Option ℕ) (heuristic : IsHeuristicFor Goal value tasks) (limit : ℕ) (most : limit ≤ 10000000) where
+module _ (team : Team) (is_team : IsTeam team) where
+  open team use {tasks, value, limit}
+
+  module _ {Goal : Known → Type 0} (heuristic : IsHeuristicFor Goal value tasks) where
     abbrev first : World
-    first = start_world value limit tasks
+    first = start_world team
 
-    module _ (team : IsTeamWorld tasks first) (sound : AreStatesSound tasks first) (bounds : AreEstimatesBoundsFor tasks Goal first) where
+    module _ (of_team : IsTeamWorld tasks first) (sound : AreStatesSound tasks first) (bounds : AreEstimatesBoundsFor tasks Goal first) where
       first_continues : (t : AgentTask) → Continues t empty [] (start_record t (value t)).kept
       first_continues t = offered_continues t (start_state t) 0 Root empty (own_value t (value t) (start_state t))
 
       -- the initial state is the joint start
       first_value : (t : AgentTask) → Contains tasks t → value t (joint_start tasks).publics (private_of (joint_start tasks) t.me) ≡ own_value t (value t) (start_state t)
       first_value t here =
-          let number = number_at tasks agree here.0 t here.1 here.2 in
+          let number = number_at tasks is_team.tasks.agree here.0 t here.1 here.2 in
           let place : t.me - 1 ≡ here.0 = omega arith in
           let start : AgentTask → Numbers = λ u. set.from_list u.start_priv in
           let mine : private_of (joint_start tasks) t.me ≡ set.from_list t.start_priv =
           ap (λ k. get_or (map start tasks) k set.empty) place ∙ get_or-map start tasks here.0 t set.empty here.1 ∙ ap start here.2
           in
-          let shared = public_start-at tasks t here (λ u there. (agree.alike u t there here).start_pub) in
+          let shared = public_start-at tasks t here (λ u there. (is_team.tasks.agree.alike u t there here).start_pub) in
           λ j. value t (shared j) (mine j)
 
       first_joint : (agent n : ℕ) (r : AgentRecord) (e : Entry AgentState) → agent_at first agent ≡ Some r → slice_get r.search.kept.entries n ≡ Some e → joint first agent e.key ≡ joint_start tasks
       first_joint agent n r e there at =
-          let of = task_is value limit tasks agree limits most agent r there in
+          let of = task_is team is_team agent r there in
           let begun = start_entry of.0 (value of.0) n e (subst (λ (r : AgentRecord). slice_get r.search.kept.entries n ≡ Some e) of.2 at) in
           let has = entry_in first agent n r e there at in
-          let x = start_reaches value limit tasks agree limits most agent n e has in
+          let x = start_reaches team is_team agent n e has in
           let none = one_path first agent n x.steps [] x.path (at_root agent n e has begun.origin) in
           same_Some (joint first agent e.key) (joint_start tasks)
           (sym x.leads ∙ ap (λ steps. state_after (team_system tasks) (joint_start tasks) steps) none ∙ run-none (after_step tasks) (joint_start tasks))
@@ -206,8 +209,8 @@ module _ (tasks : List AgentTask) (agree : Agree tasks) (limits : All IsWithinLi
           by (inl none) =
               inr (inr (subst (IsTeamHopelessFor tasks Goal) k_is (heuristic.hopeless t (known t.me (joint_start tasks)) root.in_team (start_is_joint tasks) (first_value t root.in_team ∙ none))))
           by (inr kept) =
-              let found = task_there tasks (agree_numbered tasks agree) first team t root.in_team in
-              let of = task_is value limit tasks agree limits most t.me found.0 found.1 in
+              let found = task_there tasks (agree_numbered tasks is_team.tasks.agree) first of_team t root.in_team in
+              let of = task_is team is_team t.me found.0 found.1 in
               let task : of.0 ≡ t = ap (λ (r : AgentRecord). r.task) (sym of.2) ∙ found.2 in
               let r_is : new_record t (value t) limit ≡ found.0 = ap (λ (t : AgentTask). new_record t (value t) limit) (sym task) ∙ sym of.2 in
               let here : IsKept found.0.search.kept (start_state t) 0 = subst (λ (r : AgentRecord). IsKept r.search.kept (start_state t) 0) r_is kept in
@@ -220,12 +223,12 @@ module _ (tasks : List AgentTask) (agree : Agree tasks) (limits : All IsWithinLi
       -- of an agent at the start
       kept_first : (agent : ℕ) (r : AgentRecord) → agent_at first agent ≡ Some r → Continues r.task empty [] r.search.kept
       kept_first agent r there =
-          let of = task_is value limit tasks agree limits most agent r there in
+          let of = task_is team is_team agent r there in
           subst (λ (r : AgentRecord). Continues r.task empty [] r.search.kept) (sym of.2) (first_continues of.0)
 
       pub start_explored : IsTeamExploredFor tasks Goal None (found_of first)
       start_explored =
-          explored_if Goal first team sound bounds
+          explored_if tasks is_team.tasks Goal first of_team sound bounds
           (record {
             roots = roots_first;
             closed = λ agent n r e there at mark cost last leads.

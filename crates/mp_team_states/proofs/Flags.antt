@@ -1,5 +1,5 @@
 -- An entry's flag says whether all goals of the team are true in its joint state.
-use Rattle.std.proofs.Common.{◌≡◌, ◌≢◌, ℕ, ◌+◌, ◌-◌, ◌<◌, ◌≤◌, ◌⊎◌, Bool, true, false, ◌&&◌, ◌||◌, List, [], ◌∷◌, length, get_or, Option, Some, All, refl, sym, ap, subst, ◌∙◌, arith, inl, inr}
+use Rattle.std.proofs.Common.{◌≡◌, ◌≢◌, ℕ, ◌+◌, ◌-◌, ◌<◌, ◌⊎◌, Bool, true, false, ◌&&◌, ◌||◌, List, [], ◌∷◌, length, get_or, Some, refl, sym, ap, subst, ◌∙◌, arith, inl, inr}
 use Rattle.std.specs.Prelude.{Contains, ◌==◌}
 use Rattle.std.specs.List.{enumerate_from, list_all}
 use Rattle.std.proofs.lemmas.Bool.{and_from, and_parts, cases_eq, eq-eqb, false≢true, ne_eqb, or_left, or_right}
@@ -9,8 +9,7 @@ use Rattle.std.proofs.lemmas.List.FromFn.{get_or-enumerate_from, length-enumerat
 use Rattle.std.proofs.lemmas.Option.{none-some, same_Some}
 use Rattle.mp_list.proofs.Members.{all_at, contains_head, contains_tail}
 use Rattle.mp_sets.specs.declared.tag.Tag.{Tag}
-use Rattle.mp_sets.specs.Numbers.{Numbers, holds}
-use Rattle.mp_task.specs.Agree.{Agree}
+use Rattle.mp_sets.specs.Numbers.{holds}
 use Rattle.mp_task.specs.AgentTask.{AgentTask}
 use Rattle.mp_task.specs.Limits.{IsWithinLimits}
 use Rattle.mp_task.specs.Met.{is_met}
@@ -25,6 +24,8 @@ use Rattle.mp_machine.specs.AgentRecord.{AgentRecord}
 use Rattle.mp_world.specs.Events.{agent_of}
 use Rattle.mp_world.specs.Joint.{joint}
 use Rattle.mp_world.specs.Steps.{IsStepOf}
+use Rattle.mp_world.specs.Team.{AreTeamTasks, IsTeam, Team}
+use Rattle.mp_world.specs.Values.{Values}
 use Rattle.mp_world.specs.World.{IsTeamWorld, World, agent_at, start_world}
 use Rattle.mp_world.proofs.Agents.{agree_numbered, task_there}
 use Rattle.mp_team_states.specs.Room.{AreSmall, HasSmallValues}
@@ -52,18 +53,18 @@ not_left : (a b : Bool) → a ≡ false → (a || b) ≡ true → b ≡ true
 not_left true b is either = absurd (false≢true (sym is))
 not_left false b is either = either
 
-module _ (tasks : List AgentTask) (agree : Agree tasks) (limits : All IsWithinLimits tasks) where
+module _ (tasks : List AgentTask) (are : AreTeamTasks tasks) where
   module _ (w : World) (team : IsTeamWorld tasks w) (agent : ℕ) (r : AgentRecord) (there : agent_at w agent ≡ Some r) (s : AgentState) (is : IsStateOf w r.task s) where
     t : AgentTask
     t = r.task
 
     fit : IsWithinLimits t
     unfolding t
-    fit = limits_of tasks agree limits w team agent r there
+    fit = limits_of tasks are w team agent r there
 
     here : Contains tasks t
     unfolding t
-    here = task_in tasks agree limits w team agent r there
+    here = task_in tasks are w team agent r there
 
     goal_there : is_goal_state t s ≡ true → goals_hold tasks (joint w t.me s) ≡ true
     unfolding t
@@ -76,19 +77,19 @@ module _ (tasks : List AgentTask) (agree : Agree tasks) (limits : All IsWithinLi
         private = and_parts (is_met t s.mine) (others_are_met t s) parts.1
 
         publics : (u : AgentTask) → Contains tasks u → holds s.publics u.goal_pub ≡ true
-        publics u u_here = ap (holds s.publics) (agree.alike u t u_here here).goal_pub ∙ parts.0
+        publics u u_here = ap (holds s.publics) (are.agree.alike u t u_here here).goal_pub ∙ parts.0
 
         each : (u : AgentTask) → Contains tasks u → (u.me ≡ t.me) ⊎ (u.me ≡ t.me → ⊥) → (holds s.publics u.goal_pub && is_met u (private_of (joint w t.me s) u.me)) ≡ true
         each u u_here (inl same) =
-            let one : t ≡ u = same_number tasks agree t u here u_here (sym same) in
+            let one : t ≡ u = same_number tasks are.agree t u here u_here (sym same) in
             let mine : is_met t (private_of (joint w t.me s) t.me) ≡ true = ap (is_met t) (own_private w t fit s is.number) ∙ private.0 in
             and_from (holds s.publics u.goal_pub) (is_met u (private_of (joint w t.me s) u.me)) (publics u u_here)
             (subst (λ (v : AgentTask). is_met v (private_of (joint w t.me s) v.me) ≡ true) one mine)
         each u u_here (inr other) =
-            let found = task_there tasks (agree_numbered tasks agree) w team u u_here in
-            let its = All-contains IsWithinLimits tasks u limits u_here in
-            let many = agents_are tasks agree limits w team agent r there in
-            let its_many = agents_are tasks agree limits w team u.me found.0 found.1 in
+            let found = task_there tasks (agree_numbered tasks are.agree) w team u u_here in
+            let its = All-contains IsWithinLimits tasks u are.within u_here in
+            let many = agents_are tasks are w team agent r there in
+            let its_many = agents_are tasks are w team u.me found.0 found.1 in
             let same_task = ap (λ (x : AgentTask). x.agents) found.2 in
             let in_team = its.in_team in
             let tag = tag_of s.tags u.me in
@@ -119,10 +120,10 @@ module _ (tasks : List AgentTask) (agree : Agree tasks) (limits : All IsWithinLi
             let number = is.number in
             let a : 1 + k ≡ x.0 = ap (λ (y : ℕ × Tag). y.0) x_is in
             let apart : 1 + k ≢ t.me = λ same. other (sym a ∙ same) in
-            let found = other_there tasks agree limits w team agent r there (1 + k) (omega arith) (omega arith) in
+            let found = other_there tasks are w team agent r there (1 + k) (omega arith) (omega arith) in
             let u = found.1 in
-            let u_me = me_is tasks agree limits w team (1 + k) u found.2 in
-            let met = (of_task u.task (task_in tasks agree limits w team (1 + k) u found.2)).1 in
+            let u_me = me_is tasks are w team (1 + k) u found.2 in
+            let met = (of_task u.task (task_in tasks are w team (1 + k) u found.2)).1 in
             let says = met_is w t fit s is.number is.others u (1 + k) (omega arith) (omega arith) apart found.2 in
             or_right (x.0 == t.me) x.1.met
             (ap (λ (y : ℕ × Tag). y.1.met) (sym x_is) ∙ says ∙ ap (λ (b : ℕ). is_met u.task (private_of (joint w t.me s) b)) (sym u_me) ∙ met)
@@ -140,7 +141,7 @@ module _ (tasks : List AgentTask) (agree : Agree tasks) (limits : All IsWithinLi
     unfolding t
     goal_is =
         one_truth (is_goal_state r.task s) (goals_hold tasks (joint w r.task.me s)) goal_there goal_back
-        ∙ ap (λ (a : ℕ). goals_hold tasks (joint w a s)) (me_is tasks agree limits w team agent r there)
+        ∙ ap (λ (a : ℕ). goals_hold tasks (joint w a s)) (me_is tasks are w team agent r there)
 
   -- ---- in all worlds
 
@@ -152,22 +153,15 @@ module _ (tasks : List AgentTask) (agree : Agree tasks) (limits : All IsWithinLi
   flags_of_joint w team sound flags agent n e has =
       let h = has_it w agent n e has in
       flags agent h.agent_is h.there n e h.at
-      ∙ goal_is w team agent h.agent_is h.there e.key (states_known tasks agree limits w team sound agent n h.agent_is e h.there h.at)
+      ∙ goal_is w team agent h.agent_is h.there e.key (states_known tasks are w team sound agent n h.agent_is e h.there h.at)
 
-  module _ (value : AgentTask → Numbers → Numbers → Option ℕ) where
-    pub start_flags : (limit : ℕ) → limit ≤ 10000000 → HaveAllFlags (start_world value limit tasks)
-    start_flags limit most agent r there =
-        let of = task_is value limit tasks agree limits most agent r there in
-        let t = of.0 in
-        subst (λ (r : AgentRecord). HaveFlags r.task r.search.kept) (sym of.2)
-        ((offered_continues t (start_state t) 0 Root empty (own_value t (value t) (start_state t))).flags (λ n e at. absurd (none-some e at)))
-
+  module _ (value : Values) where
     pub event_flags : (w : World) → IsTeamWorld tasks w → AreStatesSound tasks w → AreSmall w → HasSmallValues value tasks → (next : World) (event : Event) (is : IsStepOf value w event next)
         → HaveAllFlags w → HaveAllFlags next
     event_flags w team sound small values next event is flags agent r there = by (cases_eq agent (agent_of event))
       where
         stepped : HasStepped (value is.agent.task) is.agent is.step
-        stepped = event_stepped tasks agree limits w team sound value next small values event is
+        stepped = event_stepped tasks are w team sound value next small values event is
 
         by : (agent ≡ agent_of event) ⊎ (agent ≡ agent_of event → ⊥) → HaveFlags r.task r.search.kept
         by (inl same) =
@@ -175,3 +169,13 @@ module _ (tasks : List AgentTask) (agree : Agree tasks) (limits : All IsWithinLi
             subst (λ (r : AgentRecord). HaveFlags r.task r.search.kept) r_is
             (subst (λ (t : AgentTask). HaveFlags t is.step.after.search.kept) (sym stepped.task) (stepped.done.flags (flags (agent_of event) is.agent is.there)))
         by (inr other) = flags agent r (sym (is.others agent other) ∙ there)
+
+module _ (team : Team) (is_team : IsTeam team) where
+  open team use {tasks, value}
+
+  pub start_flags : HaveAllFlags tasks is_team.tasks (start_world team)
+  start_flags agent r there =
+      let of = task_is team is_team agent r there in
+      let t = of.0 in
+      subst (λ (r : AgentRecord). HaveFlags r.task r.search.kept) (sym of.2)
+      ((offered_continues t (start_state t) 0 Root empty (own_value t (value t) (start_state t))).flags (λ n e at. absurd (none-some e at)))

@@ -1,11 +1,10 @@
 -- What an expanded entry's state leads to is reached: in the agent's own search it is kept, and to others it was sent.
-use Rattle.std.proofs.Common.{◌≡◌, ℕ, ◌+◌, Bool, true, cond, List, Option, Some, None, All, refl, sym, ap, subst, ◌∙◌, arith, inl, inr}
+use Rattle.std.proofs.Common.{◌≡◌, ℕ, ◌+◌, Bool, true, cond, List, Option, Some, None, refl, sym, ap, subst, ◌∙◌, arith, inl, inr}
 use Rattle.std.specs.Prelude.{Contains, option_and_then, slice_get}
 use Rattle.std.proofs.lemmas.List.Elements.{All-contains}
 use Rattle.std.proofs.lemmas.Option.{same_Some}
 use Rattle.mp_sets.specs.Numbers.{Numbers}
 use Rattle.mp_task.specs.declared.act.Act.{Act}
-use Rattle.mp_task.specs.Agree.{Agree}
 use Rattle.mp_task.specs.AgentTask.{AgentTask}
 use Rattle.mp_task.specs.Limits.{IsWithinLimits}
 use Rattle.mp_task.specs.Plan.{JointState, TaskStep, act_of, after_act, after_if_applies, after_step, applies as may_apply, task_of}
@@ -22,6 +21,8 @@ use Rattle.mp_reach.specs.LeadsOn.{Concerns, IsTeamHopelessFor, IsVisible, Known
 use Rattle.mp_reach.specs.LeadsOn.LeadsOn.{alone, to_another}
 use Rattle.mp_reach.proofs.Changing.{reached_at_more}
 use Rattle.mp_world.specs.Joint.{joint}
+use Rattle.mp_world.specs.Team.{AreTeamTasks}
+use Rattle.mp_world.specs.Values.{Values}
 use Rattle.mp_world.specs.World.{IsTeamWorld, World, agent_at}
 use Rattle.mp_world.proofs.Agents.{agree_numbered, task_there}
 use Rattle.mp_team_states.specs.Sound.{AreStatesSound, IsStateOf}
@@ -64,8 +65,8 @@ has_led tasks k cost last (to_another t other s reached step here there takes vi
   ends = another other there visible concern;
 }
 
-module _ (tasks : List AgentTask) (agree : Agree tasks) (limits : All IsWithinLimits tasks) (w : World) (team : IsTeamWorld tasks w) (sound : AreStatesSound tasks w)
-    {Goal : Known → Type 0} (value : AgentTask → Numbers → Numbers → Option ℕ) (heuristic : IsHeuristicFor Goal value tasks) (agent : ℕ) (r : AgentRecord) (there : agent_at w agent ≡ Some r)
+module _ (tasks : List AgentTask) (are : AreTeamTasks tasks) (w : World) (team : IsTeamWorld tasks w) (sound : AreStatesSound tasks w)
+    {Goal : Known → Type 0} (value : Values) (heuristic : IsHeuristicFor Goal value tasks) (agent : ℕ) (r : AgentRecord) (there : agent_at w agent ≡ Some r)
     -- all that was sent is reached
     (sent : (k n receiver : ℕ) (e : Entry AgentState) → slice_get r.search.kept.sent k ≡ Some n → slice_get r.search.kept.entries n ≡ Some e
     → Contains (receivers r.task e.key) receiver → TeamReachesFor tasks Goal (found_of w) (known receiver (joint w agent e.key)) e.g)
@@ -75,19 +76,19 @@ module _ (tasks : List AgentTask) (agree : Agree tasks) (limits : All IsWithinLi
 
   me : t.me ≡ agent
   unfolding t
-  me = me_is tasks agree limits w team agent r there
+  me = me_is tasks are w team agent r there
 
   fit : IsWithinLimits t
   unfolding t
-  fit = limits_of tasks agree limits w team agent r there
+  fit = limits_of tasks are w team agent r there
 
   is_known : IsStateOf w t e.key
   unfolding t
-  is_known = states_known tasks agree limits w team sound agent n r e there at
+  is_known = states_known tasks are w team sound agent n r e there at
 
   task_is : task_of tasks t.me ≡ Some t
   unfolding t
-  task_is = ap (task_of tasks) me ∙ task_at tasks agree limits w team agent r there
+  task_is = ap (task_of tasks) me ∙ task_at tasks are w team agent r there
 
   -- an action that is taken in the joint state
   module _ (step : TaskStep) (reached : JointState) (takes : TakesStep tasks t.me any_action (joint w t.me e.key) step reached) where
@@ -125,8 +126,8 @@ module _ (tasks : List AgentTask) (agree : Agree tasks) (limits : All IsWithinLi
     nothing_there : own_value t (value t) s ≡ None → (other : ℕ) → IsTeamHopelessFor tasks Goal (known other (joint w t.me s))
     unfolding s act t
     nothing_there none other =
-        heuristic.hopeless t (known other (joint w t.me s)) (task_in tasks agree limits w team agent r there)
-        (joint_size w t fit s is_known.number ∙ agents_are tasks agree limits w team agent r there)
+        heuristic.hopeless t (known other (joint w t.me s)) (task_in tasks are w team agent r there)
+        (joint_size w t fit s is_known.number ∙ agents_are tasks are w team agent r there)
         (ap (value t s.publics) (own_private w t fit s is_known.number) ∙ none)
 
     -- what is to be sent goes to each agent that it concerns
@@ -134,10 +135,10 @@ module _ (tasks : List AgentTask) (agree : Agree tasks) (limits : All IsWithinLi
         → Contains (receivers t s) other.me × (is_due t act e.key s ≡ true)
     unfolding s act t
     due_to other here visible concern =
-        let u = task_there tasks (agree_numbered tasks agree) w team other here in
-        let its = All-contains IsWithinLimits tasks other limits here in
-        let many = agents_are tasks agree limits w team agent r there in
-        let its_many = agents_are tasks agree limits w team other.me u.0 u.1 in
+        let u = task_there tasks (agree_numbered tasks are.agree) w team other here in
+        let its = All-contains IsWithinLimits tasks other are.within here in
+        let many = agents_are tasks are w team agent r there in
+        let its_many = agents_are tasks are w team other.me u.0 u.1 in
         let same_task = ap (λ (x : AgentTask). x.agents) u.2 in
         let in_team = its.in_team in
         let to : Contains (receivers t s) other.me =
@@ -196,6 +197,6 @@ module _ (tasks : List AgentTask) (agree : Agree tasks) (limits : All IsWithinLi
 
       by : (u : AgentTask) → Contains tasks u → t.me ≡ u.me → (step : TaskStep) (reached : JointState) → Taken step reached u (joint w agent e.key)
       by u here number step reached =
-          let same : t ≡ u = same_number tasks agree t u (task_in tasks agree limits w team agent r there) here number in
+          let same : t ≡ u = same_number tasks are.agree t u (task_in tasks are w team agent r there) here number in
           subst (λ (u : AgentTask). Taken step reached u (joint w agent e.key)) same
           (subst (λ (a : ℕ). Taken step reached t (joint w a e.key)) me (mine step reached))

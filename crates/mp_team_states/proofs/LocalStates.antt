@@ -34,6 +34,7 @@ use Rattle.mp_machine.specs.MemberFields.{EntryFits, SendingFits}
 use Rattle.mp_machine.specs.Outgoing.{Outgoing, Step, without_messages}
 use Rattle.mp_machine.specs.Taking.{with_state}
 use Rattle.mp_machine.proofs.EntriesFit.{FitsUpTo, HasExpanded, expanded_fits, received_fits}
+use Rattle.mp_world.specs.Team.{most_expansions}
 use Rattle.mp_world.specs.World.{World, agent_at}
 use Rattle.mp_team_states.specs.Sent.{IsSentIn}
 use Rattle.mp_team_states.specs.Sound.{AreTold, IsSoundAgent, IsStateOf}
@@ -66,7 +67,7 @@ pub quiet_sound : (w : World) (t : AgentTask) (r : AgentRecord) (s : Step) → I
 quiet_sound w t r s sound quiet = record {
   agent = record {
     task = quiet.task ∙ sound.task;
-    limit = subst (λ (n : ℕ). n ≤ 10000000) (sym quiet.limit_is) sound.limit;
+    limit = subst (λ (n : ℕ). n ≤ most_expansions) (sym quiet.limit_is) sound.limit;
     within = subst (λ (n : ℕ). s.after.search.expansions ≤ n) (sym quiet.limit_is) (subst (λ (x : SearchRecord). x.expansions ≤ r.limit) (sym quiet.search_is) sound.within);
     sent = subst (λ (x : SearchRecord). length x.kept.sent ≤ 200000 * x.expansions) (sym quiet.search_is) sound.sent;
     kept = subst (λ (x : SearchRecord). IsSound same_state x.kept) (sym quiet.search_is) sound.kept;

@@ -1,13 +1,11 @@
 -- Which entries come in an event: own actions led to them, or a state that another agent sent.
-use Rattle.std.proofs.Common.{◌≡◌, ℕ, ◌+◌, ◌<◌, ◌⊎◌, true, List, [], Option, Some, All, sym, ap, ◌∙◌, arith, inl, inr}
+use Rattle.std.proofs.Common.{◌≡◌, ℕ, ◌+◌, ◌<◌, ◌⊎◌, true, List, [], Option, Some, sym, ap, ◌∙◌, arith, inl, inr}
 use Rattle.std.specs.Prelude.{Contains, slice_get}
 use Rattle.std.proofs.lemmas.List.Elements.{Contains-get_or}
 use Rattle.std.proofs.lemmas.Option.{slice_get_within}
 use Rattle.mp_sets.specs.Numbers.{Numbers}
 use Rattle.mp_task.specs.declared.act.Act.{Act}
-use Rattle.mp_task.specs.Agree.{Agree}
 use Rattle.mp_task.specs.AgentTask.{AgentTask}
-use Rattle.mp_task.specs.Limits.{IsWithinLimits}
 use Rattle.mp_task.specs.Plan.{task_of}
 use Rattle.mp_messages.specs.declared.history.Event.{Event}
 use Rattle.mp_messages.specs.declared.history.Event.TheVariants.{Expand, Take, Start}
@@ -28,6 +26,8 @@ use Rattle.mp_machine.specs.AgentRecord.{AgentRecord}
 use Rattle.mp_machine.specs.LocalStep.{with_search}
 use Rattle.mp_machine.specs.Outgoing.{Step, without_messages}
 use Rattle.mp_machine.specs.Taking.{with_state}
+use Rattle.mp_world.specs.Team.{AreTeamTasks}
+use Rattle.mp_world.specs.Values.{Values}
 use Rattle.mp_world.specs.World.{IsTeamWorld, World, under_way}
 use Rattle.mp_world.specs.Events.{local_of, taken}
 use Rattle.mp_world.specs.Steps.{IsStepOf}
@@ -156,8 +156,8 @@ module _ (value : Numbers → Numbers → Option ℕ) (tasks : List AgentTask) (
         origin = new.alike.origin ∙ new.comes.origin;
       })
 
-module _ (tasks : List AgentTask) (agree : Agree tasks) (limits : All IsWithinLimits tasks) (w : World) (team : IsTeamWorld tasks w) (sound : AreStatesSound tasks w)
-    (value : AgentTask → Numbers → Numbers → Option ℕ) (next : World) where
+module _ (tasks : List AgentTask) (are : AreTeamTasks tasks) (w : World) (team : IsTeamWorld tasks w) (sound : AreStatesSound tasks w)
+    (value : Values) (next : World) where
   -- a state that is read is one that another agent sent
   sender_sent : (event : Event) (is : IsStepOf value w event next) (from : ℕ) (m : State) → local_of event ≡ locals.Take from
       → message_of is.agent.task.agents is.agent.task.publics (taken w event) ≡ Some (kinds.State m)
@@ -165,14 +165,14 @@ module _ (tasks : List AgentTask) (agree : Agree tasks) (limits : All IsWithinLi
   sender_sent (Expand agent) is from m e reads = absurd (let impossible : ⊥ = cc in impossible)
   sender_sent Start is from m e reads = absurd (let impossible : ⊥ = cc in impossible)
   sender_sent (Take by a) is from m e reads =
-      let sender = sender_of tasks (agree_numbered tasks agree) w team by a is.agent is.there is.may in
+      let sender = sender_of tasks (agree_numbered tasks are.agree) w team by a is.agent is.there is.may in
       let other = agent_there w a sender.0 in
-      let at : task_of tasks a ≡ Some other.0.task = task_at tasks agree limits w team a other.0 other.1 in
+      let at : task_of tasks a ≡ Some other.0.task = task_at tasks are w team a other.0 other.1 in
       let here : Contains (under_way w a by) (taken w (Take by a)) =
       Contains-get_or (under_way w a by) 0 [] (not_none (under_way w a by) is.message)
       in
       let read =
-      what_is_read tasks agree limits w team sound a by other.0.task is.agent at is.there (taken w (Take by a)) m here reads
+      what_is_read tasks are w team sound a by other.0.task is.agent at is.there (taken w (Take by a)) m here reads
       in
       let same : from ≡ a = cc in
       (other.0.task, ap (task_of tasks) same ∙ at, read.1)

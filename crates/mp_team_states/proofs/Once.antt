@@ -1,13 +1,11 @@
 -- One agent that knows nothing of what is still to be paid expands no state twice: what it expands costs no less than before.
-use Rattle.std.proofs.Common.{◌≡◌, ℕ, ◌≤◌, ◌⊎◌, List, [], length, Option, Some, All, sym, ap, subst, ◌∙◌, arith, inl, inr}
+use Rattle.std.proofs.Common.{◌≡◌, ℕ, ◌≤◌, ◌⊎◌, List, [], length, Option, Some, sym, ap, subst, ◌∙◌, arith, inl, inr}
 use Rattle.std.specs.Prelude.{Ok, not, slice_get}
 use Rattle.std.specs.Option.{option_map_or}
 use Rattle.std.proofs.lemmas.Bool.{and_parts, cases_eq}
 use Rattle.std.proofs.lemmas.Option.{none-some, same_Some}
 use Rattle.mp_runs.proofs.Runs.{run_keeps}
-use Rattle.mp_task.specs.Agree.{Agree}
 use Rattle.mp_task.specs.AgentTask.{AgentTask}
-use Rattle.mp_task.specs.Limits.{IsWithinLimits}
 use Rattle.mp_messages.specs.declared.history.Event.{Event}
 use Rattle.mp_messages.specs.declared.history.Event.TheVariants.{Expand, Take, Start}
 use Rattle.mp_store.specs.declared.entry.Entry.{Entry}
@@ -27,6 +25,7 @@ use Rattle.mp_machine.specs.Outgoing.{Step}
 use Rattle.mp_machine.specs.Snapshots.{started}
 use Rattle.mp_world.specs.Events.{after_event, agent_of, run}
 use Rattle.mp_world.specs.Steps.{IsStepOf}
+use Rattle.mp_world.specs.Team.{AreTeamTasks, IsTeam, team_with}
 use Rattle.mp_world.specs.World.{IsTeamWorld, World, agent_at, start_world}
 use Rattle.mp_world.proofs.Agents.{agree_numbered, sender_of}
 use Rattle.mp_world.proofs.Mail.{agent_of_team}
@@ -248,7 +247,7 @@ rising_first t = record {
 
 -- ---- runs of one agent
 
-module _ (tasks : List AgentTask) (agree : Agree tasks) (limits : All IsWithinLimits tasks) (alone : length tasks ≡ 1) where
+module _ (tasks : List AgentTask) (are : AreTeamTasks tasks) (alone : length tasks ≡ 1) where
   pub record IsInvariantOfOne (w : World) : Type 0 where
     pub team : IsTeamWorld tasks w
     pub sound : AreStatesSound tasks w
@@ -263,9 +262,9 @@ module _ (tasks : List AgentTask) (agree : Agree tasks) (limits : All IsWithinLi
       let may = and_parts (is_going r.ending) (may_expand r.limit r.search) is.may in
       let below = and_parts (not (is_spent r.limit r.search)) (is_open_below r.search.kept) may.1 in
       subst (λ (s : Step). HasRisingCosts s.after.search.kept) same
-      (rising_later r.task r.search (agent_sound tasks agree limits w all.team all.sound agent r is.there).kept (all.rising agent r is.there) (worth r.search.kept below.1))
+      (rising_later r.task r.search (agent_sound tasks are w all.team all.sound agent r is.there).kept (all.rising agent r is.there) (worth r.search.kept below.1))
   step_rising w next all (Take by from) is =
-      let sender = sender_of tasks (agree_numbered tasks agree) w all.team by from is.agent is.there is.may in
+      let sender = sender_of tasks (agree_numbered tasks are.agree) w all.team by from is.agent is.there is.may in
       let receiver = agent_of_team w by is.agent is.there in
       let size = team_size tasks w all.team in
       let a = sender.0.from_1 in
@@ -282,7 +281,7 @@ module _ (tasks : List AgentTask) (agree : Agree tasks) (limits : All IsWithinLi
   event_of_one : (w next : World) (event : Event) → IsInvariantOfOne w → after_event nothing_known w event ≡ Some next → IsInvariantOfOne next
   event_of_one w next event all leads = record {
     team = event_keeps_team nothing_known tasks w event next all.team leads;
-    sound = states_stay_sound tasks agree limits w all.team all.sound nothing_known next event is;
+    sound = states_stay_sound tasks are w all.team all.sound nothing_known next event is;
     rising = λ agent r there. by agent r there (cases_eq agent (agent_of event));
   }
     where
@@ -294,25 +293,26 @@ module _ (tasks : List AgentTask) (agree : Agree tasks) (limits : All IsWithinLi
           subst (λ (r : AgentRecord). HasRisingCosts r.search.kept) (same_Some is.step.after r (sym is.after ∙ ap (agent_at next) (sym same) ∙ there)) (step_rising w next all event is)
       by agent r there (inr other) = all.rising agent r (sym (is.others agent other) ∙ there)
 
-  start_of_one : (limit : ℕ) → limit ≤ 10000000 → IsInvariantOfOne (start_world nothing_known limit tasks)
-  start_of_one limit most = record {
-    team = start_is_team nothing_known limit tasks;
-    sound = start_states_sound nothing_known limit tasks agree limits most;
+  start_of_one : (limit : ℕ) → IsTeam (team_with nothing_known limit tasks) → IsInvariantOfOne (start_world (team_with nothing_known limit tasks))
+  start_of_one limit is_team = record {
+    team = start_is_team (team_with nothing_known limit tasks);
+    sound = start_states_sound (team_with nothing_known limit tasks) is_team;
     rising = λ agent r there.
-        let of = task_is nothing_known limit tasks agree limits most agent r there in
+        let of = task_is (team_with nothing_known limit tasks) is_team agent r there in
         subst (λ (r : AgentRecord). HasRisingCosts r.search.kept) (sym of.2) (rising_first of.0);
   }
 
-  pub run_expands_once : (limit : ℕ) → limit ≤ 10000000 → (schedule : List Event) (w : World) → run nothing_known limit tasks schedule ≡ Some w → ExpandsOnce w
-  run_expands_once limit most schedule w ran agent m n a b same =
-      let all = run_keeps (after_event nothing_known) IsInvariantOfOne (λ v next event all leads. event_of_one v next event all leads) schedule (start_world nothing_known limit tasks) w (start_of_one limit most) ran in
+  pub run_expands_once : (limit : ℕ) → IsTeam (team_with nothing_known limit tasks) → (schedule : List Event) (w : World)
+      → run (team_with nothing_known limit tasks) schedule ≡ Some w → ExpandsOnce w
+  run_expands_once limit is_team schedule w ran agent m n a b same =
+      let all = run_keeps (after_event nothing_known) IsInvariantOfOne (λ v next event all leads. event_of_one v next event all leads) schedule (start_world (team_with nothing_known limit tasks)) w (start_of_one limit is_team) ran in
       let x = has_it w agent m a.entry a.there in
       let y = has_it w agent n b.entry b.there in
       let one : y.agent_is ≡ x.agent_is = same_Some y.agent_is x.agent_is (sym y.there ∙ x.there) in
       let y_at : slice_get x.agent_is.search.kept.entries n ≡ Some b.entry = subst (λ (r : AgentRecord). slice_get r.search.kept.entries n ≡ Some b.entry) one y.at in
       let key =
-      equal_if_joint tasks agree limits w all.team all.sound agent x.agent_is a.entry.key b.entry.key x.there
-      (states_known tasks agree limits w all.team all.sound agent m x.agent_is a.entry x.there x.at)
-      (states_known tasks agree limits w all.team all.sound agent n x.agent_is b.entry x.there y_at) same
+      equal_if_joint tasks are w all.team all.sound agent x.agent_is a.entry.key b.entry.key x.there
+      (states_known tasks are w all.team all.sound agent m x.agent_is a.entry x.there x.at)
+      (states_known tasks are w all.team all.sound agent n x.agent_is b.entry x.there y_at) same
       in
       (all.rising agent x.agent_is x.there).once m n (record { entry = a.entry; at = x.at; is = a.is }) (record { entry = b.entry; at = y_at; is = b.is }) key

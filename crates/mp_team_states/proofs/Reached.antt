@@ -1,5 +1,5 @@
 -- Each entry is reached by its path, in every world that a legal schedule leads to.
-use Rattle.std.proofs.Common.{◌≡◌, ℕ, zero, suc, ◌+◌, ◌<◌, ◌⊎◌, List, [], ◌∷◌, ◌++◌, Option, Some, None, All, refl, sym, ap, subst, ◌∙◌, arith, inl, inr}
+use Rattle.std.proofs.Common.{◌≡◌, ℕ, zero, suc, ◌+◌, ◌<◌, ◌⊎◌, List, [], ◌∷◌, ◌++◌, Option, Some, None, refl, sym, ap, subst, ◌∙◌, arith, inl, inr}
 use Rattle.std.specs.Prelude.{IsSomeAnd, option_and_then, slice_get}
 use Rattle.std.specs.List.{sum_by}
 use Rattle.std.specs.Option.{option_map_or}
@@ -7,11 +7,8 @@ use Rattle.std.proofs.lemmas.Bool.{cases_eq}
 use Rattle.std.proofs.lemmas.List.Sums.{sum_by-append}
 use Rattle.std.proofs.lemmas.Option.{same_Some}
 use Rattle.mp_runs.proofs.Runs.{run-more}
-use Rattle.mp_sets.specs.Numbers.{Numbers}
 use Rattle.mp_task.specs.declared.act.Act.{Act}
-use Rattle.mp_task.specs.Agree.{Agree}
 use Rattle.mp_task.specs.AgentTask.{AgentTask}
-use Rattle.mp_task.specs.Limits.{IsWithinLimits}
 use Rattle.mp_task.specs.Plan.{JointState, TaskStep, act_of, after_step, joint_start, step_cost, task_of}
 use Rattle.mp_messages.specs.declared.history.Event.{Event}
 use Rattle.mp_messages.specs.declared.message.State.{State}
@@ -23,6 +20,8 @@ use Rattle.mp_search.specs.AgentState.{AgentState, successor}
 use Rattle.mp_search.specs.Receipt.{state_of}
 use Rattle.mp_search.proofs.KeyedStates.{all_get}
 use Rattle.mp_machine.specs.AgentRecord.{AgentRecord}
+use Rattle.mp_world.specs.Team.{AreTeamTasks}
+use Rattle.mp_world.specs.Values.{Values}
 use Rattle.mp_world.specs.World.{IsTeamWorld, World, agent_at}
 use Rattle.mp_world.specs.Events.{agent_of}
 use Rattle.mp_world.specs.Joint.{joint, joint_told}
@@ -97,10 +96,10 @@ cost_more : (f : TaskStep → ℕ) (xs : List TaskStep) (x : TaskStep) → sum_b
 cost_more f xs x = sum_by-append f xs (x ∷ []) ∙ ap (λ (n : ℕ). sum_by f xs + n) (let e : 0 + f x ≡ f x = omega arith in e)
 
 -- a state that was sent is told of rightly
-pub told_rightly : (tasks : List AgentTask) (agree : Agree tasks) (limits : All IsWithinLimits tasks) (w : World) (team : IsTeamWorld tasks w) (sound : AreStatesSound tasks w)
+pub told_rightly : (tasks : List AgentTask) (are : AreTeamTasks tasks) (w : World) (team : IsTeamWorld tasks w) (sound : AreStatesSound tasks w)
     → AreReached tasks w → (sender : ℕ) (u : AgentTask) (m : State) → task_of tasks sender ≡ Some u → IsSoundState w u m → IsToldRightly tasks w sender m
-told_rightly tasks agree limits w team sound reached sender u m at sound_state =
-    let found = agent_there w sender (agent_of_task tasks agree limits w team sender u at) in
+told_rightly tasks are w team sound reached sender u m at sound_state =
+    let found = agent_there w sender (agent_of_task tasks are w team sender u at) in
     by found.0 found.1
   where
     told : (r : AgentRecord) → agent_at w sender ≡ Some r → (sent : IsSentIn r.task r.search.kept m) → IsReached tasks w sender sent.number sent.entry
@@ -116,26 +115,26 @@ told_rightly tasks agree limits w team sound reached sender u m at sound_state =
 
     by : (r : AgentRecord) → agent_at w sender ≡ Some r → IsToldRightly tasks w sender m
     by r there =
-        let same : u ≡ r.task = same_Some u r.task (sym at ∙ task_at tasks agree limits w team sender r there) in
-        let me = (member_of tasks (agree_numbered tasks agree) w team sender r there).me in
+        let same : u ≡ r.task = same_Some u r.task (sym at ∙ task_at tasks are w team sender r there) in
+        let me = (member_of tasks (agree_numbered tasks are.agree) w team sender r there).me in
         let state : IsSentState w r.task m = subst (λ (u : AgentTask). IsSentState w u m) same sound_state.sent in
         let sent : IsSentIn r.task r.search.kept m =
         subst (λ (o : Option AgentRecord). IsSomeAnd o (λ x. IsSentIn r.task x.search.kept m)) (ap (agent_at w) me ∙ there) state
         in
         told r there sent (reached sender sent.number sent.entry (entry_in w sender sent.number r sent.entry there sent.there))
-        (tells_of_entry tasks agree limits w team sound sender r m sent.number sent.entry there state sent.sent sent.there)
+        (tells_of_entry tasks are w team sound sender r m sent.number sent.entry there state sent.sent sent.there)
 
-module _ (tasks : List AgentTask) (agree : Agree tasks) (limits : All IsWithinLimits tasks) (w : World) (team : IsTeamWorld tasks w) (sound : AreStatesSound tasks w)
-    (reached : AreReached tasks w) (value : AgentTask → Numbers → Numbers → Option ℕ) (next : World) (event : Event) (is : IsStepOf value w event next) where
+module _ (tasks : List AgentTask) (are : AreTeamTasks tasks) (w : World) (team : IsTeamWorld tasks w) (sound : AreStatesSound tasks w)
+    (reached : AreReached tasks w) (value : Values) (next : World) (event : Event) (is : IsStepOf value w event next) where
   grown : HaveGrown w next
   grown = step_grows value w next event is
 
   records : HaveSoundRecords w
-  records = records_sound tasks agree limits w team sound
+  records = records_sound tasks are w team sound
 
   same_joint : (agent : ℕ) (r : AgentRecord) (s : AgentState) → agent_at w agent ≡ Some r → IsStateOf w r.task s → joint next agent s ≡ joint w agent s
   same_joint agent r s there known =
-      let me = (member_of tasks (agree_numbered tasks agree) w team agent r there).me in
+      let me = (member_of tasks (agree_numbered tasks are.agree) w team agent r there).me in
       (λ j. joint next (sym me j) s) ∙ joint_same w next records grown r.task s known ∙ (λ j. joint w (me j) s)
 
   -- an entry that was there
@@ -143,7 +142,7 @@ module _ (tasks : List AgentTask) (agree : Agree tasks) (limits : All IsWithinLi
       → IsReached tasks next agent number e
   old_reached agent number r old e there at alike =
       let x = reached agent number old (entry_in w agent number r old there at) in
-      let states = (agent_sound tasks agree limits w team sound agent r there).states in
+      let states = (agent_sound tasks are w team sound agent r there).states in
       let known : IsStateOf w r.task old.key = all_get (λ (e : Entry AgentState). IsStateOf w r.task e.key) r.search.kept.entries number old states at in
       record {
         steps = x.steps;
@@ -161,12 +160,12 @@ module _ (tasks : List AgentTask) (agree : Agree tasks) (limits : All IsWithinLi
 
   me_is : t.me ≡ agent_of event
   unfolding t
-  me_is = (member_of tasks (agree_numbered tasks agree) w team (agent_of event) is.agent is.there).me
+  me_is = (member_of tasks (agree_numbered tasks are.agree) w team (agent_of event) is.agent is.there).me
 
   last_known : (n : ℕ) (e : Entry AgentState) → slice_get last.entries n ≡ Some e → IsStateOf next t e.key
   unfolding t last
   last_known n e at =
-      let after = (states_stay_sound tasks agree limits w team sound value next event is).agents (agent_of event) t (task_at tasks agree limits w team (agent_of event) is.agent is.there) in
+      let after = (states_stay_sound tasks are w team sound value next event is).agents (agent_of event) t (task_at tasks are w team (agent_of event) is.agent is.there) in
       let agent : IsSoundAgent next t is.step.after = subst (λ (o : Option AgentRecord). IsSomeAnd o (IsSoundAgent next t)) is.after after in
       all_get (λ (e : Entry AgentState). IsStateOf next t e.key) last.entries n e agent.states at
 
@@ -176,12 +175,12 @@ module _ (tasks : List AgentTask) (agree : Agree tasks) (limits : All IsWithinLi
   led_reached n e at led x =
       let a = agent_of event in
       let step : TaskStep = record { agent = a; action = led.action } in
-      let task : task_of tasks a ≡ Some t = task_at tasks agree limits w team a is.agent is.there in
+      let task : task_of tasks a ≡ Some t = task_at tasks are w team a is.agent is.there in
       let leads : after_step tasks (joint next a led.from.key) step ≡ Some (joint next a (successor led.act led.from.key)) =
       subst
       (λ (a : ℕ). after_step tasks (joint next a led.from.key) (record { agent = a; action = led.action }) ≡ Some (joint next a (successor led.act led.from.key)))
       me_is
-      (action_leads next t (limits_of tasks agree limits w team a is.agent is.there) led.from.key (last_known led.parent led.from led.there) tasks led.action led.act
+      (action_leads next t (limits_of tasks are w team a is.agent is.there) led.from.key (last_known led.parent led.from led.there) tasks led.action led.act
       (ap (task_of tasks) me_is ∙ task) led.own led.may)
       in
       let act : act_of tasks step ≡ Some led.act = ap (λ (o : Option AgentTask). option_and_then (λ t. slice_get t.acts led.action) o) task ∙ led.own in
@@ -201,8 +200,8 @@ module _ (tasks : List AgentTask) (agree : Agree tasks) (limits : All IsWithinLi
   heard_reached n e at heard =
       let a = agent_of event in
       let m = heard.message in
-      let x = told_rightly tasks agree limits w team sound reached heard.sender heard.task m heard.at heard.state in
-      let knows = receiver_knows tasks agree limits w team sound heard.sender a heard.task is.agent heard.at is.there m heard.state in
+      let x = told_rightly tasks are w team sound reached heard.sender heard.task m heard.at heard.state in
+      let knows = receiver_knows tasks are w team sound heard.sender a heard.task is.agent heard.at is.there m heard.state in
       let same : joint_told w m ≡ joint next a e.key =
       joint_told_is a m (state_of is.agent.task is.agent.search.kept m) e.key knows.0 knows.1 heard.key
       in
@@ -224,7 +223,7 @@ module _ (tasks : List AgentTask) (agree : Agree tasks) (limits : All IsWithinLi
   unfolding t last
   below zero n e less at = absurd (omega arith)
   below (suc k) n e less at =
-      by (λ n e less at. below k n e less at) (entry_comes tasks agree limits w team sound value next event is n e at)
+      by (λ n e less at. below k n e less at) (entry_comes tasks are w team sound value next event is n e at)
     where
       by : ((n : ℕ) (e : Entry AgentState) → n < k → slice_get is.step.after.search.kept.entries n ≡ Some e → IsReached tasks next (agent_of event) n e)
           → Comes (value is.agent.task) tasks w is.agent is.step n e → IsReached tasks next (agent_of event) n e

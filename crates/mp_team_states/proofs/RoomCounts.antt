@@ -1,18 +1,16 @@
 -- Costs and estimates are small at the start, and so is the number of all expansions.
-use Rattle.std.proofs.Common.{◌≡◌, ℕ, suc, ◌+◌, ◌≤◌, ◌^◌, ◌⊎◌, List, [], ◌∷◌, length, get_or, Option, Some, All, refl, sym, ap, subst, ◌∙◌, arith, inl, inr}
+use Rattle.std.proofs.Common.{◌≡◌, ℕ, suc, ◌+◌, ◌≤◌, ◌^◌, ◌⊎◌, List, [], ◌∷◌, length, get_or, Some, All, refl, sym, ap, subst, ◌∙◌, arith, inl, inr}
 use Rattle.std.specs.Prelude.{Contains, slice_get}
 use Rattle.std.proofs.lemmas.List.Sums.{sum_by-le}
 use Rattle.std.proofs.lemmas.Option.{none-some, slice_get-get_or}
-use Rattle.mp_sets.specs.Numbers.{Numbers}
-use Rattle.mp_task.specs.Agree.{Agree}
 use Rattle.mp_task.specs.AgentTask.{AgentTask}
-use Rattle.mp_task.specs.Limits.{IsWithinLimits}
 use Rattle.mp_task.specs.Plan.{task_of}
 use Rattle.mp_store.specs.declared.entry.Entry.{Entry}
 use Rattle.mp_store.specs.Record.{empty}
 use Rattle.mp_search.specs.AgentState.{AgentState, start_state}
 use Rattle.mp_search.specs.Offering.{start_record}
 use Rattle.mp_machine.specs.AgentRecord.{AgentRecord, new_record}
+use Rattle.mp_world.specs.Team.{AreTeamTasks, IsTeam, Team, most_expansions}
 use Rattle.mp_world.specs.World.{IsTeamWorld, World, agent_at, start_world}
 use Rattle.mp_world.proofs.Agents.{agree_numbered, member_of}
 use Rattle.mp_world.proofs.Stepping.{team_size}
@@ -28,23 +26,24 @@ use Rattle.mp_team_states.proofs.StepsSound.{agent_sound, limits_of}
 
 -- ---- the start
 
-pub start_small : (value : AgentTask → Numbers → Numbers → Option ℕ) (limit : ℕ) (tasks : List AgentTask) (agree : Agree tasks) (limits : All IsWithinLimits tasks)
-    (most : limit ≤ 10000000) → HasSmallValues value tasks → AreSmall (start_world value limit tasks)
-start_small value limit tasks agree limits most values agent n e has = by found.0 (here value limit tasks agree limits most agent found.0 found.1) at
+pub start_small : (team : Team) → IsTeam team → HasSmallValues team.value team.tasks → AreSmall (start_world team)
+start_small team is_team values agent n e has = by found.0 (here team is_team agent found.0 found.1) at
   where
-    h : HasIt (start_world value limit tasks) agent n e
-    h = has_it (start_world value limit tasks) agent n e has
+    open team use {tasks, value, limit}
+
+    h : HasIt (start_world team) agent n e
+    h = has_it (start_world team) agent n e has
 
     found : (t : AgentTask) × (task_of tasks agent ≡ Some t) × (h.agent_is ≡ new_record t (value t) limit)
-    found = task_is value limit tasks agree limits most agent h.agent_is h.there
+    found = task_is team is_team agent h.agent_is h.there
 
     at : slice_get (start_record found.0 (value found.0)).kept.entries n ≡ Some e
     at = subst (λ (r : AgentRecord). slice_get r.search.kept.entries n ≡ Some e) found.2 h.at
 
-    by : (t : AgentTask) → Contains tasks t → slice_get (start_record t (value t)).kept.entries n ≡ Some e → IsSmall (expanded_by_all (start_world value limit tasks)) e
+    by : (t : AgentTask) → Contains tasks t → slice_get (start_record t (value t)).kept.entries n ≡ Some e → IsSmall (expanded_by_all (start_world team)) e
     by t in_team at = either (changes_entry (IsFirst t (value t)) t empty (start_record t (value t)).kept [] (start_changes t (value t)) n e at)
       where
-        either : IsOld empty n e ⊎ IsNew (IsFirst t (value t)) t (start_record t (value t)).kept n e → IsSmall (expanded_by_all (start_world value limit tasks)) e
+        either : IsOld empty n e ⊎ IsNew (IsFirst t (value t)) t (start_record t (value t)).kept n e → IsSmall (expanded_by_all (start_world team)) e
         either (inl old) = absurd (none-some old.old old.there)
         either (inr new) =
             let g_is : e.g ≡ 0 = new.alike.g ∙ new.comes.g in
@@ -56,11 +55,11 @@ start_small value limit tasks agree limits most values agent n e has = by found.
 
 -- ---- how many entries are expanded
 
-module _ (tasks : List AgentTask) (agree : Agree tasks) (limits : All IsWithinLimits tasks) (w : World) (team : IsTeamWorld tasks w) (sound : AreStatesSound tasks w) where
-  each_count : All (λ r. r.search.expansions ≤ 10000000) w.agents
+module _ (tasks : List AgentTask) (are : AreTeamTasks tasks) (w : World) (team : IsTeamWorld tasks w) (sound : AreStatesSound tasks w) where
+  each_count : All (λ r. r.search.expansions ≤ most_expansions) w.agents
   each_count k d h =
       let there : agent_at w (suc k) ≡ Some (get_or w.agents k d) = slice_get-get_or w.agents k d h in
-      let is = agent_sound tasks agree limits w team sound (suc k) (get_or w.agents k d) there in
+      let is = agent_sound tasks are w team sound (suc k) (get_or w.agents k d) there in
       let within = is.within in
       let most = is.limit in
       omega arith
@@ -72,8 +71,8 @@ module _ (tasks : List AgentTask) (agree : Agree tasks) (limits : All IsWithinLi
       by [] is = omega arith
       by (r ∷ rs) is =
           let there : agent_at w 1 ≡ Some r = ap (λ (xs : List AgentRecord). slice_get xs 0) is in
-          let fit = limits_of tasks agree limits w team 1 r there in
-          let of = member_of tasks (agree_numbered tasks agree) w team 1 r there in
+          let fit = limits_of tasks are w team 1 r there in
+          let of = member_of tasks (agree_numbered tasks are.agree) w team 1 r there in
           let size = team_size tasks w team in
           let many = of.agents in
           let most = fit.at_most_16_agents in
@@ -82,7 +81,7 @@ module _ (tasks : List AgentTask) (agree : Agree tasks) (limits : All IsWithinLi
 
   pub few_expansions : expanded_by_all w ≤ 160000000
   few_expansions =
-      let all = sum_by-le (λ (r : AgentRecord). r.search.expansions) 10000000 w.agents each_count in
+      let all = sum_by-le (λ (r : AgentRecord). r.search.expansions) most_expansions w.agents each_count in
       let few = few_agents in
       omega arith
 

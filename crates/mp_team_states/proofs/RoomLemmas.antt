@@ -1,5 +1,5 @@
 -- Costs and estimates stay small.
-use Rattle.std.proofs.Common.{◌≡◌, ℕ, zero, suc, ◌+◌, ◌*◌, ◌-◌, ◌<◌, ◌≤◌, ◌^◌, ◌⊎◌, List, [], ◌∷◌, max, get_or, Option, Some, None, All, refl, sym, ap, subst, ◌∙◌, arith, inl, inr}
+use Rattle.std.proofs.Common.{◌≡◌, ℕ, zero, suc, ◌+◌, ◌*◌, ◌-◌, ◌<◌, ◌≤◌, ◌^◌, ◌⊎◌, List, [], ◌∷◌, max, get_or, Option, Some, None, refl, sym, ap, subst, ◌∙◌, arith, inl, inr}
 use Rattle.std.specs.Prelude.{Contains, IfSome, IsSomeAnd, Ok, option_map, slice_get, slice_set}
 use Rattle.std.specs.List.{sum_by}
 use Rattle.std.proofs.lemmas.Bool.{cases_eq}
@@ -7,7 +7,6 @@ use Rattle.std.proofs.lemmas.List.Elements.{All-contains}
 use Rattle.std.proofs.lemmas.List.Sums.{sum_by-set}
 use Rattle.std.proofs.lemmas.Option.{get_or_from_slice_get, none-some, same_Some, slice_get_within}
 use Rattle.mp_sets.specs.Numbers.{Numbers}
-use Rattle.mp_task.specs.Agree.{Agree}
 use Rattle.mp_task.specs.AgentTask.{AgentTask}
 use Rattle.mp_task.specs.Limits.{ActFits, IsWithinLimits}
 use Rattle.mp_task.specs.Plan.{task_of}
@@ -23,6 +22,8 @@ use Rattle.mp_machine.specs.AgentRecord.{AgentRecord}
 use Rattle.mp_machine.specs.LocalStep.{local}
 use Rattle.mp_machine.specs.Outgoing.{Step}
 use Rattle.mp_machine.specs.Taking.{with_state}
+use Rattle.mp_world.specs.Team.{AreTeamTasks}
+use Rattle.mp_world.specs.Values.{Values}
 use Rattle.mp_world.specs.World.{IsTeamWorld, World, agent_at, with_agent}
 use Rattle.mp_world.specs.Events.{agent_of, local_of, taken}
 use Rattle.mp_world.specs.Steps.{IsStepOf}
@@ -69,7 +70,7 @@ same_by_get (x ∷ xs) (y ∷ ys) same =
     let rest = same_by_get xs ys (λ k. same (suc k)) in
     λ j. first j ∷ rest j
 
-module _ (value : AgentTask → Numbers → Numbers → Option ℕ) (w next : World) (event : Event) (is : IsStepOf value w event next) where
+module _ (value : Values) (w next : World) (event : Event) (is : IsStepOf value w event next) where
   agents_are : next.agents ≡ (with_agent w (agent_of event) is.step.after).agents
   agents_are = same_by_get next.agents (with_agent w (agent_of event) is.step.after).agents (λ k. by k (cases_eq (suc k) (agent_of event)))
     where
@@ -116,22 +117,22 @@ small_greater None m h small below is = absurd (none-some h is)
 small_greater (Some x) m h small below is = subst (λ (n : ℕ). n < 2 ^ 50) (same_Some (max m x) h is) (omega arith)
 
 -- a state that was sent costs what its entry does
-pub sent_small : (tasks : List AgentTask) (agree : Agree tasks) (limits : All IsWithinLimits tasks) (w : World) (team : IsTeamWorld tasks w) (sound : AreStatesSound tasks w)
+pub sent_small : (tasks : List AgentTask) (are : AreTeamTasks tasks) (w : World) (team : IsTeamWorld tasks w) (sound : AreStatesSound tasks w)
     → AreSmall w → (sender : ℕ) (u : AgentTask) (m : State) → task_of tasks sender ≡ Some u → IsSoundState w u m
     → (m.g ≤ 16000000 * expanded_by_all w) × (m.h < 2 ^ 50)
-sent_small tasks agree limits w team sound small sender u m at state =
-    let found = agent_there w sender (agent_of_task tasks agree limits w team sender u at) in
+sent_small tasks are w team sound small sender u m at state =
+    let found = agent_there w sender (agent_of_task tasks are w team sender u at) in
     by found.0 found.1
   where
     by : (r : AgentRecord) → agent_at w sender ≡ Some r → (m.g ≤ 16000000 * expanded_by_all w) × (m.h < 2 ^ 50)
     by r there =
-        let same : u ≡ r.task = same_Some u r.task (sym at ∙ task_at tasks agree limits w team sender r there) in
-        let me = (member_of tasks (agree_numbered tasks agree) w team sender r there).me in
+        let same : u ≡ r.task = same_Some u r.task (sym at ∙ task_at tasks are w team sender r there) in
+        let me = (member_of tasks (agree_numbered tasks are.agree) w team sender r there).me in
         let sent_by : IsSentState w r.task m = subst (λ (u : AgentTask). IsSentState w u m) same state.sent in
         let sent : IsSentIn r.task r.search.kept m =
         subst (λ (o : Option AgentRecord). IsSomeAnd o (λ x. IsSentIn r.task x.search.kept m)) (ap (agent_at w) me ∙ there) sent_by
         in
-        let tells = tells_of_entry tasks agree limits w team sound sender r m sent.number sent.entry there sent_by sent.sent sent.there in
+        let tells = tells_of_entry tasks are w team sound sender r m sent.number sent.entry there sent_by sent.sent sent.there in
         let x = small sender sent.number sent.entry (entry_in w sender sent.number r sent.entry there sent.there) in
         let g_is = tells.1 in
         let h_is = tells.2 in
@@ -139,11 +140,11 @@ sent_small tasks agree limits w team sound small sender u m at state =
         let estimate = x.estimate in
         (omega arith, omega arith)
 
-module _ (tasks : List AgentTask) (agree : Agree tasks) (limits : All IsWithinLimits tasks) (w : World) (team : IsTeamWorld tasks w) (sound : AreStatesSound tasks w)
-    (small : AreSmall w) (value : AgentTask → Numbers → Numbers → Option ℕ) (values : HasSmallValues value tasks) (next : World) (event : Event)
+module _ (tasks : List AgentTask) (are : AreTeamTasks tasks) (w : World) (team : IsTeamWorld tasks w) (sound : AreStatesSound tasks w)
+    (small : AreSmall w) (value : Values) (values : HasSmallValues value tasks) (next : World) (event : Event)
     (is : IsStepOf value w event next) where
   here : Contains tasks is.agent.task
-  here = (member_of tasks (agree_numbered tasks agree) w team (agent_of event) is.agent is.there).task
+  here = (member_of tasks (agree_numbered tasks are.agree) w team (agent_of event) is.agent is.there).task
 
   old_small : (agent number : ℕ) (r : AgentRecord) (old e : Entry AgentState) → agent_at w agent ≡ Some r → slice_get r.search.kept.entries number ≡ Some old
       → e.g ≡ old.g → e.h ≡ old.h → IsSmall (expanded_by_all next) e
@@ -153,7 +154,7 @@ module _ (tasks : List AgentTask) (agree : Agree tasks) (limits : All IsWithinLi
   led_small : (n : ℕ) (e : Entry AgentState) → IsLedIn (value is.agent.task) is.agent is.step.after.search n e → IsSmall (expanded_by_all next) e
   led_small n e led =
       let old = small (agent_of event) led.parent led.old (entry_in w (agent_of event) led.parent is.agent led.old is.there led.was) in
-      let fit = All-contains IsWithinLimits tasks is.agent.task limits here in
+      let fit = All-contains IsWithinLimits tasks is.agent.task are.within here in
       let acts = All-contains (ActFits is.agent.task.publics is.agent.task.privates) is.agent.task.acts led.act fit.acts (Contains-slice_get is.agent.task.acts led.action led.act led.own) in
       let price = acts.cost in
       let before = old.cost in
@@ -169,7 +170,7 @@ module _ (tasks : List AgentTask) (agree : Agree tasks) (limits : All IsWithinLi
   heard_small : (e : Entry AgentState) → IsHeardIn (value is.agent.task) tasks w is.agent e → IsSmall (expanded_by_all next) e
   heard_small e heard =
       let m = heard.message in
-      let sent = sent_small tasks agree limits w team sound small heard.sender heard.task m heard.at heard.state in
+      let sent = sent_small tasks are w team sound small heard.sender heard.task m heard.at heard.state in
       let more = counts_grow value w next event is in
       let before = sent.0 in
       let g_is = heard.g_is in
@@ -192,5 +193,5 @@ module _ (tasks : List AgentTask) (agree : Agree tasks) (limits : All IsWithinLi
       by : (agent ≡ agent_of event) ⊎ (agent ≡ agent_of event → ⊥) → IsSmall (expanded_by_all next) e
       by (inl same) =
           let one : h.agent_is ≡ is.step.after = same_Some h.agent_is is.step.after (sym h.there ∙ ap (agent_at next) same ∙ is.after) in
-          new (entry_comes tasks agree limits w team sound value next event is number e (subst (λ (r : AgentRecord). slice_get r.search.kept.entries number ≡ Some e) one h.at))
+          new (entry_comes tasks are w team sound value next event is number e (subst (λ (r : AgentRecord). slice_get r.search.kept.entries number ≡ Some e) one h.at))
       by (inr other) = old_small agent number h.agent_is e e (sym (is.others agent other) ∙ h.there) h.at refl refl

@@ -1,15 +1,14 @@
 -- What shows in a world that a cost may be.
-use Rattle.std.proofs.Common.{ℕ, List, All, sym, ap, subst, ◌∙◌, arith}
+use Rattle.std.proofs.Common.{ℕ, List, sym, ap, subst, ◌∙◌, arith}
 use Rattle.std.specs.Prelude.{Contains}
-use Rattle.mp_task.specs.Agree.{Agree}
 use Rattle.mp_task.specs.AgentTask.{AgentTask}
-use Rattle.mp_task.specs.Limits.{IsWithinLimits}
 use Rattle.mp_task.specs.Plan.{goals_hold}
 use Rattle.mp_reach.specs.Explored.{HasWitness}
 use Rattle.mp_reach.specs.Explored.HasWitness.{open_entry, under_way, goal_entry}
 use Rattle.mp_reach.specs.Found.{Entry as Seen, Message as Sent}
 use Rattle.mp_reach.specs.LeadsOn.{IsGoal, Known}
-use Rattle.mp_world.specs.World.{IsTeamWorld, World, start_world}
+use Rattle.mp_world.specs.Team.{AreTeamTasks}
+use Rattle.mp_world.specs.World.{IsTeamWorld, World}
 use Rattle.mp_world.specs.World as worlds
 use Rattle.mp_world.proofs.Agents.{agree_numbered}
 use Rattle.mp_world.proofs.Mail.{agent_of_team}
@@ -23,7 +22,7 @@ use Rattle.mp_team_states.specs.Witness.{HasWitnessIn}
 use Rattle.mp_team_states.specs.Witness.HasWitnessIn.{open_entry as open_entry_in, state_under_way, goal_entry as goal_entry_in}
 use Rattle.mp_team_states.proofs.Found.{found_entry, found_message}
 
-module _ (tasks : List AgentTask) (agree : Agree tasks) (limits : All IsWithinLimits tasks) where
+module _ (tasks : List AgentTask) (are : AreTeamTasks tasks) where
   pub shown_in : (w : World) → IsTeamWorld tasks w → AreStatesSound tasks w → AreGoalsFlagged tasks w → (cost : ℕ) → HasWitness (IsGoal tasks) (found_of w) cost → HasWitnessIn w cost
   shown_in w team sound flags cost (open_entry i seen there is within) =
       let f = found_entry w i seen there in
@@ -31,11 +30,11 @@ module _ (tasks : List AgentTask) (agree : Agree tasks) (limits : All IsWithinLi
       let h = ap (λ (x : Seen Known). x.estimate) f.is in
       open_entry_in i.0 i.1 f.entry (entry_in w i.0 i.1 f.agent_is f.entry f.there f.at) (ap (λ (x : Seen Known). x.mark) (sym f.is) ∙ is) (omega arith)
   shown_in w team sound flags cost (under_way x here within) =
-      let f = found_message tasks (agree_numbered tasks agree) w team x here in
+      let f = found_message tasks (agree_numbered tasks are.agree) w team x here in
       let g = ap (λ (x : Sent Known). x.cost) f.is in
       let h = ap (λ (x : Sent Known). x.estimate) f.is in
-      let at = task_at tasks agree limits w team f.from f.sender f.sender_there in
-      let read = what_is_read tasks agree limits w team sound f.from f.to f.sender.task f.receiver at f.receiver_there f.bytes f.state f.here f.reads in
+      let at = task_at tasks are w team f.from f.sender f.sender_there in
+      let read = what_is_read tasks are w team sound f.from f.to f.sender.task f.receiver at f.receiver_there f.bytes f.state f.here f.reads in
       state_under_way f.from f.to f.state (agent_of_team w f.from f.sender f.sender_there) (agent_of_team w f.to f.receiver f.receiver_there)
       (subst (λ (b : List ℕ). Contains (worlds.under_way w f.from f.to) b) read.0 f.here) (omega arith)
   shown_in w team sound flags cost (goal_entry i seen there goal within) =

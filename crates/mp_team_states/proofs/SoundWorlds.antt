@@ -1,11 +1,8 @@
 -- What holds in a world of a team whose states are sound, agent by agent.
-use Rattle.std.proofs.Common.{◌≡◌, ℕ, ◌+◌, ◌*◌, ◌<◌, ◌≤◌, ◌^◌, List, length, max, get_or, Option, Some, None, All, refl, sym, ap, subst, ◌∙◌, arith}
+use Rattle.std.proofs.Common.{◌≡◌, ℕ, ◌+◌, ◌*◌, ◌<◌, ◌≤◌, ◌^◌, List, length, max, get_or, Option, Some, None, refl, sym, ap, subst, ◌∙◌, arith}
 use Rattle.std.specs.Prelude.{Contains, IfSome, IsSomeAnd, option_map, slice_get}
 use Rattle.std.proofs.lemmas.Option.{get_or_from_slice_get, none-some, same_Some, slice_get-get_or, slice_get_within}
-use Rattle.mp_sets.specs.Numbers.{Numbers}
-use Rattle.mp_task.specs.Agree.{Agree}
 use Rattle.mp_task.specs.AgentTask.{AgentTask}
-use Rattle.mp_task.specs.Limits.{IsWithinLimits}
 use Rattle.mp_task.specs.Plan.{IsJointState, private_of, task_of}
 use Rattle.mp_messages.specs.declared.message.State.{State}
 use Rattle.mp_store.specs.declared.entry.Entry.{Entry}
@@ -20,6 +17,8 @@ use Rattle.mp_machine.specs.AgentRecord.{AgentRecord}
 use Rattle.mp_reach.specs.Explored.{HasLiveEntry}
 use Rattle.mp_reach.specs.LeadsOn.{IsGoal, IsTeamBoundFor, IsTeamHopelessFor, Known}
 use Rattle.mp_world.specs.Joint.{joint, joint_told}
+use Rattle.mp_world.specs.Team.{AreTeamTasks}
+use Rattle.mp_world.specs.Values.{Values}
 use Rattle.mp_world.specs.World.{IsAgent, IsTeamWorld, World, agent_at}
 use Rattle.mp_world.proofs.Agents.{agent_there, agree_numbered, member_of}
 use Rattle.mp_world.proofs.Stepping.{team_size}
@@ -36,7 +35,7 @@ use Rattle.mp_team_states.proofs.Found.{entry_found}
 use Rattle.mp_team_states.proofs.Kept.{IsKept, best_of_kept}
 
 -- what the values of a heuristic say of joint states, whichever agent's search goes on from there, and whatever counts as a goal
-pub record IsHeuristicFor (Goal : Known → Type 0) (value : AgentTask → Numbers → Numbers → Option ℕ) (tasks : List AgentTask) : Type 0 where
+pub record IsHeuristicFor (Goal : Known → Type 0) (value : Values) (tasks : List AgentTask) : Type 0 where
   pub bounds : (t : AgentTask) (k : Known) (h : ℕ) → Contains tasks t → IsJointState tasks k.state
       → value t k.state.publics (private_of k.state t.me) ≡ Some h → IsTeamBoundFor tasks Goal k h
   pub hopeless : (t : AgentTask) (k : Known) → Contains tasks t → IsJointState tasks k.state
@@ -44,7 +43,7 @@ pub record IsHeuristicFor (Goal : Known → Type 0) (value : AgentTask → Numbe
   pub small : HasSmallValues value tasks
 
 -- the same where all goals of the team are true
-abbrev pub IsHeuristic : (AgentTask → Numbers → Numbers → Option ℕ) → List AgentTask → Type 0
+abbrev pub IsHeuristic : Values → List AgentTask → Type 0
 IsHeuristic value tasks = IsHeuristicFor (IsGoal tasks) value tasks
 
 -- ---- the last entry of a state
@@ -74,15 +73,15 @@ module _ (r : Record AgentState) (sound : IsSound same_state r) where
       let most = found.5 in
       omega arith
 
-module _ (tasks : List AgentTask) (agree : Agree tasks) (limits : All IsWithinLimits tasks) (w : World) (team : IsTeamWorld tasks w) where
+module _ (tasks : List AgentTask) (are : AreTeamTasks tasks) (w : World) (team : IsTeamWorld tasks w) where
   pub me_is : (agent : ℕ) (r : AgentRecord) → agent_at w agent ≡ Some r → r.task.me ≡ agent
-  me_is agent r there = (member_of tasks (agree_numbered tasks agree) w team agent r there).me
+  me_is agent r there = (member_of tasks (agree_numbered tasks are.agree) w team agent r there).me
 
   pub task_in : (agent : ℕ) (r : AgentRecord) → agent_at w agent ≡ Some r → Contains tasks r.task
-  task_in agent r there = (member_of tasks (agree_numbered tasks agree) w team agent r there).task
+  task_in agent r there = (member_of tasks (agree_numbered tasks are.agree) w team agent r there).task
 
   pub agents_are : (agent : ℕ) (r : AgentRecord) → agent_at w agent ≡ Some r → r.task.agents ≡ length tasks
-  agents_are agent r there = (member_of tasks (agree_numbered tasks agree) w team agent r there).agents
+  agents_are agent r there = (member_of tasks (agree_numbered tasks are.agree) w team agent r there).agents
 
   -- each agent of a team is there
   pub other_there : (agent : ℕ) (r : AgentRecord) → agent_at w agent ≡ Some r → (other : ℕ) → 1 ≤ other → other ≤ r.task.agents
@@ -98,7 +97,7 @@ module _ (tasks : List AgentTask) (agree : Agree tasks) (limits : All IsWithinLi
     pub states_known : (agent n : ℕ) (r : AgentRecord) (e : Entry AgentState) → agent_at w agent ≡ Some r → slice_get r.search.kept.entries n ≡ Some e → IsStateOf w r.task e.key
     states_known agent n r e there at =
         all_get (λ (e : Entry AgentState). IsStateOf w r.task e.key) r.search.kept.entries n e
-        (agent_sound tasks agree limits w team sound agent r there).states at
+        (agent_sound tasks are w team sound agent r there).states at
 
     -- for each entry there is one of its state that costs no more and did not give way
     pub lives : (agent n : ℕ) (r : AgentRecord) (e : Entry AgentState) → agent_at w agent ≡ Some r → slice_get r.search.kept.entries n ≡ Some e
@@ -114,34 +113,34 @@ module _ (tasks : List AgentTask) (agree : Agree tasks) (limits : All IsWithinLi
             of = ap (λ (s : AgentState). record { agent = agent; state = joint w agent s }) found.4;
             within = found.5;
           };
-          live = best_lives r.search.kept (agent_sound tasks agree limits w team sound agent r there).kept e.key found.0 found.1 found.2 found.3 found.4;
+          live = best_lives r.search.kept (agent_sound tasks are w team sound agent r there).kept e.key found.0 found.1 found.2 found.3 found.4;
         }
 
     -- ---- values
 
-    module _ {Goal : Known → Type 0} (value : AgentTask → Numbers → Numbers → Option ℕ) (heuristic : IsHeuristicFor Goal value tasks) (agent : ℕ) (r : AgentRecord) (there : agent_at w agent ≡ Some r)
+    module _ {Goal : Known → Type 0} (value : Values) (heuristic : IsHeuristicFor Goal value tasks) (agent : ℕ) (r : AgentRecord) (there : agent_at w agent ≡ Some r)
         (s : AgentState) (known : IsStateOf w r.task s) where
       own_value_is : value r.task (joint w agent s).publics (private_of (joint w agent s) r.task.me) ≡ own_value r.task (value r.task) s
       own_value_is =
           ap (λ (a : ℕ). value r.task s.publics (private_of (joint w agent s) a)) (me_is agent r there)
-          ∙ ap (value r.task s.publics) (own_facts tasks agree limits w team agent r there s known)
+          ∙ ap (value r.task s.publics) (own_facts tasks are w team agent r there s known)
 
       -- an own value is a bound in each agent's search, and where there is none, no search leads on to a goal
       pub own_bound : (h other : ℕ) → own_value r.task (value r.task) s ≡ Some h → IsTeamBoundFor tasks Goal (record { agent = other; state = joint w agent s }) h
       own_bound h other is =
           heuristic.bounds r.task (record { agent = other; state = joint w agent s }) h (task_in agent r there)
-          (known_is_joint tasks agree limits w team agent r there s known) (own_value_is ∙ is)
+          (known_is_joint tasks are w team agent r there s known) (own_value_is ∙ is)
 
       pub own_hopeless : (other : ℕ) → own_value r.task (value r.task) s ≡ None → IsTeamHopelessFor tasks Goal (record { agent = other; state = joint w agent s })
       own_hopeless other none =
           heuristic.hopeless r.task (record { agent = other; state = joint w agent s }) (task_in agent r there)
-          (known_is_joint tasks agree limits w team agent r there s known) (own_value_is ∙ none)
+          (known_is_joint tasks are w team agent r there s known) (own_value_is ∙ none)
 
     -- ---- room
 
     module _ (small : AreSmall w) where
       few : 16000000 * expanded_by_all w ≤ 16000000 * 160000000
-      few = let counts = few_expansions tasks agree limits w team sound in omega arith
+      few = let counts = few_expansions tasks are w team sound in omega arith
 
       pub entry_room : (agent n : ℕ) (r : AgentRecord) (e : Entry AgentState) → agent_at w agent ≡ Some r → slice_get r.search.kept.entries n ≡ Some e
           → (cost h : ℕ) → cost ≤ 16000000 → h < 2 ^ 50 → e.g + cost + h < 2 ^ 60
@@ -153,12 +152,12 @@ module _ (tasks : List AgentTask) (agree : Agree tasks) (limits : All IsWithinLi
       pub message_room : (sender : ℕ) (u : AgentTask) (m : State) → task_of tasks sender ≡ Some u → IsSoundState w u m
           → (h : ℕ) → h < 2 ^ 50 → m.g + h < 2 ^ 60
       message_room sender u m at state h below =
-          let it = (sent_small tasks agree limits w team sound small sender u m at state).0 in
+          let it = (sent_small tasks are w team sound small sender u m at state).0 in
           let most = few in
           omega arith
 
       pub message_estimate : (sender : ℕ) (u : AgentTask) (m : State) → task_of tasks sender ≡ Some u → IsSoundState w u m → m.h < 2 ^ 50
-      message_estimate sender u m at state = (sent_small tasks agree limits w team sound small sender u m at state).1
+      message_estimate sender u m at state = (sent_small tasks are w team sound small sender u m at state).1
 
     -- ---- messages
 
@@ -174,15 +173,15 @@ module _ (tasks : List AgentTask) (agree : Agree tasks) (limits : All IsWithinLi
 
     pub told_of : (sender : ℕ) (u : AgentTask) (m : State) → task_of tasks sender ≡ Some u → IsSoundState w u m → IsTold sender m
     told_of sender u m at state =
-        let found = agent_there w sender (agent_of_task tasks agree limits w team sender u at) in
+        let found = agent_there w sender (agent_of_task tasks are w team sender u at) in
         by found.0 found.1
       where
         by : (r : AgentRecord) → agent_at w sender ≡ Some r → IsTold sender m
         by r there =
-            let same : u ≡ r.task = same_Some u r.task (sym at ∙ task_at tasks agree limits w team sender r there) in
+            let same : u ≡ r.task = same_Some u r.task (sym at ∙ task_at tasks are w team sender r there) in
             let sent_by = subst (λ (u : AgentTask). IsSoundState w u m) same state in
-            let sent : IsSentIn r.task r.search.kept m = subst (λ (o : Option AgentRecord). IsSomeAnd o (λ x. IsSentIn r.task x.search.kept m)) (at_me tasks agree limits w team sender r there) sent_by.sent in
-            let tells = tells_of_entry tasks agree limits w team sound sender r m sent.number sent.entry there sent_by.sent sent.sent sent.there in
+            let sent : IsSentIn r.task r.search.kept m = subst (λ (o : Option AgentRecord). IsSomeAnd o (λ x. IsSentIn r.task x.search.kept m)) (at_me tasks are w team sender r there) sent_by.sent in
+            let tells = tells_of_entry tasks are w team sound sender r m sent.number sent.entry there sent_by.sent sent.sent sent.there in
             record { agent_is = r; there = there; number = sent.number; entry = sent.entry; at = sent.there; joint_is = tells.0; estimate = tells.2 }
 
 -- ---- the greater of two estimates

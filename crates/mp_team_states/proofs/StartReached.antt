@@ -1,5 +1,5 @@
 -- At the start each agent's entry is that of the joint start.
-use Rattle.std.proofs.Common.{◌≡◌, ℕ, zero, suc, ◌+◌, ◌-◌, ◌<◌, ◌≤◌, ◌⊎◌, Bool, true, false, cond, List, [], length, map, get_or, Option, Some, None, All, refl, sym, ap, subst, ◌∙◌, arith, inl, inr}
+use Rattle.std.proofs.Common.{◌≡◌, ℕ, zero, suc, ◌+◌, ◌-◌, ◌<◌, ◌⊎◌, Bool, true, false, cond, List, [], length, map, get_or, Option, Some, None, refl, sym, ap, subst, ◌∙◌, arith, inl, inr}
 use Rattle.std.specs.Prelude.{Contains, option_map, slice_get, ◌==◌}
 use Rattle.std.specs.FinSet as set
 use Rattle.std.specs.List.{enumerate_from}
@@ -10,8 +10,7 @@ use Rattle.std.proofs.lemmas.List.Elements.{All-contains}
 use Rattle.std.proofs.lemmas.Option.{get_or_from_slice_get, none-some, same_Some, slice_get-map, slice_get_within}
 use Rattle.mp_runs.proofs.Runs.{run-none}
 use Rattle.mp_sets.specs.declared.tag.Tag.{Tag}
-use Rattle.mp_sets.specs.Numbers.{Numbers}
-use Rattle.mp_task.specs.Agree.{Agree, FitsTeam}
+use Rattle.mp_task.specs.Agree.{FitsTeam}
 use Rattle.mp_task.specs.AgentTask.{AgentTask}
 use Rattle.mp_task.specs.Limits.{IsWithinLimits}
 use Rattle.mp_task.specs.Plan.{JointState, after_step, joint_start, public_start, task_of}
@@ -22,6 +21,7 @@ use Rattle.mp_search.specs.AgentState.{AgentState, no_tag, start_state, start_ta
 use Rattle.mp_search.specs.Offering.{start_record}
 use Rattle.mp_search.specs.Search.{tokens_given}
 use Rattle.mp_machine.specs.AgentRecord.{AgentRecord, new_record}
+use Rattle.mp_world.specs.Team.{IsTeam, Team}
 use Rattle.mp_world.specs.World.{World, agent_at, start_world}
 use Rattle.mp_world.specs.Joint.{joint, private_facts, sets_of, told_by}
 use Rattle.mp_team_states.specs.Paths.{AreReached, IsEntryAt, IsReached}
@@ -34,13 +34,14 @@ use Rattle.mp_team_states.proofs.Received.{tag_other}
 use Rattle.mp_team_states.proofs.StartSound.{first_given, some_item, state, there}
 use Rattle.mp_team_states.proofs.WorldsGrow.{sets_at}
 
-module _ (value : AgentTask → Numbers → Numbers → Option ℕ) (limit : ℕ) (tasks : List AgentTask) (agree : Agree tasks) (limits : All IsWithinLimits tasks)
-    (most : limit ≤ 10000000) where
+module _ (team : Team) (is_team : IsTeam team) where
+  open team use {tasks, value, limit}
+
   abbrev w : World
-  w = start_world value limit tasks
+  w = start_world team
 
   agent_is : (agent : ℕ) (t : AgentTask) → task_of tasks agent ≡ Some t → agent_at w agent ≡ Some (new_record t (value t) limit)
-  agent_is agent t at = there value limit tasks agree limits most agent t at
+  agent_is agent t at = there team is_team agent t at
 
   -- what token 0 of an agent stands for
   first_set : (k : ℕ) (u : AgentTask) → slice_get tasks k ≡ Some u → (tag : Tag) → tag.token ≡ 0 → told_by w (suc k, tag) ≡ set.from_list u.start_priv
@@ -54,7 +55,7 @@ module _ (value : AgentTask → Numbers → Numbers → Option ℕ) (limit : ℕ
     in_team zero at = absurd (none-some t at)
     in_team (suc k) at =
         let here = Contains-slice_get tasks k t at in
-        (here, number_at tasks agree k t (slice_get_within tasks k t at) (get_or_from_slice_get tasks k t t at))
+        (here, number_at tasks is_team.tasks.agree k t (slice_get_within tasks k t at) (get_or_from_slice_get tasks k t t at))
 
     pub here : Contains tasks t
     here = (in_team agent at).0
@@ -63,17 +64,17 @@ module _ (value : AgentTask → Numbers → Numbers → Option ℕ) (limit : ℕ
     me = (in_team agent at).1
 
     fit : IsWithinLimits t
-    fit = All-contains IsWithinLimits tasks t limits here
+    fit = All-contains IsWithinLimits tasks t is_team.tasks.within here
 
     size : t.agents ≡ length tasks
-    size = (All-contains (FitsTeam tasks) tasks t agree.team here).agents
+    size = (All-contains (FitsTeam tasks) tasks t is_team.tasks.agree.team here).agents
 
     tags : List Tag
     tags = (start_state t).tags
 
     many : length tags ≡ length tasks
     unfolding tags
-    many = (state value limit tasks agree limits most agent t at).number ∙ size
+    many = (state team is_team agent t at).number ∙ size
 
     other_token : (i : ℕ) → i < length tags → (1 + i ≡ t.me → ⊥) → (get_or tags i no_tag).token ≡ 0
     unfolding tags
@@ -107,8 +108,8 @@ module _ (value : AgentTask → Numbers → Numbers → Option ℕ) (limit : ℕ
         by i u inside found true test =
             let mine = eqb-true (1 + i) t.me test in
             let there_too = Contains-slice_get tasks i u found in
-            let number = number_at tasks agree i u (slice_get_within tasks i u found) (get_or_from_slice_get tasks i u u found) in
-            ap (λ (x : AgentTask). set.from_list x.start_priv) (same_number tasks agree t u here there_too (omega arith))
+            let number = number_at tasks is_team.tasks.agree i u (slice_get_within tasks i u found) (get_or_from_slice_get tasks i u u found) in
+            ap (λ (x : AgentTask). set.from_list x.start_priv) (same_number tasks is_team.tasks.agree t u here there_too (omega arith))
         by i u inside found false test =
             let next : 1 + i ≡ suc i = omega arith in
             ap (λ (a : ℕ). told_by w (a, get_or tags i no_tag)) next
@@ -118,7 +119,7 @@ module _ (value : AgentTask → Numbers → Numbers → Option ℕ) (limit : ℕ
     unfolding tags
     start_is_joint =
         let publics : public_start tasks ≡ set.from_list t.start_pub =
-        public_start-at tasks t here (λ u there_too. (agree.alike u t there_too here).start_pub)
+        public_start-at tasks t here (λ u there_too. (is_team.tasks.agree.alike u t there_too here).start_pub)
         in
         ap (λ (a : ℕ). joint w a (start_state t)) (sym me) ∙ (λ j. record { publics = sym publics j; privates = privates j })
 
@@ -147,7 +148,7 @@ module _ (value : AgentTask → Numbers → Numbers → Option ℕ) (limit : ℕ
       by None at is = absurd (none-some r is)
       by (Some t) at is = (t, at, sym (same_Some (new_record t (value t) limit) r is))
 
-  pub start_reaches : AreReached tasks (start_world value limit tasks)
+  pub start_reaches : AreReached tasks (start_world team)
   start_reaches agent n e has =
       let h = has_it w agent n e has in
       let found = task_is agent h.agent_is h.there in

@@ -1,5 +1,5 @@
 -- What is so of states at the start.
-use Rattle.std.proofs.Common.{◌≡◌, ℕ, zero, suc, ◌-◌, ◌<◌, ◌≤◌, ◌^◌, ◌⊎◌, Bool, false, List, [], ◌∷◌, length, map, get_or, Option, Some, All, refl, sym, ap, subst, ◌∙◌, arith, inl, inr}
+use Rattle.std.proofs.Common.{◌≡◌, ℕ, zero, suc, ◌-◌, ◌<◌, ◌≤◌, ◌^◌, ◌⊎◌, Bool, false, List, [], ◌∷◌, length, map, get_or, Option, Some, refl, sym, ap, subst, ◌∙◌, arith, inl, inr}
 use Rattle.std.specs.Prelude.{Contains, IfSome, IsSomeAnd, option_map, replicate, slice_get}
 use Rattle.std.specs.FinSet as set
 use Rattle.std.proofs.Common.{lit<}
@@ -9,7 +9,7 @@ use Rattle.std.proofs.lemmas.Option.{get_or_from_slice_get, none-some, slice_get
 use Rattle.mp_list.proofs.Members.{no_member}
 use Rattle.mp_sets.specs.declared.tag.Tag.{Tag}
 use Rattle.mp_sets.specs.Numbers.{Numbers}
-use Rattle.mp_task.specs.Agree.{Agree, FitsTeam}
+use Rattle.mp_task.specs.Agree.{FitsTeam}
 use Rattle.mp_task.specs.AgentTask.{AgentTask}
 use Rattle.mp_task.specs.Limits.{IsWithinLimits}
 use Rattle.mp_task.specs.Met.{is_met, met_at_start}
@@ -25,6 +25,7 @@ use Rattle.mp_search.specs.Search.{sent_sets, tokens_given}
 use Rattle.mp_machine.specs.AgentRecord.{AgentRecord, new_record}
 use Rattle.mp_machine.specs.MemberFields.{EntryFits}
 use Rattle.mp_machine.proofs.EntriesFit.{FitsUpTo, up_offered_at}
+use Rattle.mp_world.specs.Team.{IsTeam, Team}
 use Rattle.mp_world.specs.World.{World, agent_at, start_world, under_way}
 use Rattle.mp_world.specs.Joint.{sets_of, told_by}
 use Rattle.mp_team_states.specs.Sound.{AreStatesSound, IsSoundAgent, IsStateOf, IsTold, tag_of}
@@ -55,10 +56,11 @@ same_or_past zero k x d = inr refl
 same_or_past (suc n) zero x d = inl refl
 same_or_past (suc n) (suc k) x d = same_or_past n k x d
 
-module _ (value : AgentTask → Numbers → Numbers → Option ℕ) (limit : ℕ) (tasks : List AgentTask) (agree : Agree tasks) (limits : All IsWithinLimits tasks)
-    (most : limit ≤ 10000000) where
+module _ (team : Team) (is_team : IsTeam team) where
+  open team use {tasks, value, limit}
+
   abbrev pub w : World
-  w = start_world value limit tasks
+  w = start_world team
 
   pub there : (agent : ℕ) (t : AgentTask) → task_of tasks agent ≡ Some t → agent_at w agent ≡ Some (new_record t (value t) limit)
   there zero t at = absurd (none-some t at)
@@ -98,16 +100,16 @@ module _ (value : AgentTask → Numbers → Numbers → Option ℕ) (limit : ℕ
         by (suc k) at = Contains-slice_get tasks k t at
 
     fits_team : FitsTeam tasks t
-    fits_team = All-contains (FitsTeam tasks) tasks t agree.team here
+    fits_team = All-contains (FitsTeam tasks) tasks t is_team.tasks.agree.team here
 
     fit : IsWithinLimits t
-    fit = All-contains IsWithinLimits tasks t limits here
+    fit = All-contains IsWithinLimits tasks t is_team.tasks.within here
 
     pub state : IsStateOf w t (start_state t)
     state =
         let low = fit.from_1 in
         let high = fit.in_team in
-        let team = fits_team.agents in
+        let of_team = fits_team.agents in
         let flags = fit.a_flag_each in
         let tags = map start_tag t.met in
         let many : length tags ≡ length t.met = length-map t.met start_tag in
@@ -140,7 +142,7 @@ module _ (value : AgentTask → Numbers → Numbers → Option ℕ) (limit : ℕ
         let none = first_fits.sent in
         record {
           task = refl;
-          limit = most;
+          limit = is_team.most;
           within = omega arith;
           sent = omega arith;
           kept = changes_sound (IsFirst t (value t)) t empty last [] changes (empty_sound same_state);
@@ -173,7 +175,7 @@ module _ (value : AgentTask → Numbers → Numbers → Option ℕ) (limit : ℕ
       by row (inl same) = empty_row row same
       by row (inr none) = ap (λ (xs : List (List (List ℕ))). get_or xs (to - 1) []) none
 
-  pub start_states_sound : AreStatesSound tasks (start_world value limit tasks)
+  pub start_states_sound : AreStatesSound tasks (start_world team)
   start_states_sound = record {
     agents = λ agent t at.
         subst (λ (o : Option AgentRecord). IsSomeAnd o (IsSoundAgent w t)) (sym (there agent t at)) (new_sound agent t at);

@@ -1,13 +1,10 @@
 -- At an event what is reached stays reached, and what is sent is reached.
-use Rattle.std.proofs.Common.{◌≡◌, ℕ, ◌+◌, ◌<◌, ◌≤◌, ◌^◌, ◌⊎◌, List, length, Option, Some, None, All, refl, sym, ap, subst, ◌∙◌, arith, inl, inr}
+use Rattle.std.proofs.Common.{◌≡◌, ℕ, ◌+◌, ◌<◌, ◌≤◌, ◌^◌, ◌⊎◌, List, length, Option, Some, None, refl, sym, ap, subst, ◌∙◌, arith, inl, inr}
 use Rattle.std.specs.Prelude.{Contains, IsSomeAnd, Ok, slice_get}
 use Rattle.std.proofs.lemmas.Bool.{cases_eq}
 use Rattle.std.proofs.lemmas.List.Elements.{All-contains}
 use Rattle.std.proofs.lemmas.Option.{same_Some}
-use Rattle.mp_sets.specs.Numbers.{Numbers}
-use Rattle.mp_task.specs.Agree.{Agree}
 use Rattle.mp_task.specs.AgentTask.{AgentTask}
-use Rattle.mp_task.specs.Limits.{IsWithinLimits}
 use Rattle.mp_task.specs.Plan.{JointState, task_of}
 use Rattle.mp_task.proofs.Agreeing.{Contains-slice_get}
 use Rattle.mp_messages.specs.declared.history.Event.{Event}
@@ -31,6 +28,8 @@ use Rattle.mp_reach.specs.LeadsOn.{IsTeamExploredFor, IsTeamHopelessFor, Known, 
 use Rattle.mp_world.specs.Events.{agent_of, taken, without_taken}
 use Rattle.mp_world.specs.Joint.{joint, joint_told}
 use Rattle.mp_world.specs.Steps.{IsStepOf}
+use Rattle.mp_world.specs.Team.{AreTeamTasks}
+use Rattle.mp_world.specs.Values.{Values}
 use Rattle.mp_world.specs.World.{IsAgent, IsTeamWorld, World, agent_at, under_way}
 use Rattle.mp_world.proofs.Agents.{agree_numbered}
 use Rattle.mp_world.proofs.Mail.{agent_of_team}
@@ -64,8 +63,8 @@ has_kept w agent r s cost there kept = record {
   within = kept.within;
 }
 
-module _ (tasks : List AgentTask) (agree : Agree tasks) (limits : All IsWithinLimits tasks) (w : World) (team : IsTeamWorld tasks w) (sound : AreStatesSound tasks w)
-    (small : AreSmall w) {Goal : Known → Type 0} (value : AgentTask → Numbers → Numbers → Option ℕ) (heuristic : IsHeuristicFor Goal value tasks) (next : World) (later_team : IsTeamWorld tasks next)
+module _ (tasks : List AgentTask) (are : AreTeamTasks tasks) (w : World) (team : IsTeamWorld tasks w) (sound : AreStatesSound tasks w)
+    (small : AreSmall w) {Goal : Known → Type 0} (value : Values) (heuristic : IsHeuristicFor Goal value tasks) (next : World) (later_team : IsTeamWorld tasks next)
     (later_sound : AreStatesSound tasks next) where
   -- ---- an event
 
@@ -74,12 +73,12 @@ module _ (tasks : List AgentTask) (agree : Agree tasks) (limits : All IsWithinLi
     grown = step_grows value w next event is
 
     records : HaveSoundRecords w
-    records = records_sound tasks agree limits w team sound
+    records = records_sound tasks are w team sound
 
     -- joint states are as they were
     pub same_joint : (agent : ℕ) (r : AgentRecord) (s : AgentState) → agent_at w agent ≡ Some r → IsStateOf w r.task s → joint next agent s ≡ joint w agent s
     same_joint agent r s there is_known =
-        let me = me_is tasks agree limits w team agent r there in
+        let me = me_is tasks are w team agent r there in
         (λ j. joint next (sym me j) s) ∙ joint_same w next records grown r.task s is_known ∙ (λ j. joint w (me j) s)
 
     -- an entry in the later world
@@ -106,7 +105,7 @@ module _ (tasks : List AgentTask) (agree : Agree tasks) (limits : All IsWithinLi
           key = x.2.key;
           cost = x.2.g;
           joint_is =
-              ap (joint next agent) x.2.key ∙ same_joint agent r e.key there (states_known tasks agree limits w team sound agent n r e there at);
+              ap (joint next agent) x.2.key ∙ same_joint agent r e.key there (states_known tasks are w team sound agent n r e there at);
         }
 
     entry_stays : (k : Known) (cost : ℕ) → HasEntry (found_of w) k cost → HasEntry (found_of next) k cost
@@ -135,13 +134,13 @@ module _ (tasks : List AgentTask) (agree : Agree tasks) (limits : All IsWithinLi
         s = state_of r.task r.search.kept m
 
         knows : IsStateOf w r.task s × (joint w to s ≡ joint_told w m)
-        knows = receiver_knows tasks agree limits w team sound from to u r at there m state
+        knows = receiver_knows tasks are w team sound from to u r at there m state
 
         room : (h : ℕ) → greater_value r.task (value r.task) m.h s ≡ Some h → m.g + h < 2 ^ 60
         room h is =
-            message_room tasks agree limits w team sound small from u m at state h
-            (greater_small (value r.task s.publics s.mine) m.h h (heuristic.small r.task s.publics s.mine (task_in tasks agree limits w team to r there))
-            (message_estimate tasks agree limits w team sound small from u m at state) is)
+            message_room tasks are w team sound small from u m at state h
+            (greater_small (value r.task s.publics s.mine) m.h h (heuristic.small r.task s.publics s.mine (task_in tasks are w team to r there))
+            (message_estimate tasks are w team sound small from u m at state) is)
 
         one : step.agent ≡ r
         one = same_Some step.agent r (sym step.there ∙ there)
@@ -163,16 +162,16 @@ module _ (tasks : List AgentTask) (agree : Agree tasks) (limits : All IsWithinLi
         by : (greater_value r.task (value r.task) m.h s ≡ None) ⊎ IsKept last s m.g → TeamReachesFor tasks Goal (found_of next) (known to (joint_told w m)) m.g
         by (inl none) =
             inr (inr (subst (λ (x : JointState). IsTeamHopelessFor tasks Goal (known to x)) knows.1
-            (own_hopeless tasks agree limits w team sound value heuristic to r there s knows.0 to (greater_none (value r.task s.publics s.mine) m.h none))))
+            (own_hopeless tasks are w team sound value heuristic to r there s knows.0 to (greater_none (value r.task s.publics s.mine) m.h none))))
         by (inr kept) =
             inl (subst (λ (x : JointState). HasEntry (found_of next) (known to x) m.g) (same_joint to r s there knows.0 ∙ knows.1)
             (has_kept next to step.step.after s m.g step.after (subst (λ (x : Record AgentState). IsKept x s m.g) (sym kept_is) kept)))
 
     message_stays : (k : Known) (cost : ℕ) → HasMessage (found_of w) k cost → TeamReachesFor tasks Goal (found_of next) k cost
-    message_stays k cost has = by (still_there tasks agree limits w team sound value next event is f.from f.to sender receiver f.bytes f.here)
+    message_stays k cost has = by (still_there tasks are w team sound value next event is f.from f.to sender receiver f.bytes f.here)
       where
-        f : IsFoundMessage tasks (agree_numbered tasks agree) w team has.message
-        f = found_message tasks (agree_numbered tasks agree) w team has.message has.there
+        f : IsFoundMessage tasks (agree_numbered tasks are.agree) w team has.message
+        f = found_message tasks (agree_numbered tasks are.agree) w team has.message has.there
 
         m : State
         m = f.state
@@ -187,13 +186,13 @@ module _ (tasks : List AgentTask) (agree : Agree tasks) (limits : All IsWithinLi
         receiver = agent_of_team w f.to f.receiver f.receiver_there
 
         at : task_of tasks f.from ≡ Some f.sender.task
-        at = task_at tasks agree limits w team f.from f.sender f.sender_there
+        at = task_at tasks are w team f.from f.sender f.sender_there
 
         state : IsSoundState w f.sender.task m
-        state = (what_is_read tasks agree limits w team sound f.from f.to f.sender.task r at f.receiver_there f.bytes m f.here f.reads).1
+        state = (what_is_read tasks are w team sound f.from f.to f.sender.task r at f.receiver_there f.bytes m f.here f.reads).1
 
         me : r.task.me ≡ f.to
-        me = me_is tasks agree limits w team f.to r f.receiver_there
+        me = me_is tasks are w team f.to r f.receiver_there
 
         k_is : known f.to (joint_told w m) ≡ k
         k_is = ap (λ (a : ℕ). known a (joint_told w m)) (sym me) ∙ ap (λ (x : Sent Known). x.state) f.is ∙ has.of
@@ -205,16 +204,16 @@ module _ (tasks : List AgentTask) (agree : Agree tasks) (limits : All IsWithinLi
         remains here =
             let s_later = grown f.from f.sender f.sender_there in
             let r_later = grown f.to r f.receiver_there in
-            let mail = stays_under_way tasks agree limits w team sound value next event is f.from f.to sender receiver f.bytes here in
+            let mail = stays_under_way tasks are w team sound value next event is f.from f.to sender receiver f.bytes here in
             let task = r_later.2.task in
             let reads : message_of r_later.0.task.agents r_later.0.task.publics f.bytes ≡ Some (kinds.State m) =
             (λ j. message_of (task j).agents (task j).publics f.bytes) ∙ f.reads
             in
-            let told = (state_heard tasks agree limits w team sound f.from f.sender.task r.task m at (task_in tasks agree limits w team f.to r f.receiver_there) state).1 in
+            let told = (state_heard tasks are w team sound f.from f.sender.task r.task m at (task_in tasks are w team f.to r f.receiver_there) state).1 in
             let same = joint_told_same w next records grown m told in
             inr (inl (record {
               message = on_its_way next r_later.0 m;
-              there = message_found tasks (agree_numbered tasks agree) next later_team f.from f.to s_later.0 r_later.0 f.bytes m s_later.1 r_later.1 mail reads;
+              there = message_found tasks (agree_numbered tasks are.agree) next later_team f.from f.to s_later.0 r_later.0 f.bytes m s_later.1 r_later.1 mail reads;
               of = (λ j. known (task j).me (same j)) ∙ ap (λ (a : ℕ). known a (joint_told w m)) me ∙ k_is;
               within = within;
             }))
@@ -242,7 +241,7 @@ module _ (tasks : List AgentTask) (agree : Agree tasks) (limits : All IsWithinLi
           → slice_get r.search.kept.entries n ≡ Some e → Contains (receivers r.task e.key) receiver
           → TeamReachesFor tasks Goal (found_of next) (known receiver (joint w agent e.key)) e.g
       old_sent agent k n receiver r e there given at here =
-          let me = me_is tasks agree limits w team agent r there in
+          let me = me_is tasks are w team agent r there in
           let reached = explored.sent (sent_to w r e receiver) (sent_found w agent k n receiver r e there given at here) in
           subst (λ (a : ℕ). TeamReachesFor tasks Goal (found_of next) (known receiver (joint w a e.key)) e.g) me
           (reached_stays (sent_to w r e receiver).state e.g reached)
@@ -261,31 +260,31 @@ module _ (tasks : List AgentTask) (agree : Agree tasks) (limits : All IsWithinLi
           let for : Contains x.to receiver = subst (λ (xs : List ℕ). Contains xs receiver) (ap (λ (e : Entry AgentState). receivers is.agent.task e.key) (sym one) ∙ sym out.to) here in
           let goes = stepped.goes x out.there receiver for in
           let of = receiver_is is.agent.task e.key receiver here in
-          let other = other_there tasks agree limits w team a is.agent is.there receiver of.from_1 of.in_team in
+          let other = other_there tasks are w team a is.agent is.there receiver of.from_1 of.in_team in
           let u = grown receiver other.1 other.2 in
           let sender = agent_of_team w a is.agent is.there in
           let mail : Contains (under_way next a receiver) (spelling (kinds.State m)) =
-          out_is_under_way tasks agree limits w team sound value next event is receiver (kinds.State m) sender other.0 goes.0
+          out_is_under_way tasks are w team sound value next event is receiver (kinds.State m) sender other.0 goes.0
           in
           let task : last.task ≡ is.agent.task = stepped.task in
-          let at_last : agent_at next is.agent.task.me ≡ Some last = ap (agent_at next) (me_is tasks agree limits w team a is.agent is.there) ∙ is.after in
+          let at_last : agent_at next is.agent.task.me ≡ Some last = ap (agent_at next) (me_is tasks are w team a is.agent is.there) ∙ is.after in
           let state : IsSoundState next is.agent.task m = record {
             fits = goes.1;
             sent = subst (λ (o : Option AgentRecord). IsSomeAnd o (λ r. IsSentIn is.agent.task r.search.kept m)) (sym at_last) goes.2;
           } in
-          let from_at : task_of tasks a ≡ Some is.agent.task = task_at tasks agree limits w team a is.agent is.there in
-          let fits = (state_heard tasks agree limits next later_team later_sound a is.agent.task u.0.task m from_at (task_in tasks agree limits next later_team receiver u.0 u.1) state).0 in
-          let reads = read_state u.0.task (limits_of tasks agree limits next later_team receiver u.0 u.1) m (spelling (kinds.State m)) refl fits in
+          let from_at : task_of tasks a ≡ Some is.agent.task = task_at tasks are w team a is.agent is.there in
+          let fits = (state_heard tasks are next later_team later_sound a is.agent.task u.0.task m from_at (task_in tasks are next later_team receiver u.0 u.1) state).0 in
+          let reads = read_state u.0.task (limits_of tasks are next later_team receiver u.0 u.1) m (spelling (kinds.State m)) refl fits in
           let sent_of_last : IsSoundState next last.task m = subst (λ (t : AgentTask). IsSoundState next t m) (sym task) state in
           let tells =
-          tells_of_entry tasks agree limits next later_team later_sound a last m n e is.after sent_of_last.sent
+          tells_of_entry tasks are next later_team later_sound a last m n e is.after sent_of_last.sent
           (ap (slice_get last.search.kept.sent) out.number ∙ given) at
           in
           let cost = tells.1 in
-          let u_me = me_is tasks agree limits next later_team receiver u.0 u.1 in
+          let u_me = me_is tasks are next later_team receiver u.0 u.1 in
           inr (inl (record {
             message = on_its_way next u.0 m;
-            there = message_found tasks (agree_numbered tasks agree) next later_team a receiver last u.0 (spelling (kinds.State m)) m is.after u.1 mail reads;
+            there = message_found tasks (agree_numbered tasks are.agree) next later_team a receiver last u.0 (spelling (kinds.State m)) m is.after u.1 mail reads;
             of = λ j. known (u_me j) (sym tells.0 j);
             within = omega arith;
           }))
@@ -300,7 +299,7 @@ module _ (tasks : List AgentTask) (agree : Agree tasks) (limits : All IsWithinLi
           before : (a : ℕ) (o : AgentRecord) → agent_at w a ≡ Some o → slice_get o.search.kept.sent k ≡ Some n → agent_at next a ≡ Some r
               → TeamReachesFor tasks Goal (found_of next) (known receiver (joint next a e.key)) e.g
           before a o o_there o_given r_there =
-              let inside = All-contains (λ (n : ℕ). n < length o.search.kept.entries) o.search.kept.sent n (agent_sound tasks agree limits w team sound a o o_there).kept.sent (Contains-slice_get o.search.kept.sent k n o_given) in
+              let inside = All-contains (λ (n : ℕ). n < length o.search.kept.entries) o.search.kept.sent n (agent_sound tasks are w team sound a o o_there).kept.sent (Contains-slice_get o.search.kept.sent k n o_given) in
               let first = some_item o.search.kept.entries n inside in
               let x = later_entry a n o first.0 o_there first.1 in
               let r_is : x.agent_is ≡ r = same_Some x.agent_is r (sym x.there ∙ r_there) in
@@ -315,7 +314,7 @@ module _ (tasks : List AgentTask) (agree : Agree tasks) (limits : All IsWithinLi
               (old_sent a k n receiver o first.0 o_there o_given first.1 for))
 
           stepped : HasStepped (value is.agent.task) is.agent is.step
-          stepped = event_stepped tasks agree limits w team sound value next small heuristic.small event is
+          stepped = event_stepped tasks are w team sound value next small heuristic.small event is
 
           here_now : agent ≡ agent_of event → is.step.after ≡ r
               → (slice_get is.agent.search.kept.sent k ≡ Some n) ⊎ GoesOut is.agent.task is.step.after.search.kept stepped.out k n

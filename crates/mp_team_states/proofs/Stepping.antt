@@ -1,5 +1,5 @@
 -- What an event does to what its agent keeps and sent, and to the messages under way.
-use Rattle.std.proofs.Common.{◌≡◌, ◌≢◌, ℕ, ◌+◌, ◌<◌, ◌^◌, ◌⊎◌, Bool, true, List, [], ◌∷◌, map, Option, Some, All, refl, sym, subst, ◌∙◌, inl, inr}
+use Rattle.std.proofs.Common.{◌≡◌, ◌≢◌, ℕ, ◌+◌, ◌<◌, ◌^◌, ◌⊎◌, Bool, true, List, [], ◌∷◌, map, Option, Some, refl, sym, subst, ◌∙◌, inl, inr}
 use Rattle.std.specs.Prelude.{Contains, drop, slice_get, slice_index_or, ◌==◌, if◌then◌else◌}
 use Rattle.std.specs.List.{filter, flat_map}
 use Rattle.std.proofs.lemmas.Bool.{and_parts, cases_eq, eq-eqb}
@@ -7,7 +7,6 @@ use Rattle.std.proofs.lemmas.List.Elements.{All-contains, Contains-append_left, 
 use Rattle.mp_list.proofs.Members.{contains_cases, no_member}
 use Rattle.mp_sets.specs.Numbers.{Numbers}
 use Rattle.mp_task.specs.declared.act.Act.{Act}
-use Rattle.mp_task.specs.Agree.{Agree}
 use Rattle.mp_task.specs.AgentTask.{AgentTask}
 use Rattle.mp_task.specs.Limits.{ActFits, IsWithinLimits}
 use Rattle.mp_messages.specs.declared.history.Event.{Event}
@@ -32,6 +31,8 @@ use Rattle.mp_machine.specs.Outgoing.{Step, in_bytes}
 use Rattle.mp_machine.specs.Taking.{with_state}
 use Rattle.mp_world.specs.Events.{agent_of, local_of, taken, without_taken}
 use Rattle.mp_world.specs.Steps.{IsStepOf, sent_between, sent_to}
+use Rattle.mp_world.specs.Team.{AreTeamTasks}
+use Rattle.mp_world.specs.Values.{Values}
 use Rattle.mp_world.specs.World.{IsAgent, IsTeamWorld, World, agent_at, under_way}
 use Rattle.mp_world.proofs.Agents.{agree_numbered, sender_of}
 use Rattle.mp_world.proofs.Mail.{agent_of_team, under_way-other, under_way-same}
@@ -66,8 +67,8 @@ quiet_stepped value r s quiet = record {
   goes = λ x here. absurd (no_member x here);
 }
 
-module _ (tasks : List AgentTask) (agree : Agree tasks) (limits : All IsWithinLimits tasks) (w : World) (team : IsTeamWorld tasks w) (sound : AreStatesSound tasks w) where
-  module _ (small : AreSmall w) (value : AgentTask → Numbers → Numbers → Option ℕ) (values : HasSmallValues value tasks) (agent : ℕ) (r : AgentRecord) (there : agent_at w agent ≡ Some r) where
+module _ (tasks : List AgentTask) (are : AreTeamTasks tasks) (w : World) (team : IsTeamWorld tasks w) (sound : AreStatesSound tasks w) where
+  module _ (small : AreSmall w) (value : Values) (values : HasSmallValues value tasks) (agent : ℕ) (r : AgentRecord) (there : agent_at w agent ≡ Some r) where
     -- an expansion
     expand_stepped : may_expand r.limit r.search ≡ true → HasStepped (value r.task) r (with_search r (expanded r.task (value r.task) r.search))
     expand_stepped may = record {
@@ -87,20 +88,20 @@ module _ (tasks : List AgentTask) (agree : Agree tasks) (limits : All IsWithinLi
         d = expanded r.task (value r.task) r.search
 
         fit : IsWithinLimits r.task
-        fit = limits_of tasks agree limits w team agent r there
+        fit = limits_of tasks are w team agent r there
 
         whole : IsSoundStep w r.task (with_search r d)
-        whole = expansion_sound w r fit (agent_sound tasks agree limits w team sound agent r there) (value r.task) may
+        whole = expansion_sound w r fit (agent_sound tasks are w team sound agent r there) (value r.task) may
 
         room : (n : ℕ) (e : Entry AgentState) (act : Act) (h : ℕ) → slice_get r.search.kept.entries n ≡ Some e → Contains r.task.acts act
             → own_value r.task (value r.task) (successor act e.key) ≡ Some h → e.g + act.cost + h < 2 ^ 60
         room n e act h at here is =
             let s = successor act e.key in
             let price = (All-contains (ActFits r.task.publics r.task.privates) r.task.acts act fit.acts here).cost in
-            entry_room tasks agree limits w team sound small agent n r e there at act.cost h price
-            (small_value (value r.task s.publics s.mine) h (values r.task s.publics s.mine (task_in tasks agree limits w team agent r there)) is)
+            entry_room tasks are w team sound small agent n r e there at act.cost h price
+            (small_value (value r.task s.publics s.mine) h (values r.task s.publics s.mine (task_in tasks are w team agent r there)) is)
 
-  module _ (value : AgentTask → Numbers → Numbers → Option ℕ) (next : World) where
+  module _ (value : Values) (next : World) where
     pub event_stepped : AreSmall w → HasSmallValues value tasks → (event : Event) (is : IsStepOf value w event next)
         → HasStepped (value is.agent.task) is.agent is.step
     unfolding with_state
@@ -139,7 +140,7 @@ module _ (tasks : List AgentTask) (agree : Agree tasks) (limits : All IsWithinLi
         left = drop 1 (under_way w of by)
 
         from_there : IsAgent w of
-        from_there = (sender_of tasks (agree_numbered tasks agree) w team by of is.agent is.there is.may).0
+        from_there = (sender_of tasks (agree_numbered tasks are.agree) w team by of is.agent is.there is.may).0
 
         Still : Type 0
         Still = Contains (under_way (without_taken w (Take by of)) from to) bytes

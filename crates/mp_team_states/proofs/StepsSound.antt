@@ -7,7 +7,6 @@ use Rattle.std.proofs.lemmas.List.Elements.{All-contains, All-filter, All-map, A
 use Rattle.std.proofs.lemmas.Option.{cond_some, none-some, same_Some, slice_get-map, slice_get_within}
 use Rattle.mp_list.proofs.Members.{contains_tail, no_member}
 use Rattle.mp_sets.specs.Numbers.{Numbers}
-use Rattle.mp_task.specs.Agree.{Agree}
 use Rattle.mp_task.specs.AgentTask.{AgentTask}
 use Rattle.mp_task.specs.Limits.{IsWithinLimits}
 use Rattle.mp_task.specs.Plan.{task_of}
@@ -27,6 +26,8 @@ use Rattle.mp_machine.specs.declared.outgoing.Out.{Out}
 use Rattle.mp_machine.specs.AgentRecord.{AgentRecord, is_going}
 use Rattle.mp_machine.specs.LocalStep.{local, may}
 use Rattle.mp_machine.specs.Outgoing.{Outgoing, Step, in_bytes}
+use Rattle.mp_world.specs.Team.{AreTeamTasks}
+use Rattle.mp_world.specs.Values.{Values}
 use Rattle.mp_world.specs.World.{IsAgent, IsTeamWorld, World, agent_at, under_way}
 use Rattle.mp_world.specs.Events.{agent_of, local_of, taken, without_taken}
 use Rattle.mp_world.specs.Steps.{IsStepOf, sent_between, sent_to}
@@ -161,7 +162,7 @@ drop_one : (xs : List (List ℕ)) (x : List ℕ) → Contains (drop 1 xs) x → 
 drop_one [] x here = here
 drop_one (y ∷ xs) x here = contains_tail y xs x here
 
-module _ (tasks : List AgentTask) (agree : Agree tasks) (limits : All IsWithinLimits tasks) (w : World) (team : IsTeamWorld tasks w) where
+module _ (tasks : List AgentTask) (are : AreTeamTasks tasks) (w : World) (team : IsTeamWorld tasks w) where
   pub task_at : (agent : ℕ) (r : AgentRecord) → agent_at w agent ≡ Some r → task_of tasks agent ≡ Some r.task
   task_at zero r there = absurd (none-some r there)
   task_at (suc k) r there =
@@ -176,10 +177,10 @@ module _ (tasks : List AgentTask) (agree : Agree tasks) (limits : All IsWithinLi
       record { from_1 = omega arith; at_most = omega arith }
 
   pub limits_of : (agent : ℕ) (r : AgentRecord) → agent_at w agent ≡ Some r → IsWithinLimits r.task
-  limits_of agent r there = All-contains IsWithinLimits tasks r.task limits (member_of tasks (agree_numbered tasks agree) w team agent r there).task
+  limits_of agent r there = All-contains IsWithinLimits tasks r.task are.within (member_of tasks (agree_numbered tasks are.agree) w team agent r there).task
 
   pub at_me : (agent : ℕ) (r : AgentRecord) → agent_at w agent ≡ Some r → agent_at w r.task.me ≡ Some r
-  at_me agent r there = ap (agent_at w) (member_of tasks (agree_numbered tasks agree) w team agent r there).me ∙ there
+  at_me agent r there = ap (agent_at w) (member_of tasks (agree_numbered tasks are.agree) w team agent r there).me ∙ there
 
   module _ (sound : AreStatesSound tasks w) where
     pub agent_sound : (agent : ℕ) (r : AgentRecord) → agent_at w agent ≡ Some r → IsSoundAgent w r.task r
@@ -196,29 +197,29 @@ module _ (tasks : List AgentTask) (agree : Agree tasks) (limits : All IsWithinLi
         let found = agent_there w from (agent_of_task from u at) in
         let r = found.0 in
         let same : r.task ≡ u = same_Some r.task u (sym (task_at from r found.1) ∙ at) in
-        let of = member_of tasks (agree_numbered tasks agree) w team from r found.1 in
+        let of = member_of tasks (agree_numbered tasks are.agree) w team from r found.1 in
         let in_team : Contains tasks u = subst (λ (t : AgentTask). Contains tasks t) same of.task in
         let mine : agent_at w u.me ≡ Some r = subst (λ (t : AgentTask). agent_at w t.me ≡ Some r) same (at_me from r found.1) in
         let known : IsSoundAgent w u r = subst (λ (t : AgentTask). IsSoundAgent w t r) same (agent_sound from r found.1) in
         let sent : IsSentIn u r.search.kept m = subst (λ (o : Option AgentRecord). IsSomeAnd o (λ r. IsSentIn u r.search.kept m)) mine state.sent in
-        let agents : u.agents ≡ t.agents = (All-contains (λ t. t.agents ≡ length tasks) tasks u (agree_numbered tasks agree).team in_team) ∙ sym (All-contains (λ t. t.agents ≡ length tasks) tasks t (agree_numbered tasks agree).team here) in
-        let publics : u.publics ≡ t.publics = (agree.alike u t in_team here).publics in (
+        let agents : u.agents ≡ t.agents = (All-contains (λ t. t.agents ≡ length tasks) tasks u (agree_numbered tasks are.agree).team in_team) ∙ sym (All-contains (λ t. t.agents ≡ length tasks) tasks t (agree_numbered tasks are.agree).team here) in
+        let publics : u.publics ≡ t.publics = (are.agree.alike u t in_team here).publics in (
           subst (λ (n : ℕ). Fits n t.publics (kinds.State m)) agents (subst (λ (n : ℕ). Fits u.agents n (kinds.State m)) publics state.fits),
-          sent_told w u (All-contains IsWithinLimits tasks u limits in_team) r mine known m sent,
+          sent_told w u (All-contains IsWithinLimits tasks u are.within in_team) r mine known m sent,
         )
 
     pub bytes_known : (from to : ℕ) (u : AgentTask) (r : AgentRecord) (bytes : List ℕ) → task_of tasks from ≡ Some u → agent_at w to ≡ Some r
         → Contains (under_way w from to) bytes → IsKnown w r.task bytes
     bytes_known from to u r bytes at there here =
         let m = sound.mail from to u r.task bytes at (task_at to r there) here in
-        let in_team = (member_of tasks (agree_numbered tasks agree) w team to r there).task in
+        let in_team = (member_of tasks (agree_numbered tasks are.agree) w team to r there).task in
         record {
           message = m.message;
           is = m.is;
           state = if_state (IsSoundState w u) (λ m. IsStateFor r.task m × AreTold w m.tags) (λ x state. state_heard from u r.task x at in_team state) m.message m.state;
         }
 
-    module _ (value : AgentTask → Numbers → Numbers → Option ℕ) (next : World) where
+    module _ (value : Values) (next : World) where
       pub step_sound : (event : Event) (is : IsStepOf value w event next) → IsSoundStep w is.agent.task is.step
       step_sound event is =
           local_sound w is.agent (limits_of (agent_of event) is.agent is.there)
@@ -230,7 +231,7 @@ module _ (tasks : List AgentTask) (agree : Agree tasks) (limits : All IsWithinLi
           known (Expand agent) is from e = absurd (let impossible : ⊥ = cc in impossible)
           known Start is from e = absurd (let impossible : ⊥ = cc in impossible)
           known (Take by a) is from e =
-              let sender = sender_of tasks (agree_numbered tasks agree) w team by a is.agent is.there is.may in
+              let sender = sender_of tasks (agree_numbered tasks are.agree) w team by a is.agent is.there is.may in
               let found = agent_there w a sender.0 in
               bytes_known a by found.0.task is.agent (taken w (Take by a)) (task_at a found.0 found.1) is.there
               (Contains-get_or (under_way w a by) 0 [] (not_none (under_way w a by) is.message))
@@ -246,7 +247,7 @@ module _ (tasks : List AgentTask) (agree : Agree tasks) (limits : All IsWithinLi
           left = drop 1 (under_way w of by)
 
           from_there : IsAgent w of
-          from_there = (sender_of tasks (agree_numbered tasks agree) w team by of is.agent is.there is.may).0
+          from_there = (sender_of tasks (agree_numbered tasks are.agree) w team by of is.agent is.there is.may).0
 
           other : (from ≢ of) ⊎ (to ≢ by) → Contains (under_way w from to) bytes
           other apart =
@@ -287,7 +288,7 @@ module _ (tasks : List AgentTask) (agree : Agree tasks) (limits : All IsWithinLi
         new_sound : All (λ (x : Out). IsSoundMessage next is.agent.task x.bytes) (map in_bytes is.step.out)
         new_sound =
             let t = is.agent.task in
-            let of = member_of tasks (agree_numbered tasks agree) w team (agent_of event) is.agent is.there in
+            let of = member_of tasks (agree_numbered tasks are.agree) w team (agent_of event) is.agent is.there in
             let mine : agent_at next t.me ≡ Some is.step.after = ap (agent_at next) of.me ∙ is.after in
             All-map (λ (x : Out). IsSoundMessage next t x.bytes) in_bytes is.step.out
             (All-weaker (GoesOut t is.step.after.search.kept) (λ (x : Outgoing). IsSoundMessage next t (spelling x.message))

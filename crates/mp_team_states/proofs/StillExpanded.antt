@@ -4,7 +4,6 @@ use Rattle.std.specs.Prelude.{Ok}
 use Rattle.std.proofs.lemmas.Bool.{cases_eq}
 use Rattle.std.proofs.lemmas.Option.{same_Some}
 use Rattle.mp_sets.specs.Numbers.{Numbers}
-use Rattle.mp_task.specs.AgentTask.{AgentTask}
 use Rattle.mp_messages.specs.declared.history.Event.{Event}
 use Rattle.mp_search.specs.Search.{SearchRecord}
 use Rattle.mp_machine.specs.declared.event.Local.{Local}
@@ -14,6 +13,7 @@ use Rattle.mp_machine.specs.Outgoing.{Step}
 use Rattle.mp_machine.specs.Taking.{with_state}
 use Rattle.mp_world.specs.Events.{agent_of, local_of, taken}
 use Rattle.mp_world.specs.Steps.{IsStepOf}
+use Rattle.mp_world.specs.Values.{Values}
 use Rattle.mp_world.specs.World.{World, agent_at}
 use Rattle.mp_team_states.proofs.Reached.{HasIt, entry_in, has_it}
 use Rattle.mp_team_states.proofs.WorldsGrow.{search_holds}
@@ -31,7 +31,7 @@ local_still value r s m was event bytes is =
       quiet = λ s quiet. subst (λ (x : SearchRecord). WasExpanded x.kept m) (sym quiet.search_is) was;
     }) s is
 
-pub stays_expanded : (value : AgentTask → Numbers → Numbers → Option ℕ) (w next : World) (event : Event) → IsStepOf value w event next
+pub stays_expanded : (value : Values) (w next : World) (event : Event) → IsStepOf value w event next
     → (agent m : ℕ) → IsExpandedAt w agent m → IsExpandedAt next agent m
 stays_expanded value w next event is agent m before = by (cases_eq agent (agent_of event))
   where

@@ -28,6 +28,7 @@ use Rattle.mp_machine.specs.LocalStep.{local, with_search}
 use Rattle.mp_machine.specs.Outgoing.{Step, without_messages}
 use Rattle.mp_machine.specs.Snapshots.{started}
 use Rattle.mp_machine.specs.Taking.{took, took_message, took_state, unless_bad, with_state}
+use Rattle.mp_world.specs.Values.{Values}
 use Rattle.mp_world.specs.World.{World, agent_at}
 use Rattle.mp_world.proofs.LocalCases.{event_holds, good_step}
 use Rattle.mp_world.specs.Events.{agent_of, local_of, taken}
@@ -152,7 +153,7 @@ local_further value r s event bytes is =
 same_further : (r : AgentRecord) → IsFurther r r
 same_further r = record { task = refl; kept = grown_not r.search.kept }
 
-pub step_grows : (value : AgentTask → Numbers → Numbers → Option ℕ) (w next : World) (event : Event) → IsStepOf value w event next → HaveGrown w next
+pub step_grows : (value : Values) (w next : World) (event : Event) → IsStepOf value w event next → HaveGrown w next
 step_grows value w next event is agent r there = by (cases_eq agent (agent_of event))
   where
     by : (agent ≡ agent_of event) ⊎ (agent ≡ agent_of event → ⊥) → (later : AgentRecord) × (agent_at next agent ≡ Some later) × IsFurther r later

@@ -1,5 +1,5 @@
 -- Which entry is expanded, and that it is worth it.
-use Rattle.std.proofs.Common.{◌≡◌, ℕ, ◌<◌, ◌≤◌, ◌⊎◌, Bool, true, cond, eqb, List, get_or, Option, Some, None, All, refl, sym, ap, subst, ◌∙◌, arith, inl, inr}
+use Rattle.std.proofs.Common.{◌≡◌, ℕ, ◌<◌, ◌≤◌, ◌⊎◌, Bool, true, cond, eqb, List, get_or, Option, Some, None, refl, sym, ap, subst, ◌∙◌, arith, inl, inr}
 use Rattle.std.specs.Prelude.{Contains, Ok, nat_lt, not, option_map, slice_get}
 use Rattle.std.specs.Ordering.{is_lt, nat_cmp, ordering_then}
 use Rattle.std.specs.Cmp.{nat_cmp_total, on_total, then_total}
@@ -10,10 +10,7 @@ use Rattle.mp_list.specs.First.{IsStrictOrder, leftmost}
 use Rattle.mp_list.proofs.FirstLemmas.{found_first, nothing_found}
 use Rattle.mp_list.proofs.Members.{no_member}
 use Rattle.mp_list.proofs.Orders.{strict_from_total}
-use Rattle.mp_sets.specs.Numbers.{Numbers}
-use Rattle.mp_task.specs.Agree.{Agree}
 use Rattle.mp_task.specs.AgentTask.{AgentTask}
-use Rattle.mp_task.specs.Limits.{IsWithinLimits}
 use Rattle.mp_messages.specs.declared.history.Event.TheVariants.{Expand}
 use Rattle.mp_store.specs.declared.entry.Entry.{Entry}
 use Rattle.mp_store.specs.declared.entry.Mark.{Mark}
@@ -31,6 +28,8 @@ use Rattle.mp_machine.specs.AgentRecord.{AgentRecord, is_going}
 use Rattle.mp_machine.specs.LocalStep.{with_search}
 use Rattle.mp_machine.specs.Outgoing.{Step}
 use Rattle.mp_world.specs.Steps.{IsStepOf}
+use Rattle.mp_world.specs.Team.{AreTeamTasks}
+use Rattle.mp_world.specs.Values.{Values}
 use Rattle.mp_world.specs.World.{IsTeamWorld, World}
 use Rattle.mp_team_states.specs.Paths.{IsEntryAt}
 use Rattle.mp_team_states.specs.Sound.{AreStatesSound}
@@ -135,8 +134,8 @@ falls r sound n m e o at open_ o_at shut key =
           absurd (false≢true (sym closed ∙ ap (λ (x : Entry AgentState). is_open x.mark) is_e ∙ ap is_open open_))
     ]
 
-module _ (tasks : List AgentTask) (agree : Agree tasks) (limits : All IsWithinLimits tasks) (w : World) (team : IsTeamWorld tasks w) (sound : AreStatesSound tasks w)
-    (value : AgentTask → Numbers → Numbers → Option ℕ) (next : World) (agent : ℕ) (is : IsStepOf value w (Expand agent) next) where
+module _ (tasks : List AgentTask) (are : AreTeamTasks tasks) (w : World) (team : IsTeamWorld tasks w) (sound : AreStatesSound tasks w)
+    (value : Values) (next : World) (agent : ℕ) (is : IsStepOf value w (Expand agent) next) where
   r : AgentRecord
   r = is.agent
 
@@ -182,10 +181,10 @@ module _ (tasks : List AgentTask) (agree : Agree tasks) (limits : All IsWithinLi
     below = λ m e has goal. worth_it.below m e (in_record m e has) goal;
     falling = λ m before same.
         let at = in_record m before.entry before.there in
-        falls r.search.kept (agent_sound tasks agree limits w team sound agent r is.there).kept worth_it.number m worth_it.entry before.entry worth_it.at worth_it.is_open at before.is
-        (equal_if_joint tasks agree limits w team sound agent r before.entry.key worth_it.entry.key is.there
-        (states_known tasks agree limits w team sound agent m r before.entry is.there at)
-        (states_known tasks agree limits w team sound agent worth_it.number r worth_it.entry is.there worth_it.at) same);
+        falls r.search.kept (agent_sound tasks are w team sound agent r is.there).kept worth_it.number m worth_it.entry before.entry worth_it.at worth_it.is_open at before.is
+        (equal_if_joint tasks are w team sound agent r before.entry.key worth_it.entry.key is.there
+        (states_known tasks are w team sound agent m r before.entry is.there at)
+        (states_known tasks are w team sound agent worth_it.number r worth_it.entry is.there worth_it.at) same);
     is = later (subst (λ (x : Record AgentState). WasExpanded x worth_it.number) after_is one.0);
     only = λ m after. which m (one.1 m (subst (λ (x : Record AgentState). WasExpanded x m) (sym after_is) (back m after)));
   }

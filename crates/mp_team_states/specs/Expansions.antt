@@ -1,13 +1,12 @@
 -- What an expansion is worth, and a heuristic that knows nothing.
-use Rattle.std.specs.Prelude.{◌≡◌, ℕ, ◌≤◌, ◌<◌, true, Option, Some, ◌⊎◌}
-use Rattle.mp_sets.specs.Numbers.{Numbers}
-use Rattle.mp_task.specs.AgentTask.{AgentTask}
+use Rattle.std.specs.Prelude.{◌≡◌, ℕ, ◌≤◌, ◌<◌, true, Some, ◌⊎◌}
 use Rattle.mp_store.specs.declared.entry.Entry.{Entry}
 use Rattle.mp_store.specs.declared.entry.Mark.TheVariants.{Open, Expanded}
 use Rattle.mp_store.specs.Record.{f}
 use Rattle.mp_search.specs.AgentState.{AgentState}
 use Rattle.mp_team_states.specs.Paths.{IsEntryAt}
 use Rattle.mp_world.specs.Joint.{joint}
+use Rattle.mp_world.specs.Values.{Values}
 use Rattle.mp_world.specs.World.{World}
 
 -- an agent has expanded the entry of a number
@@ -35,7 +34,7 @@ pub record ExpandsOne (w : World) (agent : ℕ) (next : World) : Type 0 where
       → (other ≡ number) ⊎ IsExpandedAt w agent other
 
 -- the values of a heuristic that knows nothing
-abbrev pub nothing_known : AgentTask → Numbers → Numbers → Option ℕ
+abbrev pub nothing_known : Values
 nothing_known t publics privates = Some 0
 
 -- no agent has expanded two entries of one joint state

@@ -1,12 +1,13 @@
 -- How large the costs and estimates of entries are: each expansion adds the cost of one action at
 -- most.
-use Rattle.std.specs.Prelude.{ℕ, ◌*◌, ◌<◌, ◌≤◌, ◌^◌, List, Option, Contains, IfSome}
+use Rattle.std.specs.Prelude.{ℕ, ◌*◌, ◌<◌, ◌≤◌, ◌^◌, List, Contains, IfSome}
 use Rattle.std.specs.List.{sum_by}
 use Rattle.mp_sets.specs.Numbers.{Numbers}
 use Rattle.mp_task.specs.AgentTask.{AgentTask}
 use Rattle.mp_store.specs.declared.entry.Entry.{Entry}
 use Rattle.mp_search.specs.AgentState.{AgentState}
 use Rattle.mp_team_states.specs.Paths.{IsEntryAt}
+use Rattle.mp_world.specs.Values.{Values}
 use Rattle.mp_world.specs.World.{World}
 
 -- how many entries all agents have expanded
@@ -25,7 +26,7 @@ AreSmall w =
     → IsSmall (expanded_by_all w) e
 
 -- the heuristic's values are small for each task of a team
-abbrev pub HasSmallValues : (AgentTask → Numbers → Numbers → Option ℕ) → List AgentTask → Type 0
+abbrev pub HasSmallValues : Values → List AgentTask → Type 0
 HasSmallValues value tasks =
     (t : AgentTask) (publics privates : Numbers) → Contains tasks t
     → IfSome (value t publics privates) (λ h. h < 2 ^ 50)

@@ -16,6 +16,7 @@ use Rattle.mp_search.specs.Receipt.{IsStateFor}
 use Rattle.mp_machine.specs.AgentRecord.{AgentRecord}
 use Rattle.mp_machine.specs.MemberFields.{EntryFits}
 use Rattle.mp_team_states.specs.Sent.{IsSentIn}
+use Rattle.mp_world.specs.Team.{most_expansions}
 use Rattle.mp_world.specs.World.{World, agent_at, under_way}
 use Rattle.mp_world.specs.Joint.{sets_of, told_by}
 
@@ -52,7 +53,7 @@ IsSentState w t m = IsSomeAnd (agent_at w t.me) (λ r. IsSentIn t r.search.kept 
 -- fits messages.
 pub record IsSoundAgent (w : World) (t : AgentTask) (r : AgentRecord) : Type 0 where
   pub task : r.task ≡ t
-  pub limit : r.limit ≤ 10000000
+  pub limit : r.limit ≤ most_expansions
   pub within : r.search.expansions ≤ r.limit
   pub sent : length r.search.kept.sent ≤ 200000 * r.search.expansions
   pub kept : IsSound same_state r.search.kept

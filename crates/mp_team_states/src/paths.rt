@@ -1,21 +1,20 @@
 //! How the states of entries were reached. The law is the contract of a function that does nothing.
 
-ghost use Rattle.std.specs.Prelude.{◌≡◌, ◌≤◌, ℕ, List, Option, Some, All};
+ghost use Rattle.std.specs.Prelude.{◌≡◌, ℕ, List, Some};
 ghost use Rattle.mp_machine.specs.AgentRecord.{AgentRecord};
 ghost use Rattle.mp_messages.specs.declared.history.Event.{Event};
 ghost use Rattle.mp_messages.specs.declared.message.State.{State};
-ghost use Rattle.mp_sets.specs.Numbers.{Numbers};
 ghost use Rattle.mp_task.specs.AgentTask.{AgentTask};
-ghost use Rattle.mp_task.specs.Agree.{Agree};
-ghost use Rattle.mp_task.specs.Limits.{IsWithinLimits};
 ghost use Rattle.mp_task.specs.Plan.{TaskStep, task_of};
 ghost use Rattle.mp_team_states.specs.Further.{HaveSoundRecords};
 ghost use Rattle.mp_team_states.specs.Paths.{AreReached, IsOver, IsPath, IsToldRightly};
 ghost use Rattle.mp_team_states.specs.Sound.{AreStatesSound, IsSoundState};
 ghost use Rattle.mp_team_states.specs.Walks.{WalksAlong};
 ghost use Rattle.mp_trail.specs.Walk.{walk};
-ghost use Rattle.mp_world.specs.Events.{run};
+ghost use Rattle.mp_world.specs.IsRun.{IsRun};
 ghost use Rattle.mp_world.specs.Steps.{IsStepOf};
+ghost use Rattle.mp_world.specs.Team.{AreTeamTasks, IsTeam, Team};
+ghost use Rattle.mp_world.specs.Values.{Values};
 ghost use Rattle.mp_world.specs.World.{IsTeamWorld, World, agent_at, start_world};
 
 /// In every world that a legal schedule leads to, each entry has a path, over the agents whose
@@ -23,23 +22,16 @@ ghost use Rattle.mp_world.specs.World.{IsTeamWorld, World, agent_at, start_world
 /// and costs what the entry does, and so it is with each state that was sent. An entry has one
 /// path.
 pub fn entries_are_reached()
-    ensures start { (value : AgentTask → Numbers → Numbers → Option ℕ) (limit : ℕ)
-        (tasks : List AgentTask)
-        → Agree tasks → All IsWithinLimits tasks → limit ≤ 10000000
-        → AreReached tasks (start_world value limit tasks) }
-    ensures events { (value : AgentTask → Numbers → Numbers → Option ℕ) (tasks : List AgentTask)
-        (w next : World) (event : Event)
-        → Agree tasks → All IsWithinLimits tasks → IsTeamWorld tasks w → AreStatesSound tasks w
+    ensures start { (team : Team) → IsTeam team → AreReached team.tasks (start_world team) }
+    ensures events { (value : Values) (tasks : List AgentTask) (w next : World) (event : Event)
+        → AreTeamTasks tasks → IsTeamWorld tasks w → AreStatesSound tasks w
         → IsStepOf value w event next → AreReached tasks w → AreReached tasks next }
-    ensures runs { (value : AgentTask → Numbers → Numbers → Option ℕ) (limit : ℕ)
-        (tasks : List AgentTask) (schedule : List Event) (w : World)
-        → Agree tasks → All IsWithinLimits tasks → limit ≤ 10000000
-        → run value limit tasks schedule ≡ Some w → AreReached tasks w }
+    ensures runs { (team : Team) (schedule : List Event) (w : World)
+        → IsRun team schedule w → AreReached team.tasks w }
     ensures messages { (tasks : List AgentTask) (w : World) (sender : ℕ) (u : AgentTask)
         (m : State)
-        → Agree tasks → All IsWithinLimits tasks → IsTeamWorld tasks w → AreStatesSound tasks w
-        → AreReached tasks w → task_of tasks sender ≡ Some u → IsSoundState w u m
-        → IsToldRightly tasks w sender m }
+        → AreTeamTasks tasks → IsTeamWorld tasks w → AreStatesSound tasks w → AreReached tasks w
+        → task_of tasks sender ≡ Some u → IsSoundState w u m → IsToldRightly tasks w sender m }
     ensures one { (w : World) (agent number : ℕ) (steps others : List TaskStep)
         → IsPath w agent number steps → IsPath w agent number others → steps ≡ others }
 {}

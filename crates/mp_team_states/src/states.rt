@@ -1,7 +1,7 @@
 //! Laws of the states that the agents of a team keep and send. Each is the contract of a function
 //! that does nothing.
 
-ghost use Rattle.std.specs.Prelude.{◌≡◌, ◌≤◌, ◌↔◌, ℕ, true, slice_get, List, Option, Some, Ok, All, Contains};
+ghost use Rattle.std.specs.Prelude.{◌≡◌, ◌↔◌, ℕ, true, slice_get, List, Option, Some, Ok, Contains};
 ghost use Rattle.mp_machine.specs.AgentRecord.{AgentRecord};
 ghost use Rattle.mp_machine.specs.Outgoing.{without_messages};
 ghost use Rattle.mp_machine.specs.Taking.{took, with_state};
@@ -15,8 +15,6 @@ ghost use Rattle.mp_search.specs.Receipt.{is_byte_right, is_token_given, state_o
 ghost use Rattle.mp_sets.specs.Numbers.{Numbers};
 ghost use Rattle.mp_sets.specs.declared.tag.Tag.{Tag};
 ghost use Rattle.mp_task.specs.AgentTask.{AgentTask};
-ghost use Rattle.mp_task.specs.Agree.{Agree};
-ghost use Rattle.mp_task.specs.Limits.{IsWithinLimits};
 ghost use Rattle.mp_task.specs.Plan.{IsJointState, private_of, task_of};
 ghost use Rattle.mp_store.specs.Sent.{sent_entry};
 ghost use Rattle.mp_store.specs.declared.entry.Entry.{Entry};
@@ -30,16 +28,18 @@ ghost use Rattle.mp_team_states.specs.Sound.{
   IsStateOf,
   IsTold,
 };
-ghost use Rattle.mp_world.specs.Events.{run};
+ghost use Rattle.mp_world.specs.IsRun.{IsRun};
 ghost use Rattle.mp_world.specs.Joint.{joint, joint_told, sets_of, told_by};
 ghost use Rattle.mp_world.specs.Steps.{IsStepOf};
+ghost use Rattle.mp_world.specs.Team.{AreTeamTasks, IsTeam, Team};
+ghost use Rattle.mp_world.specs.Values.{Values};
 ghost use Rattle.mp_world.specs.World.{IsTeamWorld, World, agent_at, start_world, under_way};
 
 /// At each event the agents keep their entries and their sent numbers. So each agent's list of sets
 /// with tokens only grows at its end: what a tag told, which states are known and were sent, and
 /// which joint states they are, stays so.
 pub fn events_keep_what_was_told()
-    ensures events { (value : AgentTask → Numbers → Numbers → Option ℕ) (w next : World)
+    ensures events { (value : Values) (w next : World)
         (event : Event)
         → IsStepOf value w event next → HaveGrown w next }
     ensures sets { (w next : World) → HaveSoundRecords w → HaveGrown w next
@@ -60,21 +60,14 @@ pub fn events_keep_what_was_told()
 /// In every world that a legal schedule leads to, what the agents keep is sound, and so is each
 /// message of a state that is under way. The world at the start is so, and each event keeps it.
 pub fn states_stay_sound()
-    ensures start { (value : AgentTask → Numbers → Numbers → Option ℕ) (limit : ℕ)
-        (tasks : List AgentTask)
-        → Agree tasks → All IsWithinLimits tasks → limit ≤ 10000000
-        → AreStatesSound tasks (start_world value limit tasks) }
-    ensures events { (value : AgentTask → Numbers → Numbers → Option ℕ) (tasks : List AgentTask)
-        (w next : World) (event : Event)
-        → Agree tasks → All IsWithinLimits tasks → IsTeamWorld tasks w
-        → IsStepOf value w event next → AreStatesSound tasks w → AreStatesSound tasks next }
-    ensures runs { (value : AgentTask → Numbers → Numbers → Option ℕ) (limit : ℕ)
-        (tasks : List AgentTask) (schedule : List Event) (w : World)
-        → Agree tasks → All IsWithinLimits tasks → limit ≤ 10000000
-        → run value limit tasks schedule ≡ Some w → AreStatesSound tasks w }
+    ensures start { (team : Team) → IsTeam team → AreStatesSound team.tasks (start_world team) }
+    ensures events { (value : Values) (tasks : List AgentTask) (w next : World) (event : Event)
+        → AreTeamTasks tasks → IsTeamWorld tasks w → IsStepOf value w event next
+        → AreStatesSound tasks w → AreStatesSound tasks next }
+    ensures runs { (team : Team) (schedule : List Event) (w : World)
+        → IsRun team schedule w → AreStatesSound team.tasks w }
     ensures records { (tasks : List AgentTask) (w : World)
-        → Agree tasks → All IsWithinLimits tasks → IsTeamWorld tasks w
-        → AreStatesSound tasks w → HaveSoundRecords w }
+        → AreTeamTasks tasks → IsTeamWorld tasks w → AreStatesSound tasks w → HaveSoundRecords w }
 {}
 
 /// No agent finds a state that another one sent to be a bad message: what is read as a state was
@@ -83,19 +76,18 @@ pub fn states_stay_sound()
 pub fn sent_states_are_good()
     ensures read { (tasks : List AgentTask) (w : World) (from to : ℕ) (u : AgentTask)
         (r : AgentRecord) (bytes : List ℕ) (m : State)
-        → Agree tasks → All IsWithinLimits tasks → IsTeamWorld tasks w → AreStatesSound tasks w
+        → AreTeamTasks tasks → IsTeamWorld tasks w → AreStatesSound tasks w
         → task_of tasks from ≡ Some u → agent_at w to ≡ Some r
         → Contains (under_way w from to) bytes
         → message_of r.task.agents r.task.publics bytes ≡ Some (kinds.State m)
         → (bytes ≡ spelling (kinds.State m)) × IsSoundState w u m }
     ensures taken { (value : Numbers → Numbers → Option ℕ) (tasks : List AgentTask) (w : World)
         (from to : ℕ) (u : AgentTask) (r : AgentRecord) (m : State)
-        → Agree tasks → All IsWithinLimits tasks → IsTeamWorld tasks w → AreStatesSound tasks w
+        → AreTeamTasks tasks → IsTeamWorld tasks w → AreStatesSound tasks w
         → task_of tasks from ≡ Some u → agent_at w to ≡ Some r → IsSoundState w u m
         → (is_token_given r.task r.search.kept m ≡ true)
         × (is_byte_right r.task r.search.kept m ≡ true)
-        × (took value r from (spelling (kinds.State m))
-        ≡ Ok (without_messages (with_state value r from m))) }
+        × (took value r from (spelling (kinds.State m)) ≡ Ok (without_messages (with_state value r from m))) }
 {}
 
 /// A state that an agent knows is a joint state of the team, with the agent's own facts in its
@@ -104,23 +96,23 @@ pub fn sent_states_are_good()
 pub fn states_are_joint_states()
     ensures joint { (tasks : List AgentTask) (w : World) (agent : ℕ) (r : AgentRecord)
         (s : AgentState)
-        → Agree tasks → All IsWithinLimits tasks → IsTeamWorld tasks w
-        → agent_at w agent ≡ Some r → IsStateOf w r.task s
+        → AreTeamTasks tasks → IsTeamWorld tasks w → agent_at w agent ≡ Some r
+        → IsStateOf w r.task s
         → IsJointState tasks (joint w agent s) × (private_of (joint w agent s) agent ≡ s.mine) }
     ensures equal { (tasks : List AgentTask) (w : World) (agent : ℕ) (r : AgentRecord)
         (a b : AgentState)
-        → Agree tasks → All IsWithinLimits tasks → IsTeamWorld tasks w → AreStatesSound tasks w
+        → AreTeamTasks tasks → IsTeamWorld tasks w → AreStatesSound tasks w
         → agent_at w agent ≡ Some r → IsStateOf w r.task a → IsStateOf w r.task b
         → (a ≡ b) ↔ (joint w agent a ≡ joint w agent b) }
     ensures sent { (tasks : List AgentTask) (w : World) (agent : ℕ) (r : AgentRecord) (m : State)
         (n : ℕ) (e : Entry AgentState)
-        → Agree tasks → All IsWithinLimits tasks → IsTeamWorld tasks w → AreStatesSound tasks w
+        → AreTeamTasks tasks → IsTeamWorld tasks w → AreStatesSound tasks w
         → agent_at w agent ≡ Some r → IsSentState w r.task m
         → sent_entry m.sent r.search.kept ≡ Some n → slice_get r.search.kept.entries n ≡ Some e
         → (joint w agent e.key ≡ joint_told w m) × (m.g ≡ e.g) × (m.h ≡ e.h) }
     ensures received { (tasks : List AgentTask) (w : World) (from to : ℕ) (u : AgentTask)
         (r : AgentRecord) (m : State)
-        → Agree tasks → All IsWithinLimits tasks → IsTeamWorld tasks w → AreStatesSound tasks w
+        → AreTeamTasks tasks → IsTeamWorld tasks w → AreStatesSound tasks w
         → task_of tasks from ≡ Some u → agent_at w to ≡ Some r → IsSoundState w u m
         → IsStateOf w r.task (state_of r.task r.search.kept m)
         × (joint w to (state_of r.task r.search.kept m) ≡ joint_told w m) }

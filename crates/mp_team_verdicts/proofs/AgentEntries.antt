@@ -14,6 +14,7 @@ use Rattle.mp_machine.specs.Outgoing.{Outgoing, Step, in_bytes}
 use Rattle.mp_world.specs.Events.{agent_of, local_of, sent_in}
 use Rattle.mp_world.specs.Logs.{HasDone, IsLog, entries_of, entry_of, put_by}
 use Rattle.mp_world.specs.Logs.HasDone.{nothing, onward}
+use Rattle.mp_world.specs.Team.{Team}
 use Rattle.mp_world.specs.World.{AreNumbered}
 use Rattle.mp_logs.proofs.Made.{number_of}
 use Rattle.mp_logs.proofs.Onward.{done_task}
@@ -81,13 +82,12 @@ module _ (value : Numbers → Numbers → Option ℕ) where
         (All-weaker (GoesOut r.task) (λ (x : Outgoing). IsAnother r.task x.to) (λ x is. another_is r.task x.to is)
         s.out stepped.out)
 
-pub parts_of_agents : (value : AgentTask → Numbers → Numbers → Option ℕ) (limit : ℕ) (tasks : List AgentTask)
-    (log : List Entry) (t : AgentTask) → AreNumbered tasks → IsLog value limit tasks log → Contains tasks t
+pub parts_of_agents : (team : Team) (log : List Entry) (t : AgentTask) → AreNumbered team.tasks → IsLog team log → Contains team.tasks t
     → All (IsOfAgent t) (part log t.me)
-parts_of_agents value limit tasks log t numbered is here =
-    let number = number_of value limit tasks numbered t here in
+parts_of_agents team log t numbered is here =
+    let number = number_of team numbered t here in
     let low = number.0 in
     let high = number.1 in
-    let many : t.agents ≡ length tasks = All-contains (λ u. u.agents ≡ length tasks) tasks t numbered.team here in
+    let many : t.agents ≡ length team.tasks = All-contains (λ u. u.agents ≡ length team.tasks) team.tasks t numbered.team here in
     let p = is.parts t here in
-    entries_of_agent (value t) limit t (omega arith) (part log t.me) p.last p.done
+    entries_of_agent (team.value t) team.limit t (omega arith) (part log t.me) p.last p.done

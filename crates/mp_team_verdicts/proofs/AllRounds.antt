@@ -1,15 +1,12 @@
 -- Round robin takes few rounds in all: while the search goes on, and from then on until all have ended.
-use Rattle.std.proofs.Common.{◌≡◌, ℕ, zero, suc, ◌+◌, ◌*◌, ◌≤◌, ◌<◌, ◌^◌, Bool, true, false, List, length, Option, Some, All, refl, sym, ap, subst, ◌∙◌, arith, ◌⊎◌, inl, inr}
+use Rattle.std.proofs.Common.{◌≡◌, ℕ, zero, suc, ◌+◌, ◌*◌, ◌≤◌, ◌<◌, ◌^◌, Bool, true, false, length, Option, Some, refl, sym, ap, subst, ◌∙◌, arith, ◌⊎◌, inl, inr}
 use Rattle.std.specs.Prelude.{IfSome}
 use Rattle.std.proofs.lemmas.Bool.{false≢true}
-use Rattle.mp_sets.specs.Numbers.{Numbers}
-use Rattle.mp_task.specs.Agree.{Agree}
-use Rattle.mp_task.specs.AgentTask.{AgentTask}
-use Rattle.mp_task.specs.Limits.{IsWithinLimits}
 use Rattle.mp_snapshot.specs.Notes.{Notes}
 use Rattle.mp_machine.specs.AgentRecord.{AgentRecord, given_verdict}
 use Rattle.mp_machine.specs.Verdicts.{is_deciding}
 use Rattle.mp_world.specs.RoundRobin.{is_over}
+use Rattle.mp_world.specs.Team.{IsTeam, Team}
 use Rattle.mp_world.specs.World.{World, agent_at}
 use Rattle.mp_world.proofs.Agents.{agent_there}
 use Rattle.mp_team_snapshots.specs.Team.{IsTeamOf}
@@ -24,17 +21,17 @@ use Rattle.mp_team_verdicts.proofs.Nearing.IsNear.{asked, chosen, told}
 use Rattle.mp_team_verdicts.proofs.Points.{round_runs}
 use Rattle.mp_team_verdicts.proofs.Stuck.{is_agent, is_first}
 
-module _ (value : AgentTask → Numbers → Numbers → Option ℕ) (limit publics : ℕ) (tasks : List AgentTask)
-    (agree : Agree tasks) (limits : All IsWithinLimits tasks) (most : limit ≤ 10000000)
-    (team : IsTeamOf publics tasks) where
+module _ (team : Team) (is_team : IsTeam team) (publics : ℕ) (of_team : IsTeamOf publics team.tasks) where
+  open team use {tasks, value}
+
   abbrev n : ℕ
   n = length tasks
 
   abbrev At : World → Type 0
-  At = Reached value limit publics tasks agree limits most team
+  At = Reached team is_team publics of_team
 
   reach : (w v : World) → At w → IsGoingRound value n w v → At v
-  reach w v at q = goes_reached value limit publics tasks agree limits most team q.events w v at (round_runs value n w v q.events q.round)
+  reach w v at q = goes_reached team is_team publics of_team q.events w v at (round_runs value n w v q.events q.round)
 
   -- numbers of agent 1's snapshots rise over the rounds
   rise : (rounds : ℕ) (w last : World) → At w → AreGoingRounds value n rounds w last → (note_at w 1).number ≤ (note_at last 1).number
@@ -42,7 +39,7 @@ module _ (value : AgentTask → Numbers → Numbers → Option ℕ) (limit publi
       let is : (note_at last 1).number ≡ (note_at w 1).number = ap (λ (v : World). (note_at v 1).number) same in
       omega arith
   rise (suc rounds) w last at (next, q, rest) =
-      let first = rises value limit publics tasks agree limits most team 1 q.events w next at (round_runs value n w next q.events q.round) in
+      let first = rises team is_team publics of_team 1 q.events w next at (round_runs value n w next q.events q.round) in
       let later = rise rounds next last (reach w next at q) rest in
       omega arith
 
@@ -62,7 +59,7 @@ module _ (value : AgentTask → Numbers → Numbers → Option ℕ) (limit publi
   ending_rounds zero many w last at near same = omega arith
   ending_rounds (suc rounds) zero w last at near (next, q, rest) = absurd (none_near w near)
   ending_rounds (suc rounds) (suc many) w last at near (next, q, rest) =
-      by (near_round value limit publics tasks agree limits most team w next q.events at q.round (reach w next at q) many near)
+      by (near_round team is_team publics of_team w next q.events at q.round (reach w next at q) many near)
       (λ later. ending_rounds rounds many next last (reach w next at q) later rest)
     where
       by : (is_over next ≡ true) ⊎ IsNear n publics next many → (IsNear n publics next many → rounds ≤ many) → suc rounds ≤ suc many
@@ -99,7 +96,7 @@ module _ (value : AgentTask → Numbers → Numbers → Option ℕ) (limit publi
       who : (r : AgentRecord) × (agent_at next 1 ≡ Some r)
       who =
           agent_there next 1
-          (is_agent value limit publics tasks agree limits most team next at_next 1 (is_first value limit publics tasks agree limits most team next at_next))
+          (is_agent team is_team publics of_team next at_next 1 (is_first team is_team publics of_team next at_next))
 
       by : (b : Bool) → is_deciding (given_verdict who.0) ≡ b → AreSearchRounds value n rounds next last ⊎ IsDecidedIn rounds next last
           → AreSearchRounds value n (suc rounds) w last ⊎ IsDecidedIn (suc rounds) w last
@@ -154,17 +151,17 @@ module _ (value : AgentTask → Numbers → Numbers → Option ℕ) (limit publi
     where
       by : AreSearchRounds value n rounds w last ⊎ IsDecidedIn rounds w last → rounds < 2 ^ 51
       by (inl searched) =
-          let few = few_rounds value limit publics tasks agree limits most team rounds w last first at searched there room in
+          let few = few_rounds team is_team publics of_team rounds w last first at searched there room in
           omega arith
       by (inr d) =
           let long = d.long in
           let who = agent_there d.middle 1
-          (is_agent value limit publics tasks agree limits most team d.middle d.at_middle 1
-          (is_first value limit publics tasks agree limits most team d.middle d.at_middle)) in
+          (is_agent team is_team publics of_team d.middle d.at_middle 1
+          (is_first team is_team publics of_team d.middle d.at_middle)) in
           let here = ap (λ (s : Notes). s.number) (note_of d.middle 1 who.0 who.1) in
           let end = ap (λ (s : Notes). s.number) (note_of last 1 first there) in
           let low = d.rises_to in
-          let few = few_rounds value limit publics tasks agree limits most team d.before w d.middle who.0 at d.searched who.1 (omega arith) in
+          let few = few_rounds team is_team publics of_team d.before w d.middle who.0 at d.searched who.1 (omega arith) in
           let few_more = ending_rounds d.after (17 * 2 ^ 46 + 2) d.decided last d.at_decided
-          (near_start value limit publics tasks agree limits most team d.decided d.at_decided d.first d.there d.decides) d.rest in
+          (near_start team is_team publics of_team d.decided d.at_decided d.first d.there d.decides) d.rest in
           omega arith

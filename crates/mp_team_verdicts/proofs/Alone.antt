@@ -1,15 +1,13 @@
 -- An agent that is alone, with a heuristic that knows nothing, expands each state once at most, so that it is spent only where it may
 -- expand fewer entries than there are states.
-use Rattle.std.proofs.Common.{◌≡◌, ℕ, ◌+◌, ◌-◌, ◌<◌, ◌≤◌, ◌^◌, ◌⊎◌, Bool, true, false, List, [], ◌∷◌, ◌++◌, length, map, Option, Some, All, refl, sym, ap, subst, ◌∙◌, arith, inl, inr}
+use Rattle.std.proofs.Common.{◌≡◌, ℕ, ◌+◌, ◌-◌, ◌<◌, ◌≤◌, ◌^◌, ◌⊎◌, Bool, true, false, List, [], ◌∷◌, ◌++◌, length, map, Option, Some, refl, sym, ap, subst, ◌∙◌, arith, inl, inr}
 use Rattle.std.specs.Prelude.{Contains, ◌==◌, if◌then◌else◌, not, slice_get, slice_index_or}
 use Rattle.std.specs.Option.{option_map_or}
 use Rattle.std.proofs.lemmas.Bool.{and_parts, cases_lt, eqb-true, false≢true}
 use Rattle.std.proofs.lemmas.List.{length-map}
 use Rattle.std.proofs.lemmas.Option.{get_or_from_slice_get, none-some, same_Some, slice_get_within}
 use Rattle.mp_list.proofs.Members.{contains_cases, no_member}
-use Rattle.mp_task.specs.Agree.{Agree}
 use Rattle.mp_task.specs.AgentTask.{AgentTask}
-use Rattle.mp_task.specs.Limits.{IsWithinLimits}
 use Rattle.mp_messages.specs.declared.history.Event.{Event}
 use Rattle.mp_messages.specs.declared.history.Event.TheVariants.{Expand, Take, Start}
 use Rattle.mp_store.specs.declared.entry.Entry.{Entry}
@@ -28,6 +26,7 @@ use Rattle.mp_machine.specs.Outgoing.{Step}
 use Rattle.mp_machine.specs.Taking.{with_state}
 use Rattle.mp_world.specs.Events.{agent_of, local_of, run, taken}
 use Rattle.mp_world.specs.Steps.{IsStepOf}
+use Rattle.mp_world.specs.Team.{AreTeamTasks, IsTeam, team_with}
 use Rattle.mp_world.specs.World.{IsTeamWorld, World, agent_at}
 use Rattle.mp_world.proofs.Agents.{agree_numbered, member_of, sender_of}
 use Rattle.mp_world.proofs.Mail.{agent_of_team}
@@ -86,7 +85,7 @@ one_task [] one t u t_here u_here = absurd (no_member t t_here)
 one_task (x ∷ []) one t u t_here u_here = only_task x t t_here ∙ sym (only_task x u u_here)
 one_task (x ∷ y ∷ more) one t u t_here u_here = absurd (omega arith)
 
-module _ (tasks : List AgentTask) (agree : Agree tasks) (limits : All IsWithinLimits tasks) where
+module _ (tasks : List AgentTask) (are : AreTeamTasks tasks) where
   abbrev HoldsAfter : List Event → World → Type 0
   HoldsAfter past w = AreStatesSound tasks w × ((agent : ℕ) → HasExpandedAll w agent (count_by agent past))
 
@@ -113,7 +112,7 @@ module _ (tasks : List AgentTask) (agree : Agree tasks) (limits : All IsWithinLi
       here : other ≡ agent → is_by agent (Expand other) ≡ 1 → HasExpandedAll next agent (count_by agent (past ++ Expand other ∷ []))
       here same one =
           let was = old.1 agent in
-          let x = expands_one tasks agree limits w team old.0 nothing_known next other is in
+          let x = expands_one tasks are w team old.0 nothing_known next other is in
           let more = count_more agent past (Expand other) in
           let many = was.many in
           record {
@@ -136,15 +135,15 @@ module _ (tasks : List AgentTask) (agree : Agree tasks) (limits : All IsWithinLi
       by true test = here (eqb-true other agent test) (ap (λ (b : Bool). if b then 1 else 0) test)
       by false test = no_more past w team old (Expand other) next is agent (ap (λ (b : Bool). if b then 1 else 0) test)
 
-  module _ (limit : ℕ) (most : limit ≤ 10000000) where
-    all_expanded : (schedule : List Event) (w : World) → run nothing_known limit tasks schedule ≡ Some w → HoldsAfter schedule w
+  module _ (limit : ℕ) (is_team : IsTeam (team_with nothing_known limit tasks)) where
+    all_expanded : (schedule : List Event) (w : World) → run (team_with nothing_known limit tasks) schedule ≡ Some w → HoldsAfter schedule w
     all_expanded =
-        run_has_history nothing_known limit tasks HoldsAfter (
-          start_states_sound nothing_known limit tasks agree limits most,
+        run_has_history (team_with nothing_known limit tasks) HoldsAfter (
+          start_states_sound (team_with nothing_known limit tasks) is_team,
           λ agent. record { numbers = []; apart = tt; many = refl; each = λ n here. absurd (no_member n here) },
         )
         (λ past w event next team old is.
-        (states_stay_sound tasks agree limits w team old.0 nothing_known next event is, λ agent. one_more past w team old event next is agent))
+        (states_stay_sound tasks are w team old.0 nothing_known next event is, λ agent. one_more past w team old event next is agent))
 
     -- ---- costs rise where one agent is alone
 
@@ -162,11 +161,11 @@ module _ (tasks : List AgentTask) (agree : Agree tasks) (limits : All IsWithinLi
                 let allowed : may r locals.Expand ≡ true = subst (λ (e : Local). may r e ≡ true) at is.may in
                 let now = and_parts (is_going r.ending) (may_expand r.limit r.search) allowed in
                 let below = and_parts (not (is_spent r.limit r.search)) (is_open_below r.search.kept) now.1 in
-                rising_later r.task r.search (agent_sound tasks agree limits w team all.0 (agent_of event) r is.there).kept old
+                rising_later r.task r.search (agent_sound tasks are w team all.0 (agent_of event) r is.there).kept old
                 (worth r.search.kept below.1);
             receives = λ from m at reads.
                 let allowed = subst (λ (e : Local). may r e ≡ true) at is.may in
-                let sender = sender_of tasks (agree_numbered tasks agree) w team (agent_of event) from r is.there allowed in
+                let sender = sender_of tasks (agree_numbered tasks are.agree) w team (agent_of event) from r is.there allowed in
                 let receiver = agent_of_team w (agent_of event) r is.there in
                 let size = team_size tasks w team in
                 let a = sender.0.from_1 in
@@ -179,33 +178,33 @@ module _ (tasks : List AgentTask) (agree : Agree tasks) (limits : All IsWithinLi
 
       rising_next : (w : World) (event : Event) (next : World) → IsTeamWorld tasks w → HaveRising w → IsStepOf nothing_known w event next → HaveRising next
       rising_next w event next team all is = (
-        states_stay_sound tasks agree limits w team all.0 nothing_known next event is,
+        states_stay_sound tasks are w team all.0 nothing_known next event is,
         each_agent nothing_known w event next is (λ agent r. HasRisingCosts r.search.kept) (step_rising w next team all event is)
             (λ agent r there other. all.1 agent r there),
       )
 
-      rising_in_runs : (schedule : List Event) (w : World) → run nothing_known limit tasks schedule ≡ Some w → HaveRising w
+      rising_in_runs : (schedule : List Event) (w : World) → run (team_with nothing_known limit tasks) schedule ≡ Some w → HaveRising w
       rising_in_runs =
-          run_has nothing_known limit tasks HaveRising (
-            start_states_sound nothing_known limit tasks agree limits most,
+          run_has (team_with nothing_known limit tasks) HaveRising (
+            start_states_sound (team_with nothing_known limit tasks) is_team,
             λ agent r there.
-                let of = task_is nothing_known limit tasks agree limits most agent r there in
+                let of = task_is (team_with nothing_known limit tasks) is_team agent r there in
                 subst (λ (r : AgentRecord). HasRisingCosts r.search.kept) (sym of.2) (rising_first of.0),
           )
           (λ w event next team all is. rising_next w event next team all is)
 
       -- ---- one world
 
-      module _ (schedule : List Event) (w : World) (ran : run nothing_known limit tasks schedule ≡ Some w) (agent : ℕ) (r : AgentRecord) (there : agent_at w agent ≡ Some r)
+      module _ (schedule : List Event) (w : World) (ran : run (team_with nothing_known limit tasks) schedule ≡ Some w) (agent : ℕ) (r : AgentRecord) (there : agent_at w agent ≡ Some r)
           (n : ℕ) (e : Entry AgentState) (at : slice_get r.search.kept.entries n ≡ Some e) (open_ : e.mark ≡ Open) where
         team : IsTeamWorld tasks w
-        team = run_of_team nothing_known limit tasks schedule w ran
+        team = run_of_team (team_with nothing_known limit tasks) schedule w ran
 
         rising : HaveRising w
         rising = rising_in_runs schedule w ran
 
         sound : IsSound same_state r.search.kept
-        sound = (agent_sound tasks agree limits w team rising.0 agent r there).kept
+        sound = (agent_sound tasks are w team rising.0 agent r there).kept
 
         all : HasExpandedAll w agent (count_by agent schedule)
         all = (all_expanded schedule w ran).1 agent
@@ -231,8 +230,8 @@ module _ (tasks : List AgentTask) (agree : Agree tasks) (limits : All IsWithinLi
 
         alone_state : (m : ℕ) (x : Entry AgentState) → slice_get r.search.kept.entries m ≡ Some x → IsAloneState publics privates x.key
         alone_state m x at_m =
-            let known = states_known tasks agree limits w team rising.0 agent m r x there at_m in
-            let of = member_of tasks (agree_numbered tasks agree) w team agent r there in
+            let known = states_known tasks are w team rising.0 agent m r x there at_m in
+            let of = member_of tasks (agree_numbered tasks are.agree) w team agent r there in
             let is = agent_of_team w agent r there in
             let low = is.from_1 in
             let high = is.at_most in
@@ -312,7 +311,7 @@ module _ (tasks : List AgentTask) (agree : Agree tasks) (limits : All IsWithinLi
             in
             let long = length-map all.numbers number_at in
             let many = all.many in
-            let count = (counted_in_runs nothing_known limit tasks agree limits most schedule w ran agent r there).count in
+            let count = (counted_in_runs (team_with nothing_known limit tasks) is_team schedule w ran agent r there).count in
             omega arith
 
       -- ---- a verdict
@@ -320,14 +319,14 @@ module _ (tasks : List AgentTask) (agree : Agree tasks) (limits : All IsWithinLi
       nothing_heuristic : IsHeuristic nothing_known tasks
       nothing_heuristic =
           heuristic_of nothing_known (λ t publics privates within. omega arith) (λ t publics privates within none plan solves. none-some 0 (sym none))
-          (λ t publics privates within plan solves. omega arith) tasks agree limits
+          (λ t publics privates within plan solves. omega arith) tasks are
 
-      pub few_if_spent : (schedule : List Event) (w : World) → run nothing_known limit tasks schedule ≡ Some w → (first : AgentRecord) (agent : ℕ) → agent_at w 1 ≡ Some first
+      pub few_if_spent : (schedule : List Event) (w : World) → run (team_with nothing_known limit tasks) schedule ≡ Some w → (first : AgentRecord) (agent : ℕ) → agent_at w 1 ≡ Some first
           → given_verdict first ≡ Some (Spent agent) → limit < 2 ^ (first.task.publics + first.task.privates)
       few_if_spent schedule w ran first agent there given =
-          let of = member_of tasks (agree_numbered tasks agree) w (run_of_team nothing_known limit tasks schedule w ran) 1 first there in
-          let u : IsUndecided nothing_known limit tasks schedule w first.snapshot.number agent =
-          verdict_right nothing_known limit tasks agree limits most nothing_heuristic first.task of.task schedule w ran first there (Spent agent) given in
+          let of = member_of tasks (agree_numbered tasks are.agree) w (run_of_team (team_with nothing_known limit tasks) schedule w ran) 1 first there in
+          let u : IsUndecided (team_with nothing_known limit tasks) schedule w first.snapshot.number agent =
+          verdict_right (team_with nothing_known limit tasks) is_team nothing_heuristic first.task of.task schedule w ran first there (Spent agent) given in
           let c = u.cut.world in
           let r = u.at_limit.spent.who in
           let own = u.at_limit.own in
@@ -338,5 +337,5 @@ module _ (tasks : List AgentTask) (agree : Agree tasks) (limits : All IsWithinLi
           let count = u.at_limit.spent.expanded in
           let task : r.task ≡ first.task =
           one_task tasks alone r.task first.task
-          (member_of tasks (agree_numbered tasks agree) c (run_of_team nothing_known limit tasks _ c u.cut.runs) agent r u.at_limit.spent.there).task of.task in
+          (member_of tasks (agree_numbered tasks are.agree) c (run_of_team (team_with nothing_known limit tasks) _ c u.cut.runs) agent r u.at_limit.spent.there).task of.task in
           subst (λ (t : AgentTask). limit < 2 ^ (t.publics + t.privates)) task (subst (λ (k : ℕ). k < 2 ^ (r.task.publics + r.task.privates)) count few)

@@ -1,15 +1,11 @@
 -- The answer of a team is right.
-use Rattle.std.proofs.Common.{◌≡◌, ℕ, zero, suc, ◌≤◌, true, List, Option, Some, None, All, refl, sym, ap, subst, ◌∙◌, arith}
+use Rattle.std.proofs.Common.{◌≡◌, ℕ, zero, suc, true, List, Option, Some, None, refl, sym, ap, subst, ◌∙◌, arith}
 use Rattle.std.specs.Prelude.{Contains, if◌then◌else◌, not}
 use Rattle.std.specs.Option.{option_map_or}
 use Rattle.std.proofs.lemmas.Bool.{false≢true}
-use Rattle.std.proofs.lemmas.List.Elements.{All-contains}
 use Rattle.std.proofs.lemmas.List.Sums.{AllPass-from_list_all}
 use Rattle.std.proofs.lemmas.Option.{get_or_from_slice_get, none-some, same_Some, slice_get_within}
-use Rattle.mp_sets.specs.Numbers.{Numbers}
-use Rattle.mp_task.specs.Agree.{Agree}
 use Rattle.mp_task.specs.AgentTask.{AgentTask}
-use Rattle.mp_task.specs.Limits.{IsWithinLimits}
 use Rattle.mp_messages.specs.declared.history.Event.{Event}
 use Rattle.mp_snapshot.specs.declared.verdict.Verdict.{Verdict}
 use Rattle.mp_snapshot.specs.declared.verdict.Verdict.TheVariants.{Proved, NoPlan, Spent, Continue}
@@ -19,11 +15,12 @@ use Rattle.mp_world.specs.declared.answer.Answer.TheVariants as answers
 use Rattle.mp_world.specs.Answers.{answer_by, answer_of}
 use Rattle.mp_world.specs.Events.{run}
 use Rattle.mp_world.specs.RoundRobin.{is_over}
+use Rattle.mp_world.specs.Team.{IsTeam, Team}
 use Rattle.mp_world.specs.World.{World, agent_at}
 use Rattle.mp_world.proofs.Agents.{agent_there}
 use Rattle.mp_world.proofs.Runs.{run_of_team}
 use Rattle.mp_world.proofs.Stepping.{team_size}
-use Rattle.mp_team_snapshots.proofs.Agreeing.{agreeing_team}
+use Rattle.mp_team_snapshots.proofs.Agreeing.{are_of_team}
 use Rattle.mp_team_states.proofs.SoundWorlds.{IsHeuristic}
 use Rattle.mp_team_verdicts.specs.Ending.{IsAt, Stage}
 use Rattle.mp_team_verdicts.specs.Ending.Stage.{over, picking, searching, walking, without_plan}
@@ -50,13 +47,15 @@ deciding_stage publics w finished (picking agent number plan) at = absurd (ended
 deciding_stage publics w finished (walking from to sent earlier later) at = absurd (ended_in w finished 1 at.first at.there (at.agents 1 at.first at.there).going)
 deciding_stage publics w finished (over by plan) at = ap is_deciding at.verdict.proved.verdict
 
-module _ (value : AgentTask → Numbers → Numbers → Option ℕ) (limit : ℕ) (tasks : List AgentTask) (agree : Agree tasks) (limits : All IsWithinLimits tasks)
-    (most : limit ≤ 10000000) (heuristic : IsHeuristic value tasks) (t : AgentTask) (member : Contains tasks t)
-    (schedule : List Event) (w : World) (ran : run value limit tasks schedule ≡ Some w) (finished : is_over w ≡ true) where
+module _ (team : Team) (is_team : IsTeam team) (heuristic : IsHeuristic team.value team.tasks) (t : AgentTask)
+    (member : Contains team.tasks t) (schedule : List Event) (w : World) (ran : run team schedule ≡ Some w)
+    (finished : is_over w ≡ true) where
+  open team use {tasks, value, limit}
+
   deciding : (first : AgentRecord) → agent_at w 1 ≡ Some first → is_deciding (given_verdict first) ≡ true
   deciding first there =
-      let team = agreeing_team tasks t agree member (All-contains IsWithinLimits tasks t limits member) in
-      let ends = ends_so_far value limit t.publics tasks agree limits most team schedule w ran in
+      let of_team = are_of_team tasks t is_team.tasks member in
+      let ends = ends_so_far team is_team t.publics of_team schedule w ran in
       ap (λ (x : AgentRecord). is_deciding (given_verdict x)) (same_Some first ends.is.first (sym there ∙ ends.is.there))
       ∙ deciding_stage t.publics w finished ends.stage ends.is
 
@@ -66,26 +65,26 @@ module _ (value : AgentTask → Numbers → Numbers → Option ℕ) (limit : ℕ
         (λ k. if finished k then option_map_or (λ r. answer_by r.ending (given_verdict r)) (there k) answers.Nothing else answers.Nothing)
         ∙ ap (answer_by first.ending) given
 
-    by_verdict : (o : Option Verdict) → given_verdict first ≡ o → is_deciding o ≡ true → IsRightAnswer value limit tasks schedule w (answer_of w)
+    by_verdict : (o : Option Verdict) → given_verdict first ≡ o → is_deciding o ≡ true → IsRightAnswer team schedule w (answer_of w)
     by_verdict None given decides = absurd (false≢true decides)
     by_verdict (Some Continue) given decides = absurd (false≢true decides)
     by_verdict (Some (Proved agent cost)) given decides =
-        let right : IsOptimal tasks cost = verdict_right value limit tasks agree limits most heuristic t member schedule w ran first there (Proved agent cost) given in
-        let outcome : IsOutcome tasks w cost = shares_in_runs value limit tasks agree limits most schedule w ran finished first agent cost there given in
-        subst (IsRightAnswer value limit tasks schedule w) (sym outcome.answer)
+        let right : IsOptimal tasks cost = verdict_right team is_team heuristic t member schedule w ran first there (Proved agent cost) given in
+        let outcome : IsOutcome tasks w cost = shares_in_runs team is_team schedule w ran finished first agent cost there given in
+        subst (IsRightAnswer team schedule w) (sym outcome.answer)
         (record { outcome = outcome; steps_are = refl; least = right.least })
     by_verdict (Some NoPlan) given decides =
-        let right : IsUnsolvable tasks = verdict_right value limit tasks agree limits most heuristic t member schedule w ran first there NoPlan given in
-        subst (IsRightAnswer value limit tasks schedule w) (sym (answer_is (Some NoPlan) given)) right
+        let right : IsUnsolvable tasks = verdict_right team is_team heuristic t member schedule w ran first there NoPlan given in
+        subst (IsRightAnswer team schedule w) (sym (answer_is (Some NoPlan) given)) right
     by_verdict (Some (Spent agent)) given decides =
-        let right : IsUndecided value limit tasks schedule w first.snapshot.number agent =
-        verdict_right value limit tasks agree limits most heuristic t member schedule w ran first there (Spent agent) given in
-        subst (IsRightAnswer value limit tasks schedule w) (sym (answer_is (Some (Spent agent)) given))
+        let right : IsUndecided team schedule w first.snapshot.number agent =
+        verdict_right team is_team heuristic t member schedule w ran first there (Spent agent) given in
+        subst (IsRightAnswer team schedule w) (sym (answer_is (Some (Spent agent)) given))
         (record { first = first; there = there; agent = agent; undecided = right })
 
-  pub answer_right : IsRightAnswer value limit tasks schedule w (answer_of w)
+  pub answer_right : IsRightAnswer team schedule w (answer_of w)
   answer_right =
       let inside = member.1 in
-      let size = team_size tasks w (run_of_team value limit tasks schedule w ran) in
+      let size = team_size tasks w (run_of_team team schedule w ran) in
       let one = agent_there w 1 (record { from_1 = omega arith; at_most = omega arith }) in
       by_verdict one.0 one.1 (given_verdict one.0) refl (deciding one.0 one.1)

@@ -4,10 +4,6 @@ use Rattle.std.specs.List.{filter_map}
 use Rattle.std.proofs.lemmas.Bool.{cases_eq, false≢true}
 use Rattle.std.proofs.lemmas.List.Elements.{All-nil}
 use Rattle.mp_runs.specs.Run.{run as run_of}
-use Rattle.mp_sets.specs.Numbers.{Numbers}
-use Rattle.mp_task.specs.Agree.{Agree}
-use Rattle.mp_task.specs.AgentTask.{AgentTask}
-use Rattle.mp_task.specs.Limits.{IsWithinLimits}
 use Rattle.mp_messages.specs.declared.history.Event.{Event}
 use Rattle.mp_search.specs.Search.{may_expand}
 use Rattle.mp_snapshot.specs.Notes.{Notes}
@@ -16,6 +12,7 @@ use Rattle.mp_machine.specs.AgentRecord.{AgentRecord, is_going}
 use Rattle.mp_world.specs.Events.{after_event, agent_of}
 use Rattle.mp_world.specs.RoundRobin.{Round}
 use Rattle.mp_world.specs.Steps.{IsStepOf}
+use Rattle.mp_world.specs.Team.{IsTeam, Team}
 use Rattle.mp_world.specs.World.{World, agent_at, under_way}
 use Rattle.mp_world.proofs.Agents.{agent_there}
 use Rattle.mp_team_snapshots.specs.Messages.{messages}
@@ -36,32 +33,32 @@ use Rattle.mp_team_verdicts.proofs.Staying.{number_rises, still_marked, still_re
 use Rattle.mp_team_verdicts.proofs.Silence.{HasNoStates, IsNoState, keeps_search, none_next}
 use Rattle.mp_team_verdicts.proofs.Stuck.{another_at, is_agent, no_messages, nothing_left, nothing_to_expand, of_there}
 
-module _ (value : AgentTask → Numbers → Numbers → Option ℕ) (limit publics : ℕ) (tasks : List AgentTask)
-    (agree : Agree tasks) (limits : All IsWithinLimits tasks) (most : limit ≤ 10000000)
-    (team : IsTeamOf publics tasks) where
+module _ (team : Team) (is_team : IsTeam team) (publics : ℕ) (of_team : IsTeamOf publics team.tasks) where
+  open team use {tasks, value}
+
   abbrev n : ℕ
   n = length tasks
 
   abbrev pub Reached : World → Type 0
-  Reached w = IsReached value limit tasks w
+  Reached w = IsReached team w
 
   abbrev pub Goes : World → List Event → World → Type 0
   Goes u events v = run_of (after_event value) u events ≡ Some v
 
   is_known : (w : World) → Reached w → IsKnownWorld publics tasks w
-  is_known = known value limit publics tasks agree limits most team
+  is_known = known team is_team publics of_team
 
   -- what every event keeps
   stays_on : (Holds : World → Type 0)
       → ((v : World) (event : Event) (next : World) → Reached v → Reached next → IsStepOf value v event next → Holds v → Holds next)
       → (events : List Event) (u w : World) → Reached u → Holds u → Goes u events w → Holds w
   stays_on Holds keeps events u w at holds goes =
-      (onward value limit publics tasks agree limits most team (λ event. true) Holds
+      (onward team is_team publics of_team (λ event. true) Holds
       (λ v event next at_v at_next step pass holds. keeps v event next at_v at_next step holds) events u w at holds (all_pass events) goes).1
 
   pub goes_reached : (events : List Event) (u w : World) → Reached u → Goes u events w → Reached w
   goes_reached events u w at goes =
-      (onward value limit publics tasks agree limits most team (λ event. true) (λ v. Unit {0})
+      (onward team is_team publics of_team (λ event. true) (λ v. Unit {0})
       (λ v event next at_v at_next step pass holds. tt) events u w at tt (all_pass events) goes).0
 
   -- all agents go on
@@ -75,7 +72,7 @@ module _ (value : AgentTask → Numbers → Numbers → Option ℕ) (limit publi
       ended : is_going r.ending ≡ false → HasEnded w i
       ended test =
           stays_on (λ v. HasEnded v i)
-          (λ v event next at_v at_next step old. ended_stays value publics tasks team v (is_known v at_v).team event next step i old)
+          (λ v event next at_v at_next step old. ended_stays value publics tasks of_team v (is_known v at_v).team event next step i old)
           events u w at (record { who = r; there = there; ended = test }) goes
 
       by : (b : Bool) → is_going r.ending ≡ b → is_going r.ending ≡ true
@@ -87,7 +84,7 @@ module _ (value : AgentTask → Numbers → Numbers → Option ℕ) (limit publi
   silent_on events u w at goes silent =
       stays_on (IsSilent n publics)
       (λ v event next at_v at_next step old.
-      silent_next value publics tasks team v (is_known v at_v).team (is_known v at_v).in_runs old event next step)
+      silent_next value publics tasks of_team v (is_known v at_v).team (is_known v at_v).in_runs old event next step)
       events u w at silent goes
 
   -- ---- numbers of snapshots
@@ -110,19 +107,19 @@ module _ (value : AgentTask → Numbers → Numbers → Option ℕ) (limit publi
           by : (j ≡ agent_of event) ⊎ (j ≡ agent_of event → ⊥) → Holds (note_at next j)
           by (inl same) =
               let before : note_at v j ≡ step.agent.snapshot =
-              ap (note_at v) same ∙ note_before value publics tasks team v (is_known v at_v).team event next step in
+              ap (note_at v) same ∙ note_before value publics tasks of_team v (is_known v at_v).team event next step in
               let after : note_at next j ≡ step.step.after.snapshot =
-              ap (note_at next) same ∙ note_after value publics tasks team v (is_known v at_v).team event next step in
+              ap (note_at next) same ∙ note_after value publics tasks of_team v (is_known v at_v).team event next step in
               subst Holds (sym after) (keeps v event next at_v step same (subst Holds before old))
           by (inr other) =
-              subst Holds (sym (note_other value publics tasks team v (is_known v at_v).team event next step j other)) old
+              subst Holds (sym (note_other value publics tasks of_team v (is_known v at_v).team event next step j other)) old
 
   -- the numbers of an agent's snapshots rise
   pub rises : (j : ℕ) (events : List Event) (u w : World) → Reached u → Goes u events w → number_at u j ≤ number_at w j
   rises j events u w at goes =
       notes_on j (λ s. number_at u j ≤ s.number)
       (λ v event next at_v step same old.
-      let m = moved value publics tasks team v (is_known v at_v).team event next step in
+      let m = moved value publics tasks of_team v (is_known v at_v).team event next step in
       let more = number_rises (agent_of event) m.message step.agent step.step.after m.moves in
       omega arith) events u w at goes (omega arith)
 
@@ -132,13 +129,13 @@ module _ (value : AgentTask → Numbers → Numbers → Option ℕ) (limit publi
   marked_on i j is_i events u w at goes same set =
       (notes_on j (λ s. (number_at u j ≤ s.number) × (s.number ≡ number_at u j → has s.marked i ≡ true))
       (λ v event next at_v step here old.
-      let m = moved value publics tasks team v (is_known v at_v).team event next step in
-      let notes = its_notes value publics tasks team v (is_known v at_v).team (is_known v at_v).in_runs event next step in
+      let m = moved value publics tasks of_team v (is_known v at_v).team event next step in
+      let notes = its_notes value publics tasks of_team v (is_known v at_v).team (is_known v at_v).in_runs event next step in
       let more = number_rises (agent_of event) m.message step.agent step.step.after m.moves in
       let low = old.0 in (
         omega arith,
         λ equal.
-            still_marked n i team.agents is_i (agent_of event) m.message step.agent step.step.after notes.marked m.moves
+            still_marked n i of_team.agents is_i (agent_of event) m.message step.agent step.step.after notes.marked m.moves
             (omega arith) (old.1 (omega arith)),
       )) events u w at goes (omega arith, λ equal. set)).1 same
 
@@ -147,13 +144,13 @@ module _ (value : AgentTask → Numbers → Numbers → Option ℕ) (limit publi
   reported_on i j is_i events u w at goes same set =
       (notes_on j (λ s. (number_at u j ≤ s.number) × (s.number ≡ number_at u j → has s.reported i ≡ true))
       (λ v event next at_v step here old.
-      let m = moved value publics tasks team v (is_known v at_v).team event next step in
-      let notes = its_notes value publics tasks team v (is_known v at_v).team (is_known v at_v).in_runs event next step in
+      let m = moved value publics tasks of_team v (is_known v at_v).team event next step in
+      let notes = its_notes value publics tasks of_team v (is_known v at_v).team (is_known v at_v).in_runs event next step in
       let more = number_rises (agent_of event) m.message step.agent step.step.after m.moves in
       let low = old.0 in (
         omega arith,
         λ equal.
-            still_reported n i team.agents is_i (agent_of event) m.message step.agent step.step.after notes.reported m.moves
+            still_reported n i of_team.agents is_i (agent_of event) m.message step.agent step.step.after notes.reported m.moves
             (omega arith) (old.1 (omega arith)),
       )) events u w at goes (omega arith, λ equal. set)).1 same
 
@@ -189,7 +186,7 @@ module _ (value : AgentTask → Numbers → Numbers → Option ℕ) (limit publi
         let p = took_from value n w v q.events q.quiet q.round i j is_i is_j off in
         let reached = goes_reached p.before w p.at at p.ran in
         let all_go = went_on p.after p.at v reached p.goes go in
-        let found = agent_there p.at j (is_agent value limit publics tasks agree limits most team p.at reached j is_j) in
+        let found = agent_there p.at j (is_agent team is_team publics of_team p.at reached j is_j) in
         let parts = quiet_parts p.before p.after (sym (ap are_quiet p.is) ∙ q.quiet) in
         record {
           at_world = p.at;
@@ -201,22 +198,22 @@ module _ (value : AgentTask → Numbers → Numbers → Option ℕ) (limit publi
           quiet_before = parts.0;
           quiet_after = parts.1;
           nothing = nothing_left p.at i j found.0 found.1 (all_go j found.0 found.1)
-              (another_at value limit publics tasks agree limits most team p.at reached i j found.0 found.1 is_i off) p.holds;
+              (another_at team is_team publics of_team p.at reached i j found.0 found.1 is_i off) p.holds;
         }
 
     pub none_of_part : {X : Type 0} (i j : ℕ) (is_i : IsOf n i) (is_j : IsOf n j) (off : i ≢ j) (part : _ → Option X)
         → filter_map part (messages publics (takes_all i j is_i is_j off).at_world i j) ≡ []
     none_of_part i j is_i is_j off part =
         let t = takes_all i j is_i is_j off in
-        ap (filter_map part) (no_messages value limit publics tasks agree limits most team t.at_world t.are_reached i j t.nothing)
+        ap (filter_map part) (no_messages team is_team publics of_team t.at_world t.are_reached i j t.nothing)
 
     -- no state is under way after it
     pub no_states_after : (i j : ℕ) → IsOf n i → IsOf n j → i ≢ j → HasNoStates n publics v i j
     no_states_after i j is_i is_j off =
         let t = takes_all i j is_i is_j off in
-        (onward value limit publics tasks agree limits most team is_quiet (λ x. HasNoStates n publics x i j)
+        (onward team is_team publics of_team is_quiet (λ x. HasNoStates n publics x i j)
         (λ x event next at_x at_next step pass old.
-        none_next value publics tasks team x (is_known x at_x).team event next step pass i j is_i is_j old)
+        none_next value publics tasks of_team x (is_known x at_x).team event next step pass i j is_i is_j old)
         t.after t.at_world v t.are_reached
         (subst (λ (ms : List (List ℕ)). All (IsNoState n publics) ms) (sym t.nothing) (All-nil (IsNoState n publics)))
         t.quiet_after t.goes_on).1
@@ -226,9 +223,9 @@ module _ (value : AgentTask → Numbers → Numbers → Option ℕ) (limit publi
 
     no_states_on : (events : List Event) (x y : World) → Reached x → Goes x events y → are_quiet events ≡ true → NoStates x → NoStates y
     no_states_on events x y at_x goes_x quiet none =
-        (onward value limit publics tasks agree limits most team is_quiet NoStates
+        (onward team is_team publics of_team is_quiet NoStates
         (λ u event next at_u at_next step pass old i j is_i is_j off.
-        none_next value publics tasks team u (is_known u at_u).team event next step pass i j is_i is_j (old i j is_i is_j off))
+        none_next value publics tasks of_team u (is_known u at_u).team event next step pass i j is_i is_j (old i j is_i is_j off))
         events x y at_x none quiet goes_x).1
 
     abbrev Idle : ℕ → World → Type 0
@@ -238,15 +235,15 @@ module _ (value : AgentTask → Numbers → Numbers → Option ℕ) (limit publi
     pub silent_after : NoStates w → IsSilent n publics v
     silent_after none = record {
       no_states = no_states_on q.events w v at goes q.quiet none;
-      idle = λ i r there. idle_at i r there (of_there value limit publics tasks agree limits most team v quiet_reached i r there);
+      idle = λ i r there. idle_at i r there (of_there team is_team publics of_team v quiet_reached i r there);
     }
       where
         keeps_idle : (i : ℕ) (x : World) (event : Event) (next : World) → Reached x → Reached next → (step : IsStepOf value x event next)
             → is_quiet event ≡ true → Idle i x → Idle i next
         keeps_idle i x event next at_x at_next step pass old =
             let is = (is_known x at_x).team in
-            let kept = keeps_search value publics tasks team x is event next step pass old.0 in (
-              λ a b is_a is_b off. none_next value publics tasks team x is event next step pass a b is_a is_b (old.0 a b is_a is_b off),
+            let kept = keeps_search value publics tasks of_team x is event next step pass old.0 in (
+              λ a b is_a is_b off. none_next value publics tasks of_team x is event next step pass a b is_a is_b (old.0 a b is_a is_b off),
               λ r there.
                   each_agent value x event next step (λ k r. k ≡ i → may_expand r.limit r.search ≡ false)
                   (λ same. (λ h. may_expand (kept.1 h) (kept.0 h)) ∙ old.1 step.agent (sym (ap (agent_at x) same) ∙ step.there))
@@ -260,6 +257,6 @@ module _ (value : AgentTask → Numbers → Numbers → Option ℕ) (limit publi
             let all_go = went_on p.after p.at v reached p.goes go in
             let parts = quiet_parts p.before p.after (sym (ap are_quiet p.is) ∙ q.quiet) in
             let there_none = no_states_on p.before w p.at at p.ran parts.0 none in
-            (onward value limit publics tasks agree limits most team is_quiet (Idle i)
+            (onward team is_team publics of_team is_quiet (Idle i)
             (keeps_idle i) p.after p.at v reached
             (there_none, λ x at_x. nothing_to_expand p.at i x at_x (all_go i x at_x) p.holds) parts.1 p.goes).1.1 r there

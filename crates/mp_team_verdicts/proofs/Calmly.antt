@@ -1,12 +1,9 @@
 -- Events after which the end of the search has come as far as before.
-use Rattle.std.proofs.Common.{◌≡◌, ℕ, Bool, true, false, List, [], ◌++◌, length, Option, Some, All, refl, sym, ap, subst, ◌∙◌, append-nil, ◌⊎◌, inl, inr}
+use Rattle.std.proofs.Common.{◌≡◌, ℕ, Bool, true, false, List, [], ◌++◌, length, Some, All, refl, sym, ap, subst, ◌∙◌, append-nil, ◌⊎◌, inl, inr}
 use Rattle.std.specs.Prelude.{◌==◌, filter, if◌then◌else◌}
 use Rattle.std.proofs.lemmas.List.Elements.{All-weaker}
 use Rattle.std.proofs.lemmas.Option.{same_Some}
-use Rattle.mp_sets.specs.Numbers.{Numbers}
-use Rattle.mp_task.specs.Agree.{Agree}
 use Rattle.mp_task.specs.AgentTask.{AgentTask}
-use Rattle.mp_task.specs.Limits.{IsWithinLimits}
 use Rattle.mp_task.specs.Plan.{TaskStep}
 use Rattle.mp_messages.specs.declared.history.Event.{Event}
 use Rattle.mp_messages.specs.declared.message.Message.{Message}
@@ -17,6 +14,8 @@ use Rattle.mp_machine.specs.Taking.{ending_of}
 use Rattle.mp_machine.specs.Verdicts.{is_deciding}
 use Rattle.mp_world.specs.Events.{agent_of}
 use Rattle.mp_world.specs.Steps.{IsStepOf}
+use Rattle.mp_world.specs.Team.{AreTeamTasks}
+use Rattle.mp_world.specs.Values.{Values}
 use Rattle.mp_world.specs.World.{World, agent_at}
 use Rattle.mp_team_snapshots.specs.Team.{HasRoom, IsTeamOf}
 use Rattle.mp_team_snapshots.proofs.Changes.{left}
@@ -68,7 +67,7 @@ pub record IsSameVerdict (first later : AgentRecord) : Type 0 where
   pub verdict : given_verdict later ≡ given_verdict first
   pub number : later.snapshot.number ≡ first.snapshot.number
 
-module _ (value : AgentTask → Numbers → Numbers → Option ℕ) (publics : ℕ) (tasks : List AgentTask) (agree : Agree tasks) (limits : All IsWithinLimits tasks)
+module _ (value : Values) (publics : ℕ) (tasks : List AgentTask) (are : AreTeamTasks tasks)
     (team : IsTeamOf publics tasks) (w next : World) (known : IsKnownWorld publics tasks w) (known_next : IsKnownWorld publics tasks next) (event : Event)
     (step : IsStepOf value w event next) (room : All (λ x. HasRoom x.message) step.step.out) where
   -- agent 1 after the event, where the event's agent keeps its verdict
@@ -119,7 +118,7 @@ module _ (value : AgentTask → Numbers → Numbers → Option ℕ) (publics : �
 
       pub calm_comes : ComesTo publics tasks step.step.out next
       calm_comes =
-          let fits = team_fits value publics tasks agree limits team w next known known_next event step room
+          let fits = team_fits value publics tasks are team w next known known_next event step room
           (All-weaker IsNoEnd (λ (y : Outgoing). HasEndRoom y.message) (λ y other. no_end_has_room y.message other) step.step.out calm.out) in
           record {
             stage = stage;

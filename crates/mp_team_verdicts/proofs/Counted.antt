@@ -1,13 +1,11 @@
 -- What shows in a world that a cost may be is counted in its verdict.
-use Rattle.std.proofs.Common.{◌≡◌, ◌≢◌, ℕ, zero, suc, ◌+◌, ◌-◌, ◌≤◌, ◌⊎◌, true, List, length, get_or, map, Some, All, sym, ap, subst, ◌∙◌, arith, inl, inr}
+use Rattle.std.proofs.Common.{◌≡◌, ◌≢◌, ℕ, zero, suc, ◌+◌, ◌-◌, ◌≤◌, ◌⊎◌, true, List, length, get_or, map, Some, sym, ap, subst, ◌∙◌, arith, inl, inr}
 use Rattle.std.specs.Prelude.{Contains, not, ◌==◌}
 use Rattle.std.specs.List.{range_with_len}
 use Rattle.std.proofs.lemmas.Bool.{ne_eqb}
 use Rattle.std.proofs.lemmas.List.FromFn.{get_or-range_with_len, length-range_with_len}
 use Rattle.std.proofs.lemmas.Option.{none-some}
-use Rattle.mp_task.specs.Agree.{Agree}
 use Rattle.mp_task.specs.AgentTask.{AgentTask}
-use Rattle.mp_task.specs.Limits.{IsWithinLimits}
 use Rattle.mp_task.specs.Plan.{goals_hold}
 use Rattle.mp_task.proofs.Agreeing.{Contains-slice_get}
 use Rattle.mp_messages.specs.Reading.{message_of}
@@ -28,6 +26,7 @@ use Rattle.mp_reach.specs.Explored.{HasWitness}
 use Rattle.mp_reach.specs.Explored.HasWitness.{open_entry, under_way, goal_entry}
 use Rattle.mp_reach.specs.Found.{Entry as Seen, Message as Sent}
 use Rattle.mp_reach.specs.LeadsOn.{IsGoal, Known}
+use Rattle.mp_world.specs.Team.{AreTeamTasks}
 use Rattle.mp_world.specs.World.{IsAgent, IsTeamWorld, World, agent_at}
 use Rattle.mp_world.specs.World as worlds
 use Rattle.mp_world.proofs.Agents.{agree_numbered, member_of}
@@ -60,7 +59,7 @@ is_among_others me agents agent low high off =
     let number : get_or (range_with_len 1 agents) (agent - 1) agent ≡ agent = get_or-range_with_len 1 agents (agent - 1) agent (omega arith) ∙ back in
     member_kept (λ agent. not (agent == me)) (range_with_len 1 agents) agent (agent - 1, omega arith, number) (ap not (ne_eqb agent me off))
 
-module _ (tasks : List AgentTask) (agree : Agree tasks) (limits : All IsWithinLimits tasks) (w : World) (team : IsTeamWorld tasks w) (sound : AreStatesSound tasks w)
+module _ (tasks : List AgentTask) (are : AreTeamTasks tasks) (w : World) (team : IsTeamWorld tasks w) (sound : AreStatesSound tasks w)
     (none : HaveNoneToThemselves tasks w) where
   abbrev found : List Findings
   found = map (findings_in w) w.agents
@@ -82,10 +81,10 @@ module _ (tasks : List AgentTask) (agree : Agree tasks) (limits : All IsWithinLi
       least_at_most (λ (x : Findings). x.goal) e.g found (findings_in w r) (among agent r h.there) (bound_at_most r.search.kept number e h.at goal)
 
   me_is : (agent : ℕ) (r : AgentRecord) → agent_at w agent ≡ Some r → r.task.me ≡ agent
-  me_is agent r there = (member_of tasks (agree_numbered tasks agree) w team agent r there).me
+  me_is agent r there = (member_of tasks (agree_numbered tasks are.agree) w team agent r there).me
 
   size_is : (agent : ℕ) (r : AgentRecord) → agent_at w agent ≡ Some r → length w.agents ≡ r.task.agents
-  size_is agent r there = team_size tasks w team ∙ sym (member_of tasks (agree_numbered tasks agree) w team agent r there).agents
+  size_is agent r there = team_size tasks w team ∙ sym (member_of tasks (agree_numbered tasks are.agree) w team agent r there).agents
 
   -- a state that is read comes from another agent
   from_another : (from to : ℕ) (r : AgentRecord) (m : State) → agent_at w to ≡ Some r
@@ -95,7 +94,7 @@ module _ (tasks : List AgentTask) (agree : Agree tasks) (limits : All IsWithinLi
       let reads : message_of r.task.agents r.task.publics bytes.0 ≡ Some (kinds.State m) =
       ap (λ (n : ℕ). message_of n r.task.publics bytes.0) (sym (size_is to r there)) ∙ bytes.2 in
       let own : Contains (worlds.under_way w to to) bytes.0 = subst (λ (i : ℕ). Contains (worlds.under_way w i to) bytes.0) same bytes.1 in
-      let read = what_is_read tasks agree limits w team sound to to r.task r (task_at tasks agree limits w team to r there) there bytes.0 m own reads in
+      let read = what_is_read tasks are w team sound to to r.task r (task_at tasks are w team to r there) there bytes.0 m own reads in
       let is = agent_of_team w to r there in
       let size = team_size tasks w team in
       let low = is.from_1 in
@@ -126,7 +125,7 @@ module _ (tasks : List AgentTask) (agree : Agree tasks) (limits : All IsWithinLi
         inl (at_most_more (f x.entry) cost (least_f found) (omega arith)
         (open_counted i.0 i.1 x.entry (entry_in w i.0 i.1 x.agent_is x.entry x.there x.at) (ap (λ (y : Seen Known). y.mark) (sym x.is) ∙ is)))
     witness_counted cost (under_way m here within) =
-        let x = found_message tasks (agree_numbered tasks agree) w team m here in
+        let x = found_message tasks (agree_numbered tasks are.agree) w team m here in
         let g = ap (λ (y : Sent Known). y.cost) x.is in
         let h = ap (λ (y : Sent Known). y.estimate) x.is in
         let reads : message_of (length w.agents) x.receiver.task.publics x.bytes ≡ Some (kinds.State x.state) =

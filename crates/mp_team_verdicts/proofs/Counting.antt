@@ -1,13 +1,9 @@
 -- Each expansion counts as one, so that all but few rounds are without one.
-use Rattle.std.proofs.Common.{◌≡◌, ℕ, ◌+◌, ◌≤◌, true, false, ◌&&◌, List, [], ◌∷◌, Option, All, sym, ap, ◌∙◌, arith, ◌⊎◌, inl, inr}
+use Rattle.std.proofs.Common.{◌≡◌, ℕ, ◌+◌, ◌≤◌, true, false, ◌&&◌, List, [], ◌∷◌, sym, ap, ◌∙◌, arith, ◌⊎◌, inl, inr}
 use Rattle.std.specs.Prelude.{slice_get}
 use Rattle.std.proofs.lemmas.Bool.{false≢true}
 use Rattle.std.proofs.lemmas.Option.{same_Some}
 use Rattle.mp_runs.proofs.Runs.{run_parts}
-use Rattle.mp_sets.specs.Numbers.{Numbers}
-use Rattle.mp_task.specs.Agree.{Agree}
-use Rattle.mp_task.specs.AgentTask.{AgentTask}
-use Rattle.mp_task.specs.Limits.{IsWithinLimits}
 use Rattle.mp_messages.specs.declared.history.Event.{Event}
 use Rattle.mp_messages.specs.declared.history.Event.TheVariants.{Expand, Take, Start}
 use Rattle.mp_store.specs.declared.entry.Entry.{Entry}
@@ -20,6 +16,7 @@ use Rattle.mp_machine.specs.LocalStep.{with_search}
 use Rattle.mp_machine.specs.Outgoing.{Step}
 use Rattle.mp_world.specs.Events.{after_event}
 use Rattle.mp_world.specs.Steps.{IsStepOf}
+use Rattle.mp_world.specs.Team.{IsTeam, Team}
 use Rattle.mp_world.specs.World.{World}
 use Rattle.mp_team_snapshots.specs.Team.{IsTeamOf}
 use Rattle.mp_team_snapshots.proofs.Effects.{same_step}
@@ -39,17 +36,17 @@ use Rattle.mp_team_verdicts.proofs.Reached.{all_pass, known, onward, reached_nex
 count : AgentRecord → ℕ
 count r = r.search.expansions
 
-module _ (value : AgentTask → Numbers → Numbers → Option ℕ) (limit publics : ℕ) (tasks : List AgentTask)
-    (agree : Agree tasks) (limits : All IsWithinLimits tasks) (most : limit ≤ 10000000)
-    (team : IsTeamOf publics tasks) where
+module _ (team : Team) (is_team : IsTeam team) (publics : ℕ) (of_team : IsTeamOf publics team.tasks) where
+  open team use {tasks, value}
+
   abbrev At : World → Type 0
-  At = Reached value limit publics tasks agree limits most team
+  At = Reached team is_team publics of_team
 
   abbrev Leads : World → List Event → World → Type 0
-  Leads = Goes value limit publics tasks agree limits most team
+  Leads = Goes team is_team publics of_team
 
   is_known : (w : World) → At w → IsKnownWorld publics tasks w
-  is_known = known value limit publics tasks agree limits most team
+  is_known = known team is_team publics of_team
 
   -- an agent that expands has expanded one entry more
   one_more : (w next : World) (agent : ℕ) → At w → (step : IsStepOf value w (Expand agent) next)
@@ -64,7 +61,7 @@ module _ (value : AgentTask → Numbers → Numbers → Option ℕ) (limit publi
       one : ExpandsOne w agent next
       one =
           let is = is_known w at in
-          expands_one tasks agree limits w is.team is.so_far.sound value next agent step
+          expands_one tasks is_team.tasks w is.team is.so_far.sound value next agent step
 
       by : ((expanded step.agent.task (value step.agent.task) step.agent.search).1 ≡ step.agent.search)
           ⊎ ((expanded step.agent.task (value step.agent.task) step.agent.search).1.expansions ≡ step.agent.search.expansions + 1)
@@ -94,7 +91,7 @@ module _ (value : AgentTask → Numbers → Numbers → Option ℕ) (limit publi
   -- the expansions do not get fewer
   pub counts_rise : (events : List Event) (u w : World) → At u → Leads u events w → expanded_by_all u ≤ expanded_by_all w
   counts_rise events u w at goes =
-      (onward value limit publics tasks agree limits most team (λ event. true) (λ v. expanded_by_all u ≤ expanded_by_all v)
+      (onward team is_team publics of_team (λ event. true) (λ v. expanded_by_all u ≤ expanded_by_all v)
       (λ v event next at_v at_next step pass old.
       let more = counts_grow value v next event step in omega arith)
       events u w at (omega arith) (all_pass events) goes).1
@@ -106,8 +103,8 @@ module _ (value : AgentTask → Numbers → Numbers → Option ℕ) (limit publi
   one_counts (e ∷ es) u w at goes loud =
       let parts = run_parts (after_event value) u w e es goes in
       let v = parts.0 in
-      let at_v = reached_next value limit publics tasks agree limits most team u v e at parts.1 in
-      let step = step_of value limit publics tasks agree limits most team u v e at parts.1 in
+      let at_v = reached_next team is_team publics of_team u v e at parts.1 in
+      let step = step_of team is_team publics of_team u v e at parts.1 in
       by e step loud (counts_rise es v w at_v parts.2) (one_counts es v w at_v parts.2)
     where
       by : {v : World} (e : Event) → IsStepOf value u e v → (is_quiet e && are_quiet es) ≡ false → expanded_by_all v ≤ expanded_by_all w
@@ -123,4 +120,4 @@ module _ (value : AgentTask → Numbers → Numbers → Option ℕ) (limit publi
           omega arith
 
   pub few_counts : (w : World) → At w → expanded_by_all w ≤ 160000000
-  few_counts w at = let is = is_known w at in few_expansions tasks agree limits w is.team is.so_far.sound
+  few_counts w at = let is = is_known w at in few_expansions tasks is_team.tasks w is.team is.so_far.sound

@@ -1,13 +1,11 @@
 -- How many entries an agent has expanded after some events, and that fewer of these come before a cut.
-use Rattle.std.proofs.Common.{◌≡◌, ◌≢◌, ℕ, ◌+◌, ◌≤◌, ◌⊎◌, Bool, true, false, List, [], ◌∷◌, ◌++◌, Option, Some, None, All, refl, sym, ap, ◌∙◌, arith, inl, inr}
+use Rattle.std.proofs.Common.{◌≡◌, ◌≢◌, ℕ, ◌+◌, ◌≤◌, ◌⊎◌, Bool, true, false, List, [], ◌∷◌, ◌++◌, Option, Some, None, refl, sym, ap, ◌∙◌, arith, inl, inr}
 use Rattle.std.specs.Prelude.{Ok, ◌==◌, if◌then◌else◌, slice_get}
 use Rattle.std.specs.Option.{option_map_or}
 use Rattle.std.proofs.lemmas.Bool.{and_parts, cases_eq, eq-eqb, ne_eqb}
 use Rattle.std.proofs.lemmas.Option.{same_Some}
 use Rattle.mp_sets.specs.Numbers.{Numbers}
-use Rattle.mp_task.specs.Agree.{Agree}
 use Rattle.mp_task.specs.AgentTask.{AgentTask}
-use Rattle.mp_task.specs.Limits.{IsWithinLimits}
 use Rattle.mp_messages.specs.declared.history.Event.{Event}
 use Rattle.mp_messages.specs.declared.history.Event.TheVariants.{Expand, Take, Start}
 use Rattle.mp_store.specs.declared.entry.Entry.{Entry}
@@ -23,6 +21,8 @@ use Rattle.mp_machine.specs.Outgoing.{Step}
 use Rattle.mp_machine.specs.Taking.{with_state}
 use Rattle.mp_world.specs.Events.{after_event, agent_of, run, taken}
 use Rattle.mp_world.specs.Steps.{IsStepOf}
+use Rattle.mp_world.specs.Team.{IsTeam, Team}
+use Rattle.mp_world.specs.Values.{Values}
 use Rattle.mp_world.specs.World.{World, agent_at}
 use Rattle.mp_world.proofs.Runs.{run_has_history}
 use Rattle.mp_team_snapshots.specs.Cut.{cut_from, is_before_cut, kept_event}
@@ -48,7 +48,7 @@ count_append agent (e ∷ es) fs = let more = count_append agent es fs in omega 
 pub count_more : (agent : ℕ) (es : List Event) (e : Event) → count_by agent (es ++ e ∷ []) ≡ count_by agent es + is_by agent e
 count_more agent es e = let more = count_append agent es (e ∷ []) in omega arith
 
-module _ (value : AgentTask → Numbers → Numbers → Option ℕ) (k agent : ℕ) where
+module _ (value : Values) (k agent : ℕ) where
   -- no more come before a cut
   pub count_cut : (w : World) (es : List Event) → count_by agent (cut_from value k w es) ≤ count_by agent es
   unfolding cut_from
@@ -106,7 +106,7 @@ expand_done value r may = record { limit = refl; count = ap (λ (d : List Sendin
     one : (expanded_entry r.task value found.number found.entry r.search).1.expansions ≡ r.search.expansions + 1
     one = entry_counts r.task value found.number found.entry r.search
 
-module _ (value : AgentTask → Numbers → Numbers → Option ℕ) (w next : World) where
+module _ (value : Values) (w next : World) where
   step_done : (event : Event) (is : IsStepOf value w event next) → HasDone (is_by (agent_of event) event) is.agent is.step
   step_done (Expand agent) is =
       let r = is.agent in
@@ -135,7 +135,9 @@ pub record IsCounted (limit : ℕ) (past : List Event) (agent : ℕ) (r : AgentR
 abbrev pub AreCounted : ℕ → List Event → World → Type 0
 AreCounted limit past w = (agent : ℕ) (r : AgentRecord) → agent_at w agent ≡ Some r → IsCounted limit past agent r
 
-module _ (value : AgentTask → Numbers → Numbers → Option ℕ) (limit : ℕ) (tasks : List AgentTask) (agree : Agree tasks) (limits : All IsWithinLimits tasks) (most : limit ≤ 10000000) where
+module _ (team : Team) (is_team : IsTeam team) where
+  open team use {value, limit}
+
   count_next : (past : List Event) (w : World) (event : Event) (next : World) → AreCounted limit past w → IsStepOf value w event next → AreCounted limit (past ++ event ∷ []) next
   count_next past w event next old is agent r there = by (cases_eq agent (agent_of event))
     where
@@ -160,10 +162,10 @@ module _ (value : AgentTask → Numbers → Numbers → Option ℕ) (limit : ℕ
           let m = more in
           record { limit_is = was.limit_is; count = omega arith }
 
-  pub counted_in_runs : (schedule : List Event) (w : World) → run value limit tasks schedule ≡ Some w → AreCounted limit schedule w
+  pub counted_in_runs : (schedule : List Event) (w : World) → run team schedule ≡ Some w → AreCounted limit schedule w
   counted_in_runs =
-      run_has_history value limit tasks (AreCounted limit)
+      run_has_history team (AreCounted limit)
       (λ agent r there.
-      let of = task_is value limit tasks agree limits most agent r there in
+      let of = task_is team is_team agent r there in
       record { limit_is = ap (λ (x : AgentRecord). x.limit) of.2; count = ap (λ (x : AgentRecord). x.search.expansions) of.2 })
-      (λ past w event next team old is. count_next past w event next old is)
+      (λ past w event next of_team old is. count_next past w event next old is)

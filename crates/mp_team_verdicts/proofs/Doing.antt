@@ -1,16 +1,13 @@
 -- A round of a team that is not over does something.
-use Rattle.std.proofs.Common.{◌≡◌, ℕ, ◌≤◌, false, List, [], ◌∷◌, ◌++◌, length, Option, All, refl, sym, ap, ◌∙◌, inl, inr}
+use Rattle.std.proofs.Common.{◌≡◌, ℕ, false, List, [], ◌∷◌, ◌++◌, length, refl, sym, ap, ◌∙◌, inl, inr}
 use Rattle.std.proofs.lemmas.Option.{same_Some}
 use Rattle.mp_runs.specs.Run.{run as run_of}
 use Rattle.mp_runs.proofs.Runs.{run-none}
-use Rattle.mp_sets.specs.Numbers.{Numbers}
-use Rattle.mp_task.specs.Agree.{Agree}
-use Rattle.mp_task.specs.AgentTask.{AgentTask}
-use Rattle.mp_task.specs.Limits.{IsWithinLimits}
 use Rattle.mp_messages.specs.declared.history.Event.{Event}
 use Rattle.mp_messages.specs.declared.history.Event.TheVariants.{Expand, Take, Start}
 use Rattle.mp_world.specs.Events.{after_event, is_legal}
 use Rattle.mp_world.specs.RoundRobin.{Round, is_over}
+use Rattle.mp_world.specs.Team.{IsTeam, Team}
 use Rattle.mp_world.specs.World.{World}
 use Rattle.mp_team_snapshots.specs.Team.{IsTeamOf}
 use Rattle.mp_team_verdicts.proofs.Points.{GoesThrough, MayNot, TriesToStart, could_not_expand, first_starts, took_from}
@@ -29,10 +26,10 @@ none_second (e ∷ before) after is = absurd (let impossible : ⊥ = cc in impos
 no_start : (later : List Event) → [] ≡ Start ∷ later → ⊥
 no_start later is = let impossible : ⊥ = cc in impossible
 
-module _ (value : AgentTask → Numbers → Numbers → Option ℕ) (limit publics : ℕ) (tasks : List AgentTask)
-    (agree : Agree tasks) (limits : All IsWithinLimits tasks) (most : limit ≤ 10000000)
-    (team : IsTeamOf publics tasks) (w next : World) (at : IsReached value limit tasks w)
-    (round : Round value (length tasks) w [] next) where
+module _ (team : Team) (is_team : IsTeam team) (publics : ℕ) (of_team : IsTeamOf publics team.tasks) (w next : World)
+    (at : IsReached team w) (round : Round team.value (length team.tasks) w [] next) where
+  open team use {tasks, value}
+
   -- a round that does nothing goes through no other world
   here : (Holds : World → List Event → Type 0) (p : GoesThrough value Holds w [] next) → p.at ≡ w
   here Holds p =
@@ -44,8 +41,8 @@ module _ (value : AgentTask → Numbers → Numbers → Option ℕ) (limit publi
 
   pub does_something : is_over w ≡ false → HasNumberLeft w → ⊥
   does_something on room =
-      let is_1 = is_first value limit publics tasks agree limits most team w at in
-      not_stuck value limit publics tasks agree limits most team w at on room
+      let is_1 = is_first team is_team publics of_team w at in
+      not_stuck team is_team publics of_team w at on room
       (record {
         take = λ by from is_by is_from off. cannot (Take by from) (took_from value (length tasks) w next [] refl round from by is_from is_by off);
         expand = λ agent is_agent. cannot (Expand agent) (could_not_expand value (length tasks) w next [] refl round agent is_agent);

@@ -1,16 +1,15 @@
 -- What holds of each agent after an event: it holds of the event's agent, and all others are as they were.
-use Rattle.std.proofs.Common.{◌≡◌, ◌≢◌, ℕ, ◌⊎◌, Option, Some, sym, ap, subst, ◌∙◌, inl, inr}
+use Rattle.std.proofs.Common.{◌≡◌, ◌≢◌, ℕ, ◌⊎◌, Some, sym, ap, subst, ◌∙◌, inl, inr}
 use Rattle.std.proofs.lemmas.Bool.{cases_eq}
 use Rattle.std.proofs.lemmas.Option.{same_Some}
-use Rattle.mp_sets.specs.Numbers.{Numbers}
-use Rattle.mp_task.specs.AgentTask.{AgentTask}
 use Rattle.mp_messages.specs.declared.history.Event.{Event}
 use Rattle.mp_machine.specs.AgentRecord.{AgentRecord}
 use Rattle.mp_world.specs.Events.{agent_of}
 use Rattle.mp_world.specs.Steps.{IsStepOf}
+use Rattle.mp_world.specs.Values.{Values}
 use Rattle.mp_world.specs.World.{World, agent_at}
 
-pub each_agent : (value : AgentTask → Numbers → Numbers → Option ℕ) (w : World) (event : Event) (next : World) (step : IsStepOf value w event next)
+pub each_agent : (value : Values) (w : World) (event : Event) (next : World) (step : IsStepOf value w event next)
     (P : ℕ → AgentRecord → Type 0) → P (agent_of event) step.step.after
     → ((i : ℕ) (r : AgentRecord) → agent_at w i ≡ Some r → i ≢ agent_of event → P i r)
     → (i : ℕ) (r : AgentRecord) → agent_at next i ≡ Some r → P i r

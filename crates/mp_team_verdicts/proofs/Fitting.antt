@@ -1,12 +1,9 @@
 -- All messages that go out are such as messages have room for, so that each is read as itself where it arrives.
-use Rattle.std.proofs.Common.{◌≡◌, ℕ, ◌<◌, ◌^◌, Bool, true, false, List, [], ◌∷◌, ◌++◌, length, map, drop, get_or, Option, Some, All, refl, sym, ap, subst, ◌∙◌, ◌⊎◌, inl, inr}
+use Rattle.std.proofs.Common.{◌≡◌, ℕ, ◌<◌, ◌^◌, Bool, true, false, List, [], ◌∷◌, ◌++◌, length, map, drop, get_or, Some, All, refl, sym, ap, subst, ◌∙◌, ◌⊎◌, inl, inr}
 use Rattle.std.specs.Prelude.{◌==◌, filter, if◌then◌else◌}
 use Rattle.std.specs.List.{filter_map}
 use Rattle.std.proofs.lemmas.List.Elements.{All-append, All-filter, All-head, All-map, All-nil, All-tail, All-weaker, filter-append, filter_map-append}
-use Rattle.mp_sets.specs.Numbers.{Numbers}
-use Rattle.mp_task.specs.Agree.{Agree}
 use Rattle.mp_task.specs.AgentTask.{AgentTask}
-use Rattle.mp_task.specs.Limits.{IsWithinLimits}
 use Rattle.mp_messages.specs.declared.history.Event.{Event}
 use Rattle.mp_messages.specs.declared.history.Event.TheVariants.{Expand, Take, Start}
 use Rattle.mp_messages.specs.declared.message.Message.{Message}
@@ -20,6 +17,8 @@ use Rattle.mp_machine.specs.declared.outgoing.Out.{Out}
 use Rattle.mp_machine.specs.Outgoing.{Outgoing, in_bytes}
 use Rattle.mp_world.specs.Events.{agent_of, sent_in, without_taken}
 use Rattle.mp_world.specs.Steps.{IsStepOf, sent_to}
+use Rattle.mp_world.specs.Team.{AreTeamTasks}
+use Rattle.mp_world.specs.Values.{Values}
 use Rattle.mp_world.specs.World.{IsAgent, IsTeamWorld, World, under_way}
 use Rattle.mp_world.proofs.Mail.{under_way-other, under_way-same}
 use Rattle.mp_world.proofs.Stepping.{team_lists}
@@ -71,12 +70,12 @@ fits_by t kept x goes room end = by x.message goes room end
 abbrev pub AllFit : ℕ → ℕ → List Outgoing → Type 0
 AllFit agents publics out = All (λ x. Fits agents publics x.message) out
 
-module _ (tasks : List AgentTask) (agree : Agree tasks) (limits : All IsWithinLimits tasks) (w : World) (team : IsTeamWorld tasks w) (sound : AreStatesSound tasks w)
-    (value : AgentTask → Numbers → Numbers → Option ℕ) (next : World) where
+module _ (tasks : List AgentTask) (are : AreTeamTasks tasks) (w : World) (team : IsTeamWorld tasks w) (sound : AreStatesSound tasks w)
+    (value : Values) (next : World) where
   pub step_fits : (event : Event) (is : IsStepOf value w event next) → All (λ x. HasRoom x.message) is.step.out → All (λ x. HasEndRoom x.message) is.step.out
       → AllFit is.agent.task.agents is.agent.task.publics is.step.out
   step_fits event is room end k d inside =
-      fits_by is.agent.task is.step.after.search.kept (get_or is.step.out k d) ((step_sound tasks agree limits w team sound value next event is).out k d inside) (room k d inside) (end k d inside)
+      fits_by is.agent.task is.step.after.search.kept (get_or is.step.out k d) ((step_sound tasks are w team sound value next event is).out k d inside) (room k d inside) (end k d inside)
 
 -- bytes are those of a message that fits
 pub record IsRead (agents publics : ℕ) (bytes : List ℕ) : Type 0 where
@@ -116,7 +115,7 @@ drop_all : {X : Type 0} (P : X → Type 0) (xs : List X) → All P xs → All P 
 drop_all P [] all = all
 drop_all P (x ∷ xs) all = All-tail P x xs all
 
-module _ (value : AgentTask → Numbers → Numbers → Option ℕ) (publics : ℕ) (tasks : List AgentTask) (team : IsTeamOf publics tasks) (w : World)
+module _ (value : Values) (publics : ℕ) (tasks : List AgentTask) (team : IsTeamOf publics tasks) (w : World)
     (is : IsTeamWorld tasks w) (P : List ℕ → Type 0) where
   in_team : (i : ℕ) → IsOf (length tasks) i → IsAgent w i
   in_team = is_agent_of publics tasks team w (team_numbers publics tasks team w is)
@@ -161,7 +160,7 @@ module _ (value : AgentTask → Numbers → Numbers → Option ℕ) (publics : �
       by true = sent
       by false = All-nil P
 
-module _ (value : AgentTask → Numbers → Numbers → Option ℕ) (publics : ℕ) (tasks : List AgentTask) (team : IsTeamOf publics tasks) (w : World)
+module _ (value : Values) (publics : ℕ) (tasks : List AgentTask) (team : IsTeamOf publics tasks) (w : World)
     (is : IsTeamWorld tasks w) (event : Event) (next : World) (step : IsStepOf value w event next) (fits : AllFit (length tasks) publics step.step.out) where
   agent_of_number : (i : ℕ) → IsOf (length tasks) i → IsAgent w i
   agent_of_number = is_agent_of publics tasks team w (team_numbers publics tasks team w is)

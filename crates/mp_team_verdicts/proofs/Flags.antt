@@ -1,11 +1,9 @@
 -- An entry is marked as a goal exactly where its state is one.
-use Rattle.std.proofs.Common.{◌≡◌, ℕ, ◌≤◌, ◌⊎◌, List, [], Option, Some, All, sym, ap, subst, ◌∙◌, inl, inr}
+use Rattle.std.proofs.Common.{◌≡◌, ℕ, ◌⊎◌, List, [], Option, Some, sym, ap, subst, ◌∙◌, inl, inr}
 use Rattle.std.specs.Prelude.{Ok, slice_get}
 use Rattle.std.proofs.lemmas.Option.{none-some}
 use Rattle.mp_sets.specs.Numbers.{Numbers}
-use Rattle.mp_task.specs.Agree.{Agree}
 use Rattle.mp_task.specs.AgentTask.{AgentTask}
-use Rattle.mp_task.specs.Limits.{IsWithinLimits}
 use Rattle.mp_messages.specs.declared.history.Event.{Event}
 use Rattle.mp_messages.specs.declared.message.State.{State}
 use Rattle.mp_store.specs.declared.entry.Entry.{Entry}
@@ -23,6 +21,7 @@ use Rattle.mp_machine.specs.Outgoing.{Step}
 use Rattle.mp_machine.specs.Taking.{with_state}
 use Rattle.mp_world.specs.Events.{agent_of, local_of, run, taken}
 use Rattle.mp_world.specs.Steps.{IsStepOf}
+use Rattle.mp_world.specs.Team.{IsTeam, Team}
 use Rattle.mp_world.specs.World.{World, agent_at, start_world}
 use Rattle.mp_world.proofs.Runs.{run_has}
 use Rattle.mp_team_states.specs.Growing.{IsAlike}
@@ -91,11 +90,12 @@ local_flags value r old event bytes =
 abbrev pub HaveFlags : World → Type 0
 HaveFlags w = (i : ℕ) (r : AgentRecord) → agent_at w i ≡ Some r → HasFlags r
 
-module _ (value : AgentTask → Numbers → Numbers → Option ℕ) (limit : ℕ) (tasks : List AgentTask) (agree : Agree tasks) (limits : All IsWithinLimits tasks)
-    (most : limit ≤ 10000000) where
-  start_flags : HaveFlags (start_world value limit tasks)
+module _ (team : Team) (is_team : IsTeam team) where
+  open team use {value}
+
+  start_flags : HaveFlags (start_world team)
   start_flags i r there =
-      let of = task_is value limit tasks agree limits most i r there in
+      let of = task_is team is_team i r there in
       subst HasFlags (sym of.2) (start_flagged of.0 (value of.0))
 
   event_flags : (w : World) (event : Event) (next : World) → HaveFlags w → IsStepOf value w event next → HaveFlags next
@@ -104,5 +104,5 @@ module _ (value : AgentTask → Numbers → Numbers → Option ℕ) (limit : ℕ
       (local_flags (value is.agent.task) is.agent (old (agent_of event) is.agent is.there) (local_of event) (taken w event) is.step is.local)
       (λ i r there other. old i r there)
 
-  pub flags_in_runs : (schedule : List Event) (w : World) → run value limit tasks schedule ≡ Some w → HaveFlags w
-  flags_in_runs = run_has value limit tasks HaveFlags start_flags (λ w event next team old is. event_flags w event next old is)
+  pub flags_in_runs : (schedule : List Event) (w : World) → run team schedule ≡ Some w → HaveFlags w
+  flags_in_runs = run_has team HaveFlags start_flags (λ w event next of_team old is. event_flags w event next old is)

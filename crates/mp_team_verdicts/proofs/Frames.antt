@@ -1,9 +1,8 @@
 -- What an event leaves of agents and messages of the end as it was.
-use Rattle.std.proofs.Common.{◌≡◌, ◌≢◌, ℕ, true, false, List, ◌∷◌, length, Option, Some, refl, sym, ap, subst, ◌∙◌, ◌⊎◌, inl, inr}
+use Rattle.std.proofs.Common.{◌≡◌, ◌≢◌, ℕ, true, false, List, ◌∷◌, length, Some, refl, sym, ap, subst, ◌∙◌, ◌⊎◌, inl, inr}
 use Rattle.std.specs.Prelude.{IfSome, filter, slice_get}
 use Rattle.std.proofs.lemmas.Bool.{and_parts, cases_eq, false≢true}
 use Rattle.std.proofs.lemmas.Option.{same_Some}
-use Rattle.mp_sets.specs.Numbers.{Numbers}
 use Rattle.mp_task.specs.AgentTask.{AgentTask}
 use Rattle.mp_task.specs.Plan.{TaskStep}
 use Rattle.mp_messages.specs.declared.history.Event.{Event}
@@ -15,6 +14,7 @@ use Rattle.mp_machine.specs.AgentRecord.{AgentRecord, given_verdict, is_going}
 use Rattle.mp_machine.specs.LocalStep.{may_now}
 use Rattle.mp_world.specs.Events.{agent_of, local_of, taken}
 use Rattle.mp_world.specs.Steps.{IsStepOf}
+use Rattle.mp_world.specs.Values.{Values}
 use Rattle.mp_world.specs.World.{IsAgent, IsTeamWorld, World, agent_at}
 use Rattle.mp_world.proofs.Agents.{agent_there}
 use Rattle.mp_team_snapshots.specs.Team.{IsTeamOf}
@@ -42,7 +42,7 @@ pub record IsKnownWorld (publics : ℕ) (tasks : List AgentTask) (w : World) : T
 abbrev pub NotesItsGoal : AgentRecord → Type 0
 NotesItsGoal r = IfSome (own r.snapshot).goal (λ cost. (number : ℕ) × HasGoal r number cost)
 
-module _ (value : AgentTask → Numbers → Numbers → Option ℕ) (publics : ℕ) (tasks : List AgentTask) (team : IsTeamOf publics tasks) (w : World)
+module _ (value : Values) (publics : ℕ) (tasks : List AgentTask) (team : IsTeamOf publics tasks) (w : World)
     (is : IsTeamWorld tasks w) (event : Event) (next : World) (step : IsStepOf value w event next) where
   pub of_next : (i : ℕ) (r : AgentRecord) → agent_at next i ≡ Some r → IsOf (length tasks) i
   of_next i r there = is_of_there publics tasks team next (numbers_next value publics tasks team w is event next step) i r there
@@ -140,7 +140,7 @@ module _ (value : AgentTask → Numbers → Numbers → Option ℕ) (publics : �
 
 -- ---- a message that is taken
 
-module _ (value : AgentTask → Numbers → Numbers → Option ℕ) (publics : ℕ) (tasks : List AgentTask) (team : IsTeamOf publics tasks) (w : World)
+module _ (value : Values) (publics : ℕ) (tasks : List AgentTask) (team : IsTeamOf publics tasks) (w : World)
     (is : IsTeamWorld tasks w) (b a : ℕ) (next : World) (step : IsStepOf value w (Take b a) next) (m : Message)
     (read : message_of step.agent.task.agents step.agent.task.publics (taken w (Take b a)) ≡ Some m) where
   -- one that is none of the end leaves all of the end

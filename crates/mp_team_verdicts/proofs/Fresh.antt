@@ -4,7 +4,6 @@ use Rattle.std.proofs.Common.{◌≡◌, ◌≢◌, ℕ, suc, ◌+◌, ◌≤◌
 use Rattle.std.specs.Prelude.{nat_lt, not, if◌then◌else◌, option_map, slice_get}
 use Rattle.std.proofs.lemmas.Bool.{and_from, and_parts, false≢true, lt-ltb}
 use Rattle.std.proofs.lemmas.Option.{none-some, same_Some, slice_get-map}
-use Rattle.mp_sets.specs.Numbers.{Numbers}
 use Rattle.mp_task.specs.AgentTask.{AgentTask}
 use Rattle.mp_messages.specs.declared.history.Event.{Event}
 use Rattle.mp_messages.specs.declared.history.Event.TheVariants.{Expand, Take, Start}
@@ -26,6 +25,7 @@ use Rattle.mp_machine.proofs.NotesLemmas.{given_at_first, own_begun, own_reporte
 use Rattle.mp_machine.proofs.StepLemmas.{start_parts}
 use Rattle.mp_world.specs.Events.{agent_of}
 use Rattle.mp_world.specs.Steps.{IsStepOf}
+use Rattle.mp_world.specs.Values.{Values}
 use Rattle.mp_world.specs.World.{IsTeamWorld, World, agent_at}
 use Rattle.mp_team_snapshots.specs.Snapshots.{AreNotesOf}
 use Rattle.mp_team_snapshots.specs.Team.{IsTeamOf}
@@ -109,7 +109,7 @@ module _ (agents me : ℕ) (small : agents ≤ 16) (is_me : IsOf agents me) (k :
       inr (begun_current (with_marker (begun r.snapshot (r.snapshot.number + 1) (findings r)) from) is refl)
   fresh_moves o other (starts is) old = inr (begun_current (begun r.snapshot (r.snapshot.number + 1) (findings r)) is refl)
 
-module _ (value : AgentTask → Numbers → Numbers → Option ℕ) (publics : ℕ) (tasks : List AgentTask) (team : IsTeamOf publics tasks)
+module _ (value : Values) (publics : ℕ) (tasks : List AgentTask) (team : IsTeamOf publics tasks)
     (w : World) (is : IsTeamWorld tasks w) (holds : HoldsInRuns publics w) (silent : IsSilent (length tasks) publics w) where
   -- in silence no agent expands
   pub quiet_in_silence : (event : Event) (next : World) → IsStepOf value w event next → is_quiet event ≡ true

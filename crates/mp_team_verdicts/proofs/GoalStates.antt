@@ -1,5 +1,5 @@
 -- A state that an agent knows and that is a goal state is a joint state in which all goals of the team hold.
-use Rattle.std.proofs.Common.{◌≡◌, ℕ, ◌+◌, ◌-◌, ◌<◌, ◌⊎◌, Bool, true, false, ◌&&◌, List, length, get_or, Option, Some, All, sym, ap, subst, ◌∙◌, arith, inl, inr}
+use Rattle.std.proofs.Common.{◌≡◌, ℕ, ◌+◌, ◌-◌, ◌<◌, ◌⊎◌, Bool, true, false, ◌&&◌, List, length, get_or, Option, Some, sym, ap, subst, ◌∙◌, arith, inl, inr}
 use Rattle.std.specs.Prelude.{Contains, IfSome, ◌==◌, ◌||◌, if◌then◌else◌}
 use Rattle.std.specs.FinSet as set
 use Rattle.std.specs.List.{enumerate_from}
@@ -10,7 +10,6 @@ use Rattle.std.proofs.lemmas.List.FromFn.{get_or-enumerate_from, length-enumerat
 use Rattle.std.proofs.lemmas.List.Sums.{AllPass-from_list_all, list_all-from_AllPass}
 use Rattle.mp_sets.specs.declared.tag.Tag.{Tag}
 use Rattle.mp_sets.specs.Numbers.{holds}
-use Rattle.mp_task.specs.Agree.{Agree}
 use Rattle.mp_task.specs.AgentTask.{AgentTask}
 use Rattle.mp_task.specs.Limits.{IsWithinLimits}
 use Rattle.mp_task.specs.Met.{is_met}
@@ -19,19 +18,20 @@ use Rattle.mp_task.proofs.Agreeing.{same_number}
 use Rattle.mp_search.specs.AgentState.{AgentState, is_goal_state, no_tag, others_are_met}
 use Rattle.mp_machine.specs.AgentRecord.{AgentRecord}
 use Rattle.mp_world.specs.Joint.{joint, private_facts, told_by}
+use Rattle.mp_world.specs.Team.{AreTeamTasks}
 use Rattle.mp_world.specs.World.{IsTeamWorld, World, agent_at}
 use Rattle.mp_world.proofs.Agents.{agree_numbered, member_of, task_there}
 use Rattle.mp_team_states.specs.Sound.{IsStateOf, IsTold, tag_of}
 use Rattle.mp_team_states.proofs.GoodStates.{own_facts}
 use Rattle.mp_team_states.proofs.JointStates.{read_place}
 
-module _ (tasks : List AgentTask) (agree : Agree tasks) (limits : All IsWithinLimits tasks) (w : World) (team : IsTeamWorld tasks w) (agent : ℕ) (r : AgentRecord)
+module _ (tasks : List AgentTask) (are : AreTeamTasks tasks) (w : World) (team : IsTeamWorld tasks w) (agent : ℕ) (r : AgentRecord)
     (there : agent_at w agent ≡ Some r) (s : AgentState) (is : IsStateOf w r.task s) (goal : is_goal_state r.task s ≡ true) where
   me : r.task.me ≡ agent
-  me = (member_of tasks (agree_numbered tasks agree) w team agent r there).me
+  me = (member_of tasks (agree_numbered tasks are.agree) w team agent r there).me
 
   mine : Contains tasks r.task
-  mine = (member_of tasks (agree_numbered tasks agree) w team agent r there).task
+  mine = (member_of tasks (agree_numbered tasks are.agree) w team agent r there).task
 
   parts : (holds s.publics r.task.goal_pub ≡ true) × (is_met r.task s.mine ≡ true) × (others_are_met r.task s ≡ true)
   parts =
@@ -58,20 +58,20 @@ module _ (tasks : List AgentTask) (agree : Agree tasks) (limits : All IsWithinLi
     where
       by : (t.me ≡ agent) ⊎ (t.me ≡ agent → ⊥) → is_met t (private_of (joint w agent s) t.me) ≡ true
       by (inl same) =
-          let one : t ≡ r.task = same_number tasks agree t r.task here mine (same ∙ sym me) in
-          (λ j. is_met (one j) (private_of (joint w agent s) (same j))) ∙ ap (is_met r.task) (own_facts tasks agree limits w team agent r there s is) ∙ parts.1
+          let one : t ≡ r.task = same_number tasks are.agree t r.task here mine (same ∙ sym me) in
+          (λ j. is_met (one j) (private_of (joint w agent s) (same j))) ∙ ap (is_met r.task) (own_facts tasks are w team agent r there s is) ∙ parts.1
       by (inr other) =
-          let fit = All-contains IsWithinLimits tasks t limits here in
+          let fit = All-contains IsWithinLimits tasks t are.within here in
           let low = fit.from_1 in
           let in_team = fit.in_team in
-          let agents = All-contains (λ (t : AgentTask). t.agents ≡ length tasks) tasks t (agree_numbered tasks agree).team here in
+          let agents = All-contains (λ (t : AgentTask). t.agents ≡ length tasks) tasks t (agree_numbered tasks are.agree).team here in
           let many = is.number in
-          let team_size = (member_of tasks (agree_numbered tasks agree) w team agent r there).agents in
+          let team_size = (member_of tasks (agree_numbered tasks are.agree) w team agent r there).agents in
           let inside : t.me - 1 < length s.tags = omega arith in
           let place : 1 + (t.me - 1) ≡ t.me = omega arith in
           let tag = tag_of s.tags t.me in
           let told : IsTold w t.me tag = is.others t.me low (omega arith) (λ same. other (same ∙ me)) in
-          let who = task_there tasks (agree_numbered tasks agree) w team t here in
+          let who = task_there tasks (agree_numbered tasks are.agree) w team t here in
           let byte : tag.met ≡ is_met who.0.task (told_by w (t.me, tag)) =
           subst (λ (o : Option AgentRecord). IfSome o (λ r. tag.met ≡ is_met r.task (told_by w (t.me, tag)))) who.1 told.byte in
           let facts : private_of (joint w agent s) t.me ≡ told_by w (t.me, tag) =
@@ -87,5 +87,5 @@ module _ (tasks : List AgentTask) (agree : Agree tasks) (limits : All IsWithinLi
       (λ k d inside.
       let t = get_or tasks k d in
       let here : Contains tasks t = (k, inside, get_or_default tasks k t d inside) in
-      let publics : holds s.publics t.goal_pub ≡ true = ap (holds s.publics) (agree.alike t r.task here mine).goal_pub ∙ parts.0 in
+      let publics : holds s.publics t.goal_pub ≡ true = ap (holds s.publics) (are.agree.alike t r.task here mine).goal_pub ∙ parts.0 in
       λ j. publics j && each_met t here j)

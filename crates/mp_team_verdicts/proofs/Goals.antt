@@ -1,10 +1,8 @@
 -- Each agent keeps the goal entry whose cost it found in its last snapshot.
-use Rattle.std.proofs.Common.{◌≡◌, ◌≢◌, ℕ, ◌+◌, ◌≤◌, ◌<◌, ◌^◌, true, List, length, Option, Some, None, All, refl, sym, ap, subst, ◌∙◌, arith}
+use Rattle.std.proofs.Common.{◌≡◌, ◌≢◌, ℕ, ◌+◌, ◌≤◌, ◌<◌, ◌^◌, true, List, length, Option, Some, None, refl, sym, ap, subst, ◌∙◌, arith}
 use Rattle.std.specs.Prelude.{IfSome, Ok}
 use Rattle.mp_sets.specs.Numbers.{Numbers}
-use Rattle.mp_task.specs.Agree.{Agree}
 use Rattle.mp_task.specs.AgentTask.{AgentTask}
-use Rattle.mp_task.specs.Limits.{IsWithinLimits}
 use Rattle.mp_messages.specs.declared.history.Event.{Event}
 use Rattle.mp_messages.specs.declared.history.Event.TheVariants.{Expand, Take, Start}
 use Rattle.mp_messages.specs.declared.message.Findings.{Findings}
@@ -21,6 +19,8 @@ use Rattle.mp_machine.specs.WalkingBack.{walked, walked_from_goal}
 use Rattle.mp_machine.proofs.NotesLemmas.{own_reported}
 use Rattle.mp_world.specs.Events.{agent_of, taken}
 use Rattle.mp_world.specs.Steps.{IsStepOf}
+use Rattle.mp_world.specs.Team.{AreTeamTasks}
+use Rattle.mp_world.specs.Values.{Values}
 use Rattle.mp_world.specs.World.{World, agent_at}
 use Rattle.mp_world.proofs.LocalCases.{message_holds, same_step}
 use Rattle.mp_team_snapshots.specs.Team.{IsTeamOf}
@@ -57,7 +57,7 @@ message_goal value r from place low other =
       done = λ kind first. keeps (record { goal = refl; own = refl });
     })
 
-module _ (value : AgentTask → Numbers → Numbers → Option ℕ) (publics : ℕ) (tasks : List AgentTask) (agree : Agree tasks) (limits : All IsWithinLimits tasks)
+module _ (value : Values) (publics : ℕ) (tasks : List AgentTask) (are : AreTeamTasks tasks)
     (team : IsTeamOf publics tasks) (w next : World) (known : IsKnownWorld publics tasks w) (known_next : IsKnownWorld publics tasks next) where
   -- an agent has a place in its notes
   pub place_of : (event : Event) → IsStepOf value w event next → (i : ℕ) (r : AgentRecord) → agent_at w i ≡ Some r → HasPlace r.snapshot × (r.snapshot.me ≡ r.task.me)
@@ -96,7 +96,7 @@ module _ (value : AgentTask → Numbers → Numbers → Option ℕ) (publics : �
       each_agent value w event next step (λ i r. NotesItsGoal r) (here (goal_after event step)) (λ i r there other. old i r there)
     where
       few : length step.step.after.search.kept.entries < 2 ^ 60
-      few = let small = keeps_few tasks agree limits next known_next.team known_next.so_far (agent_of event) step.step.after step.after in omega arith
+      few = let small = keeps_few tasks are next known_next.team known_next.so_far (agent_of event) step.step.after step.after in omega arith
 
       -- a goal that was noted before
       stays : step.step.after.goal ≡ step.agent.goal → (o : Option ℕ) → IfSome o (λ cost. (number : ℕ) × HasGoal step.agent number cost)

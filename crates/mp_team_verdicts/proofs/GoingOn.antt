@@ -1,14 +1,11 @@
 -- Some event may happen: the one that is found among all that there are.
-use Rattle.std.proofs.Common.{◌≡◌, ℕ, zero, suc, ◌≤◌, Bool, true, false, List, length, Option, All, refl, ap, ◌∙◌, arith, ◌⊎◌, inl, inr}
+use Rattle.std.proofs.Common.{◌≡◌, ℕ, zero, suc, Bool, true, false, length, refl, ap, ◌∙◌, arith, ◌⊎◌, inl, inr}
 use Rattle.std.proofs.lemmas.Bool.{cases_eq}
-use Rattle.mp_sets.specs.Numbers.{Numbers}
-use Rattle.mp_task.specs.Agree.{Agree}
-use Rattle.mp_task.specs.AgentTask.{AgentTask}
-use Rattle.mp_task.specs.Limits.{IsWithinLimits}
 use Rattle.mp_messages.specs.declared.history.Event.{Event}
 use Rattle.mp_messages.specs.declared.history.Event.TheVariants.{Expand, Take, Start}
 use Rattle.mp_world.specs.Events.{is_legal}
 use Rattle.mp_world.specs.RoundRobin.{is_over}
+use Rattle.mp_world.specs.Team.{IsTeam, Team}
 use Rattle.mp_world.specs.World.{World}
 use Rattle.mp_team_snapshots.specs.Team.{IsTeamOf}
 use Rattle.mp_team_snapshots.proofs.Protocol.{IsOf}
@@ -53,9 +50,10 @@ search_pair (suc m) n test = by (search_one n (test (suc m))) (search_pair m n t
             let high = of_j.at_most in
             others j i (record { from_1 = low; at_most = omega (arith, other) }) of_i
 
-module _ (value : AgentTask → Numbers → Numbers → Option ℕ) (limit publics : ℕ) (tasks : List AgentTask)
-    (agree : Agree tasks) (limits : All IsWithinLimits tasks) (most : limit ≤ 10000000)
-    (team : IsTeamOf publics tasks) (w : World) (at : IsReached value limit tasks w) where
+module _ (team : Team) (is_team : IsTeam team) (publics : ℕ) (of_team : IsTeamOf publics team.tasks) (w : World)
+    (at : IsReached team w) where
+  open team use {tasks}
+
   pub goes_on : is_over w ≡ false → HasNumberLeft w → (event : Event) × (is_legal w event ≡ true)
   goes_on on room =
       by (search_one (length tasks) (λ i. is_legal w (Expand i)))
@@ -71,5 +69,5 @@ module _ (value : AgentTask → Numbers → Numbers → Option ℕ) (limit publi
       by (inr none) (inl takes) b start = (Take takes.0 takes.1, takes.2)
       by (inr none) (inr nothing) true start = (Start, start)
       by (inr none) (inr nothing) false start =
-          absurd (not_stuck value limit publics tasks agree limits most team w at on room
+          absurd (not_stuck team is_team publics of_team w at on room
           (record { take = λ j i of_j of_i off. nothing j i of_j of_i; expand = none; start = start }))

@@ -8,9 +8,7 @@ use Rattle.std.proofs.lemmas.List.{length-append}
 use Rattle.std.proofs.lemmas.List.Elements.{All-contains, All-head}
 use Rattle.std.proofs.lemmas.Option.{same_Some, slice_get_within}
 use Rattle.mp_sets.specs.Numbers.{Numbers}
-use Rattle.mp_task.specs.Agree.{Agree}
 use Rattle.mp_task.specs.AgentTask.{AgentTask}
-use Rattle.mp_task.specs.Limits.{IsWithinLimits}
 use Rattle.mp_task.specs.Plan.{TaskStep, task_of}
 use Rattle.mp_messages.specs.declared.message.EndKind.{EndKind}
 use Rattle.mp_messages.specs.declared.message.Findings.{Findings}
@@ -33,6 +31,7 @@ use Rattle.mp_machine.specs.Verdicts.{is_proved}
 use Rattle.mp_machine.specs.WalkingBack.{solved, walked, walked_from_goal}
 use Rattle.mp_machine.proofs.NotesLemmas.{known_at_others}
 use Rattle.mp_machine.proofs.TakingLemmas.{took_spelled}
+use Rattle.mp_world.specs.Team.{AreTeamTasks}
 use Rattle.mp_world.specs.World.{IsAgent, World, agent_at, under_way}
 use Rattle.mp_world.proofs.Agents.{agent_there, member_of}
 use Rattle.mp_world.proofs.Mail.{agent_of_team}
@@ -70,7 +69,7 @@ and_false false = refl
 first_among : {X : Type 0} (x : X) (xs ys : List X) → xs ≡ x ∷ ys → Contains xs x
 first_among {X} x xs ys is = subst (λ (zs : List X). Contains zs x) (sym is) (0, omega arith, refl)
 
-module _ (publics : ℕ) (tasks : List AgentTask) (agree : Agree tasks) (limits : All IsWithinLimits tasks) (team : IsTeamOf publics tasks) (w : World)
+module _ (publics : ℕ) (tasks : List AgentTask) (are : AreTeamTasks tasks) (team : IsTeamOf publics tasks) (w : World)
     (known : IsKnownWorld publics tasks w) (ends : EndsSoFar publics tasks w) (a b : ℕ) (sender : IsAgent w a) (apart : a ≢ b) (r : AgentRecord)
     (there : agent_at w b ≡ Some r) (going : is_going r.ending ≡ true) where
   me_is : r.task.me ≡ b
@@ -144,7 +143,7 @@ module _ (publics : ℕ) (tasks : List AgentTask) (agree : Agree tasks) (limits 
   short : (first : AgentRecord) (plan : List TaskStep) → IsProved w first plan → length plan ≤ 160000000
   short first plan p =
       let few = known.so_far.short p.agent p.number plan p.path in
-      let most = few_expansions tasks agree limits w known.team known.so_far.sound in
+      let most = few_expansions tasks are w known.team known.so_far.sound in
       omega arith
 
   fits_trail : (later : List TaskStep) → r.trail ≡ notes r.task.me later → fits (length later) r.trail ≡ true
@@ -190,7 +189,7 @@ module _ (publics : ℕ) (tasks : List AgentTask) (agree : Agree tasks) (limits 
       let found = path_entry w to leads.number earlier leads.path in
       let at = has_it w to leads.number found.0 found.1 in
       let inside = slice_get_within at.agent_is.search.kept.entries leads.number found.0 at.at in
-      let few = keeps_few tasks agree limits w known.team known.so_far to at.agent_is at.there in
+      let few = keeps_few tasks are w known.team known.so_far to at.agent_is at.there in
       let long = length-append earlier later in
       let most = short old.first (earlier ++ later) p in
       let small : length later + leads.number < 2 ^ 60 = omega arith in
@@ -263,11 +262,11 @@ module _ (publics : ℕ) (tasks : List AgentTask) (agree : Agree tasks) (limits 
     state_good : (m : State) → IsSpelling r.task.agents r.task.publics (AState m) bytes → IsGood
     unfolding IsGood
     state_good m is =
-        let at : task_of tasks a ≡ Some other.0.task = task_at tasks agree limits w known.team a other.0 other.1 in
+        let at : task_of tasks a ≡ Some other.0.task = task_at tasks are w known.team a other.0 other.1 in
         let reads = all_again r.task.agents r.task.publics (AState m) bytes few_facts is in
-        let found = what_is_read tasks agree limits w known.team known.so_far.sound a b other.0.task r at there bytes m
+        let found = what_is_read tasks are w known.team known.so_far.sound a b other.0.task r at there bytes m
         (first_among bytes (under_way w a b) later front) reads in
-        let good = state_is_taken tasks agree limits w known.team known.so_far.sound a b other.0.task r at there value m found.1 in
+        let good = state_is_taken tasks are w known.team known.so_far.sound a b other.0.task r at there value m found.1 in
         (without_messages (with_state value r a m), ap (took value r a) found.0 ∙ good.2)
 
     -- another one

@@ -1,8 +1,5 @@
 -- An agent hears of states from other agents alone, so that a walk back never goes on at the agent itself.
-use Rattle.std.proofs.Common.{◌≡◌, ◌≢◌, ℕ, ◌+◌, ◌≤◌, List, Option, Some, refl, sym, subst, ◌∙◌, arith}
-use Rattle.mp_sets.specs.Numbers.{Numbers}
-use Rattle.mp_task.specs.Agree.{Agree}
-use Rattle.mp_task.specs.AgentTask.{AgentTask}
+use Rattle.std.proofs.Common.{◌≡◌, ◌≢◌, ℕ, ◌+◌, ◌≤◌, List, Some, refl, sym, subst, ◌∙◌, arith}
 use Rattle.mp_messages.specs.declared.history.Event.{Event}
 use Rattle.mp_store.specs.Record.{Record}
 use Rattle.mp_search.specs.AgentState.{AgentState}
@@ -12,8 +9,9 @@ use Rattle.mp_trail.specs.Walk.{walk}
 use Rattle.mp_machine.specs.AgentRecord.{AgentRecord}
 use Rattle.mp_world.specs.Events.{agent_of, local_of, run, taken}
 use Rattle.mp_world.specs.Steps.{IsStepOf}
-use Rattle.mp_world.specs.World.{World, agent_at, start_world}
-use Rattle.mp_world.proofs.Agents.{agree_numbered, member_of}
+use Rattle.mp_world.specs.Team.{Team}
+use Rattle.mp_world.specs.World.{AreNumbered, World, agent_at, start_world}
+use Rattle.mp_world.proofs.Agents.{member_of}
 use Rattle.mp_world.proofs.LogOfRun.{new_at}
 use Rattle.mp_world.proofs.Mail.{agent_of_team}
 use Rattle.mp_world.proofs.Runs.{run_has}
@@ -26,18 +24,20 @@ use Rattle.mp_team_verdicts.proofs.StepMessages.{IsSound, local_goes}
 abbrev pub HearOthers : World → Type 0
 HearOthers w = (i : ℕ) (r : AgentRecord) → agent_at w i ≡ Some r → IsSound r
 
-module _ (value : AgentTask → Numbers → Numbers → Option ℕ) (limit : ℕ) (tasks : List AgentTask) (agree : Agree tasks) where
-  pub start_hears : HearOthers (start_world value limit tasks)
+module _ (team : Team) (numbered : AreNumbered team.tasks) where
+  open team use {tasks, value}
+
+  pub start_hears : HearOthers (start_world team)
   start_hears i r there =
-      let w = start_world value limit tasks in
-      let team = start_is_team value limit tasks in
-      let many = (member_of tasks (agree_numbered tasks agree) w team i r there).agents in
-      let size = team_size tasks w team in
+      let w = start_world team in
+      let of_team = start_is_team team in
+      let many = (member_of tasks numbered w of_team i r there).agents in
+      let size = team_size tasks w of_team in
       let at = agent_of_team w i r there in
       let low = at.from_1 in
       let high = at.at_most in
       let some : 1 ≤ r.task.agents = omega arith in
-      subst IsSound (sym (new_at value limit tasks i r there))
+      subst IsSound (sym (new_at team i r there))
       (record { some = some; notes = refl; heard = start_of_others r.task (value r.task) })
 
   pub event_hears : (w : World) (event : Event) (next : World) → HearOthers w → IsStepOf value w event next → HearOthers next
@@ -47,8 +47,8 @@ module _ (value : AgentTask → Numbers → Numbers → Option ℕ) (limit : ℕ
       (local_goes (value r.task) r is.step (local_of event) (taken w event) (old (agent_of event) r is.there) is.may is.local).after
       (λ i r there other. old i r there)
 
-  pub hears_in_runs : (schedule : List Event) (w : World) → run value limit tasks schedule ≡ Some w → HearOthers w
-  hears_in_runs = run_has value limit tasks HearOthers start_hears (λ w event next team old is. event_hears w event next old is)
+  pub hears_in_runs : (schedule : List Event) (w : World) → run team schedule ≡ Some w → HearOthers w
+  hears_in_runs = run_has team HearOthers start_hears (λ w event next of_team old is. event_hears w event next old is)
 
 -- ---- a walk ends at another agent
 

@@ -1,14 +1,10 @@
 -- Over how many messages a plan is walked back: a walk that goes on at another agent is over one message fewer, and an entry
 -- is reached over fewer messages than there are entries.
-use Rattle.std.proofs.Common.{◌≡◌, ◌≢◌, ℕ, zero, suc, ◌+◌, ◌*◌, ◌≤◌, ◌<◌, ◌^◌, List, [], ◌∷◌, length, Option, Some, All, refl, sym, ap, subst, ◌∙◌, arith, ◌⊎◌, inl, inr}
+use Rattle.std.proofs.Common.{◌≡◌, ◌≢◌, ℕ, zero, suc, ◌+◌, ◌*◌, ◌≤◌, ◌<◌, ◌^◌, List, [], ◌∷◌, length, Option, Some, refl, sym, ap, subst, ◌∙◌, arith, ◌⊎◌, inl, inr}
 use Rattle.std.specs.Prelude.{Contains, slice_get}
 use Rattle.std.specs.Option.{option_map_or}
 use Rattle.std.proofs.lemmas.Option.{same_Some, slice_get_within}
 use Rattle.mp_list.proofs.Members.{contains_cases, contains_one, no_member}
-use Rattle.mp_sets.specs.Numbers.{Numbers}
-use Rattle.mp_task.specs.Agree.{Agree}
-use Rattle.mp_task.specs.AgentTask.{AgentTask}
-use Rattle.mp_task.specs.Limits.{IsWithinLimits}
 use Rattle.mp_store.specs.declared.entry.Entry.{Entry}
 use Rattle.mp_store.specs.declared.entry.Origin.{Origin}
 use Rattle.mp_store.specs.declared.entry.Origin.TheVariants.{Root, Own, From}
@@ -16,6 +12,7 @@ use Rattle.mp_search.specs.AgentState.{AgentState}
 use Rattle.mp_trail.specs.declared.steps.Walked.TheVariants.{Root as AtRoot, Hop}
 use Rattle.mp_trail.specs.Walk.{origin_of, walk, walk_from, walk_within}
 use Rattle.mp_machine.specs.AgentRecord.{AgentRecord}
+use Rattle.mp_world.specs.Team.{IsTeam, Team}
 use Rattle.mp_world.specs.World.{World, agent_at}
 use Rattle.mp_team_snapshots.specs.Team.{IsTeamOf}
 use Rattle.mp_team_states.specs.Further.{HaveGrown}
@@ -182,18 +179,19 @@ module _ (w : World) (agent number before : ℕ) (mine : IsOver w agent number (
         each = λ c here. is_code c (contains_cases (code agent number) later.codes c here);
       }
 
-module _ (value : AgentTask → Numbers → Numbers → Option ℕ) (limit publics : ℕ) (tasks : List AgentTask)
-    (agree : Agree tasks) (limits : All IsWithinLimits tasks) (most : limit ≤ 10000000)
-    (team : IsTeamOf publics tasks) (w : World) (at : IsReached value limit tasks w) where
+module _ (team : Team) (is_team : IsTeam team) (publics : ℕ) (of_team : IsTeamOf publics team.tasks) (w : World)
+    (at : IsReached team w) where
+  open team use {tasks}
+
   entry_few : (agent number : ℕ) (e : Entry AgentState) → IsEntryAt w agent number e → (agent ≤ 16) × (number < 2 ^ 46)
   entry_few agent number e is =
       let h = has_it w agent number e is in
-      let k = known value limit publics tasks agree limits most team w at in
-      let few = keeps_few tasks agree limits w k.team k.so_far agent h.agent_is h.there in
+      let k = known team is_team publics of_team w at in
+      let few = keeps_few tasks is_team.tasks w k.team k.so_far agent h.agent_is h.there in
       let inside = slice_get_within h.agent_is.search.kept.entries number e h.at in
-      let of = of_there value limit publics tasks agree limits most team w at agent h.agent_is h.there in
+      let of = of_there team is_team publics of_team w at agent h.agent_is h.there in
       let high = of.at_most in
-      let small = team.agents in
+      let small = of_team.agents in
       (omega arith, omega arith)
 
   codes_of : (agent number messages : ℕ) → IsOver w agent number messages → HasCodes w messages

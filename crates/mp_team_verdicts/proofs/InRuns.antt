@@ -1,13 +1,11 @@
 -- In every world that a legal schedule leads to, the end of the search has come to a stage, and all messages can be read.
-use Rattle.std.proofs.Common.{◌≡◌, ℕ, zero, suc, ◌-◌, ◌≤◌, ◌<◌, ◌^◌, Bool, true, false, List, [], ◌∷◌, ◌++◌, length, replicate, Option, Some, None, All, refl, sym, ap, subst, ◌∙◌, arith}
+use Rattle.std.proofs.Common.{◌≡◌, ℕ, zero, suc, ◌-◌, ◌<◌, ◌^◌, Bool, true, false, List, [], ◌∷◌, ◌++◌, length, replicate, Option, Some, None, All, refl, sym, ap, subst, ◌∙◌, arith}
 use Rattle.std.specs.Prelude.{IfSome, ◌==◌, filter, if◌then◌else◌, option_and_then, slice_index_or}
 use Rattle.std.specs.List.{filter_map}
 use Rattle.std.proofs.lemmas.List.Elements.{All-nil}
 use Rattle.mp_runs.proofs.Runs.{run-more, run-none, run_keeps_history}
 use Rattle.mp_sets.specs.Numbers.{Numbers}
-use Rattle.mp_task.specs.Agree.{Agree}
 use Rattle.mp_task.specs.AgentTask.{AgentTask}
-use Rattle.mp_task.specs.Limits.{IsWithinLimits}
 use Rattle.mp_messages.specs.declared.history.Event.{Event}
 use Rattle.mp_messages.specs.declared.message.Findings.{Findings}
 use Rattle.mp_snapshot.specs.Rules.{nothing}
@@ -15,8 +13,9 @@ use Rattle.mp_machine.specs.AgentRecord.{AgentRecord, given_verdict, new_record}
 use Rattle.mp_machine.specs.Verdicts.{is_deciding}
 use Rattle.mp_world.specs.Events.{after_event, agent_of, run}
 use Rattle.mp_world.specs.Steps.{IsStepOf}
+use Rattle.mp_world.specs.Team.{IsTeam, Team}
 use Rattle.mp_world.specs.World.{World, agent_at, start_world}
-use Rattle.mp_world.proofs.Agents.{agent_there}
+use Rattle.mp_world.proofs.Agents.{agent_there, agree_numbered}
 use Rattle.mp_world.proofs.LogOfRun.{new_at}
 use Rattle.mp_world.proofs.Runs.{run_of_team}
 use Rattle.mp_world.proofs.Stepping.{event_is_step, start_is_team, team_lists, team_size}
@@ -75,30 +74,31 @@ new_undecided t value limit = by (t.me == 1)
     by true = refl
     by false = refl
 
-module _ (value : AgentTask → Numbers → Numbers → Option ℕ) (limit publics : ℕ) (tasks : List AgentTask) (agree : Agree tasks) (limits : All IsWithinLimits tasks)
-    (most : limit ≤ 10000000) (team : IsTeamOf publics tasks) where
+module _ (team : Team) (is_team : IsTeam team) (publics : ℕ) (of_team : IsTeamOf publics team.tasks) where
+  open team use {tasks, value, limit}
+
   abbrev begin : World
-  begin = start_world value limit tasks
+  begin = start_world team
 
   start_at : IsAt publics begin searching
   start_at =
-      let size = team_size tasks begin (start_is_team value limit tasks) in
-      let some = team.some in
+      let size = team_size tasks begin (start_is_team team) in
+      let some = of_team.some in
       let found = agent_there begin 1 (record { from_1 = omega arith; at_most = omega arith }) in
       let first = found.0 in
       record {
         first = first;
         there = found.1;
-        verdict = ap (λ (r : AgentRecord). is_deciding (given_verdict r)) (new_at value limit tasks 1 first found.1) ∙ new_undecided first.task (value first.task) limit;
+        verdict = ap (λ (r : AgentRecord). is_deciding (given_verdict r)) (new_at team 1 first found.1) ∙ new_undecided first.task (value first.task) limit;
         agents = λ i r there.
-            subst HasNoPart (sym (new_at value limit tasks i r there))
+            subst HasNoPart (sym (new_at team i r there))
             (record { walked = record { trail = sym (notes_none r.task.me); going = refl }; picked = refl });
-        mail = λ i j r agent there. ap (filter is_of_end) (no_messages value limit publics tasks team i j);
+        mail = λ i j r agent there. ap (filter is_of_end) (no_messages team publics of_team i j);
       }
 
   start_goals : (i : ℕ) (r : AgentRecord) → agent_at begin i ≡ Some r → NotesItsGoal r
   start_goals i r there =
-      subst NotesItsGoal (sym (new_at value limit tasks i r there))
+      subst NotesItsGoal (sym (new_at team i r there))
       (subst (λ (f : Findings). IfSome f.goal (λ cost. (number : ℕ) × HasGoal (new_record r.task (value r.task) limit) number cost)) (sym (nothing_at 16 (r.task.me - 1))) tt)
 
   start_ends : EndsSoFar publics tasks begin
@@ -109,46 +109,46 @@ module _ (value : AgentTask → Numbers → Numbers → Option ℕ) (limit publi
     read = λ i j is_i is_j.
         subst (λ (ms : List (List ℕ)). All (IsRead (length tasks) publics) ms) (sym (none_in (length tasks) (length tasks) (i - 1) (j - 1))) (All-nil (IsRead (length tasks) publics));
     goals = start_goals;
-    reports = λ i j is_i is_j other. ap (filter_map report_of) (no_messages value limit publics tasks team i j);
+    reports = λ i j is_i is_j other. ap (filter_map report_of) (no_messages team publics of_team i j);
   }
 
-  pub known_of : (schedule : List Event) (w : World) → run value limit tasks schedule ≡ Some w → IsKnownWorld publics tasks w
+  pub known_of : (schedule : List Event) (w : World) → run team schedule ≡ Some w → IsKnownWorld publics tasks w
   known_of schedule w ran = record {
-    team = run_of_team value limit tasks schedule w ran;
-    so_far = holds_so_far tasks agree limits value limit most schedule w ran;
-    in_runs = holds_in_runs value publics tasks team limit schedule w ran;
-    hears = hears_in_runs value limit tasks agree schedule w ran;
+    team = run_of_team team schedule w ran;
+    so_far = holds_so_far team is_team schedule w ran;
+    in_runs = holds_in_runs team publics of_team schedule w ran;
+    hears = hears_in_runs team (agree_numbered tasks is_team.tasks.agree) schedule w ran;
   }
 
   -- markers and reports that go out have room
   sends_fit : (w : World) → IsKnownWorld publics tasks w → (event : Event) (next : World) (step : IsStepOf value w event next) → SendsFitting step.step
   sends_fit w known event next step =
       let sound = known.in_runs.sound in
-      let seen : Sound (length tasks) (view publics w) = to_view publics tasks team w (team_numbers publics tasks team w known.team) sound in
+      let seen : Sound (length tasks) (view publics w) = to_view publics tasks of_team w (team_numbers publics tasks of_team w known.team) sound in
       let small : (note_at w 1).number < 2 ^ 60 =
       subst (λ s. s.number < 2 ^ 60) (sym (note_of w 1 sound.first sound.first_there)) (known.in_runs.room 1 sound.first sound.first_there).number in
-      (event_roomy value publics tasks team w known.team seen small event next step (known.in_runs.room (agent_of event) step.agent step.there)).sends
+      (event_roomy value publics tasks of_team w known.team seen small event next step (known.in_runs.room (agent_of event) step.agent step.there)).sends
 
   ends_next : (w : World) → IsKnownWorld publics tasks w → (event : Event) (next : World) → IsKnownWorld publics tasks next → IsStepOf value w event next
       → EndsSoFar publics tasks w → EndsSoFar publics tasks next
   ends_next w known event next known_next step old =
       let sends = sends_fit w known event next step in
-      let goals = goals_next value publics tasks agree limits team w next known known_next event step old.goals in
-      let comes = event_comes value publics tasks agree limits team w next known known_next goals event step sends.fits old.stage old.is in
+      let goals = goals_next value publics tasks is_team.tasks of_team w next known known_next event step old.goals in
+      let comes = event_comes value publics tasks is_team.tasks of_team w next known known_next goals event step sends.fits old.stage old.is in
       record {
         stage = comes.stage;
         is = comes.is;
-        read = read_next value publics tasks team w known.team event next step comes.fits old.read;
+        read = read_next value publics tasks of_team w known.team event next step comes.fits old.read;
         goals = goals;
-        reports = reports_next value publics tasks team w known.team old.reports next event step sends;
+        reports = reports_next value publics tasks of_team w known.team old.reports next event step sends;
       }
 
-  pub ends_so_far : (schedule : List Event) (w : World) → run value limit tasks schedule ≡ Some w → EndsSoFar publics tasks w
+  pub ends_so_far : (schedule : List Event) (w : World) → run team schedule ≡ Some w → EndsSoFar publics tasks w
   ends_so_far schedule w ran =
-      (run_keeps_history (after_event value) (λ past v. (run value limit tasks past ≡ Some v) × EndsSoFar publics tasks v)
+      (run_keeps_history (after_event value) (λ past v. (run team past ≡ Some v) × EndsSoFar publics tasks v)
       (λ past v next event both leads.
       let known = known_of past v both.0 in
-      let now : run value limit tasks (past ++ event ∷ []) ≡ Some next =
+      let now : run team (past ++ event ∷ []) ≡ Some next =
       run-more (after_event value) begin past event ∙ ap (λ (o : Option World). option_and_then (λ t. after_event value t event) o) both.0 ∙ leads in
       (now, ends_next v known event next (known_of (past ++ event ∷ []) next now) (event_is_step value v (team_lists tasks v known.team) event next leads) both.1))
       [] schedule begin w (run-none (after_event value) begin, start_ends) ran).1

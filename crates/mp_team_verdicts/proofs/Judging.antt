@@ -5,10 +5,7 @@ use Rattle.std.specs.Option.{option_map_or}
 use Rattle.std.proofs.lemmas.Bool.{eqb-false, eqb-true}
 use Rattle.std.proofs.lemmas.List.Elements.{All-weaker}
 use Rattle.std.proofs.lemmas.Option.{same_Some}
-use Rattle.mp_sets.specs.Numbers.{Numbers}
-use Rattle.mp_task.specs.Agree.{Agree}
 use Rattle.mp_task.specs.AgentTask.{AgentTask}
-use Rattle.mp_task.specs.Limits.{IsWithinLimits}
 use Rattle.mp_task.specs.Plan.{TaskStep}
 use Rattle.mp_messages.specs.declared.history.Event.{Event}
 use Rattle.mp_messages.specs.declared.message.EndKind.{EndKind}
@@ -28,6 +25,8 @@ use Rattle.mp_machine.specs.Verdicts.{is_deciding}
 use Rattle.mp_machine.specs.WalkingBack.{walked, walked_from_goal}
 use Rattle.mp_world.specs.Events.{agent_of}
 use Rattle.mp_world.specs.Steps.{IsStepOf}
+use Rattle.mp_world.specs.Team.{AreTeamTasks}
+use Rattle.mp_world.specs.Values.{Values}
 use Rattle.mp_world.specs.World.{World, agent_at}
 use Rattle.mp_world.proofs.Agents.{member_of}
 use Rattle.mp_team_snapshots.specs.Snapshots.{one_if_due}
@@ -81,7 +80,7 @@ plan_there publics tasks team w known goals first agent cost there given =
       agent_is = refl;
     }
 
-module _ (value : AgentTask → Numbers → Numbers → Option ℕ) (publics : ℕ) (tasks : List AgentTask) (agree : Agree tasks) (limits : All IsWithinLimits tasks)
+module _ (value : Values) (publics : ℕ) (tasks : List AgentTask) (are : AreTeamTasks tasks)
     (team : IsTeamOf publics tasks) (w next : World) (known : IsKnownWorld publics tasks w) (known_next : IsKnownWorld publics tasks next) (event : Event)
     (step : IsStepOf value w event next) (room : All (λ x. HasRoom x.message) step.step.out)
     (goals_next : (i : ℕ) (r : AgentRecord) → agent_at next i ≡ Some r → NotesItsGoal r)
@@ -125,7 +124,7 @@ module _ (value : AgentTask → Numbers → Numbers → Option ℕ) (publics : �
       let out_is : step.step.out ≡ judges.first = ap (λ (s : Step). s.out) (sym is) ∙ append-nil judges.first in
       let after : step.step.after ≡ judges.before = ap (λ (s : Step). s.after) (sym is) in
       let silent : HasNoEnds step.step.out = subst HasNoEnds (sym out_is) judges.silent in
-      let fits = team_fits value publics tasks agree limits team w next known known_next event step room (subst (λ (out : List Outgoing). All (λ y. HasEndRoom y.message) out) (sym out_is) first_room) in
+      let fits = team_fits value publics tasks are team w next known known_next event step room (subst (λ (out : List Outgoing). All (λ y. HasEndRoom y.message) out) (sym out_is) first_room) in
       record {
         stage = searching;
         is = record {
@@ -158,7 +157,7 @@ module _ (value : AgentTask → Numbers → Numbers → Option ℕ) (publics : �
       let after : step.step.after ≡ record judges.before { ending = ended } = ap (λ (s : Step). s.after) (sym is) in
       let agents_is = ap (λ (t : AgentTask). t.agents) judges.task ∙ (member_of tasks team.numbered w known.team (agent_of event) step.agent step.there).agents in
       let over_now = ap (λ (y : AgentRecord). is_going y.ending) after ∙ stopped in
-      all_told value publics tasks agree limits team w next known known_next event step room judges.first judges.silent none step.step.after one_there
+      all_told value publics tasks are team w next known known_next event step room judges.first judges.silent none step.step.after one_there
       (without_plan kind) (Done kind) tt
       (record { verdict = ap end_by verdict_after ∙ decided; teller = record { who = step.step.after; there = one_there; ended = over_now } })
       (subst (EndsWithout kind) (sym after)
@@ -179,7 +178,7 @@ module _ (value : AgentTask → Numbers → Numbers → Option ℕ) (publics : �
       let after : step.step.after ≡ judges.before = ap (λ (s : Step). s.after) (sym is) in
       let small : number < 2 ^ 60 = subst (λ (r : AgentRecord). r.snapshot.number < 2 ^ 60) after (known_next.in_runs.room 1 step.step.after one_there).number in
       let has = plan_there publics tasks team next known_next goals_next step.step.after agent cost one_there (verdict_after ∙ given) in
-      one_told value publics tasks agree limits team w next known known_next event step room judges.first judges.silent none step.step.after one_there
+      one_told value publics tasks are team w next known known_next event step room judges.first judges.silent none step.step.after one_there
       (picking agent number has.plan) (Pick number) small
       (record {
         proved = has.proved;
@@ -204,7 +203,7 @@ module _ (value : AgentTask → Numbers → Numbers → Option ℕ) (publics : �
       sym keeps.goal ∙ ap (λ (s : Step). s.after.goal) judges.is ∙ ap (λ (r : AgentRecord). r.goal) (sym who) ∙ p.goal.noted in
       let starts : after_sending judges.first (walked judges.before p.number 0) ≡ step.step =
       ap (λ (o : Option ℕ). after_sending judges.first (option_map_or (λ entry. walked judges.before entry 0) o (without_messages judges.before))) (sym goal) ∙ is in
-      walk_comes value publics tasks agree limits team w next known known_next event step room judges.before p.number has.plan [] judges.first judges.silent
+      walk_comes value publics tasks are team w next known known_next event step room judges.before p.number has.plan [] judges.first judges.silent
       starts judges.task (idle_before.walked.trail ∙ notes_none judges.before.task.me ∙ sym (notes_none (agent_of event))) idle_before.walked.going
       (λ i x there other. (agents i x there).walked) none step.step.after one_there
       (subst (IsProved next step.step.after) (sym (append-nil has.plan)) p)

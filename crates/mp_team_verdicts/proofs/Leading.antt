@@ -1,13 +1,9 @@
 -- A legal event leads to a world.
-use Rattle.std.proofs.Common.{◌≡◌, ◌≢◌, ◌≤◌, ℕ, true, false, List, [], ◌∷◌, length, drop, Option, Some, None, All, refl, ap, ◌∙◌}
+use Rattle.std.proofs.Common.{◌≡◌, ◌≢◌, ℕ, true, false, List, [], ◌∷◌, length, drop, Option, Some, None, refl, ap, ◌∙◌}
 use Rattle.std.specs.Prelude.{Ok, ◌==◌, if◌then◌else◌, not, option_and_then, slice_index_or}
 use Rattle.std.specs.Option.{option_map_or}
 use Rattle.std.proofs.lemmas.Bool.{and_parts, false≢true}
-use Rattle.std.proofs.lemmas.List.Elements.{All-contains}
-use Rattle.mp_sets.specs.Numbers.{Numbers}
-use Rattle.mp_task.specs.Agree.{Agree}
 use Rattle.mp_task.specs.AgentTask.{AgentTask}
-use Rattle.mp_task.specs.Limits.{IsWithinLimits}
 use Rattle.mp_messages.specs.declared.history.Event.{Event}
 use Rattle.mp_messages.specs.declared.history.Event.TheVariants.{Expand, Take, Start}
 use Rattle.mp_search.specs.Expansion.{expanded}
@@ -18,11 +14,13 @@ use Rattle.mp_machine.specs.Outgoing.{Step}
 use Rattle.mp_machine.specs.Snapshots.{started}
 use Rattle.mp_machine.specs.Taking.{took}
 use Rattle.mp_world.specs.Events.{after_event, after_local, agent_may, agent_of, has_message, if_good, is_legal, local_of, local_step, run}
+use Rattle.mp_world.specs.Team.{AreTeamTasks, IsTeam, Team}
+use Rattle.mp_world.specs.Values.{Values}
 use Rattle.mp_world.specs.World.{IsAgent, World, agent_at, under_way}
 use Rattle.mp_world.proofs.Agents.{agree_numbered, member_of, sender_of}
 use Rattle.mp_world.proofs.Runs.{run_of_team}
 use Rattle.mp_team_snapshots.specs.Team.{IsTeamOf}
-use Rattle.mp_team_snapshots.proofs.Agreeing.{agreeing_team}
+use Rattle.mp_team_snapshots.proofs.Agreeing.{are_of_team}
 use Rattle.mp_team_verdicts.proofs.Frames.{IsKnownWorld}
 use Rattle.mp_team_verdicts.proofs.GoodMessages.{is_good}
 use Rattle.mp_team_verdicts.proofs.InRuns.{EndsSoFar, ends_so_far, known_of}
@@ -41,7 +39,7 @@ may_there w event = by (agent_at w (agent_of event)) refl
     by None there is = absurd (false≢true is)
     by (Some r) there is = (r, there, is)
 
-module _ (value : AgentTask → Numbers → Numbers → Option ℕ) (publics : ℕ) (tasks : List AgentTask) (agree : Agree tasks) (limits : All IsWithinLimits tasks)
+module _ (value : Values) (publics : ℕ) (tasks : List AgentTask) (are : AreTeamTasks tasks)
     (team : IsTeamOf publics tasks) (w : World) (known : IsKnownWorld publics tasks w) (ends : EndsSoFar publics tasks w) where
   -- the agent takes a step
   takes : (event : Event) (r : AgentRecord) → agent_at w (agent_of event) ≡ Some r → may r (local_of event) ≡ true → has_message w event ≡ true
@@ -51,7 +49,7 @@ module _ (value : AgentTask → Numbers → Numbers → Option ℕ) (publics : �
   takes (Take b a) r there allowed some =
       let sender = sender_of tasks team.numbered w known.team b a r there allowed in
       let going = (and_parts (is_going r.ending) (may_now r (locals.Take a)) allowed).0 in
-      is_good publics tasks agree limits team w known ends a b sender.0 sender.1 r there going (value r.task)
+      is_good publics tasks are team w known ends a b sender.0 sender.1 r there going (value r.task)
       (slice_index_or (under_way w a b) 0 []) (drop 1 (under_way w a b)) (front_of (under_way w a b) some)
 
   pub leads_on : (event : Event) → is_legal w event ≡ true → (next : World) × (after_event value w event ≡ Some next)
@@ -67,26 +65,27 @@ module _ (value : AgentTask → Numbers → Numbers → Option ℕ) (publics : �
 
 -- ---- in all runs
 
-module _ (value : AgentTask → Numbers → Numbers → Option ℕ) (limit : ℕ) (tasks : List AgentTask) (agree : Agree tasks) (limits : All IsWithinLimits tasks)
-    (most : limit ≤ 10000000) (schedule : List Event) (w : World) (ran : run value limit tasks schedule ≡ Some w) where
+module _ (team : Team) (is_team : IsTeam team) (schedule : List Event) (w : World) (ran : run team schedule ≡ Some w) where
+  open team use {tasks, value}
+
   -- the team of an agent
-  team_with : (i : ℕ) (r : AgentRecord) → agent_at w i ≡ Some r → IsTeamOf r.task.publics tasks
-  team_with i r there =
-      let member = (member_of tasks (agree_numbered tasks agree) w (run_of_team value limit tasks schedule w ran) i r there).task in
-      agreeing_team tasks r.task agree member (All-contains IsWithinLimits tasks r.task limits member)
+  team_of_agent : (i : ℕ) (r : AgentRecord) → agent_at w i ≡ Some r → IsTeamOf r.task.publics tasks
+  team_of_agent i r there =
+      let member = (member_of tasks (agree_numbered tasks is_team.tasks.agree) w (run_of_team team schedule w ran) i r there).task in
+      are_of_team tasks r.task is_team.tasks member
 
   pub good_in_runs : (a b : ℕ) (r : AgentRecord) (bytes : List ℕ) (later : List (List ℕ)) → IsAgent w a → a ≢ b → agent_at w b ≡ Some r → is_going r.ending ≡ true
       → under_way w a b ≡ bytes ∷ later → (s : Step) × (took (value r.task) r a bytes ≡ Ok s)
   good_in_runs a b r bytes later sender apart there going front =
-      let team = team_with b r there in
+      let of_team = team_of_agent b r there in
       let publics = r.task.publics in
-      is_good publics tasks agree limits team w (known_of value limit publics tasks agree limits most team schedule w ran)
-      (ends_so_far value limit publics tasks agree limits most team schedule w ran) a b sender apart r there going (value r.task) bytes later front
+      is_good publics tasks is_team.tasks of_team w (known_of team is_team publics of_team schedule w ran)
+      (ends_so_far team is_team publics of_team schedule w ran) a b sender apart r there going (value r.task) bytes later front
 
   pub leads_in_runs : (event : Event) → is_legal w event ≡ true → (next : World) × (after_event value w event ≡ Some next)
   leads_in_runs event legal =
       let found = may_there w event (and_parts (agent_may w event) (has_message w event) legal).0 in
-      let team = team_with (agent_of event) found.0 found.1 in
+      let of_team = team_of_agent (agent_of event) found.0 found.1 in
       let publics = found.0.task.publics in
-      leads_on value publics tasks agree limits team w (known_of value limit publics tasks agree limits most team schedule w ran)
-      (ends_so_far value limit publics tasks agree limits most team schedule w ran) event legal
+      leads_on value publics tasks is_team.tasks of_team w (known_of team is_team publics of_team schedule w ran)
+      (ends_so_far team is_team publics of_team schedule w ran) event legal

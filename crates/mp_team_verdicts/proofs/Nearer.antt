@@ -1,12 +1,9 @@
 -- With each round the end of a decided search comes nearer.
-use Rattle.std.proofs.Common.{◌≡◌, ◌≢◌, ℕ, suc, ◌+◌, ◌*◌, ◌≤◌, ◌^◌, Bool, true, false, ◌&&◌, List, [], ◌∷◌, length, Option, Some, All, refl, sym, ap, subst, ◌∙◌, arith, ◌⊎◌, inl, inr}
+use Rattle.std.proofs.Common.{◌≡◌, ◌≢◌, ℕ, suc, ◌+◌, ◌*◌, ◌≤◌, ◌^◌, Bool, true, false, ◌&&◌, List, [], ◌∷◌, length, Option, Some, refl, sym, ap, subst, ◌∙◌, arith, ◌⊎◌, inl, inr}
 use Rattle.std.specs.Prelude.{◌==◌, Ok, filter}
 use Rattle.std.proofs.lemmas.Bool.{and_from, cases_eq, eq-eqb, false≢true}
 use Rattle.std.proofs.lemmas.Option.{same_Some}
 use Rattle.mp_sets.specs.Numbers.{Numbers}
-use Rattle.mp_task.specs.Agree.{Agree}
-use Rattle.mp_task.specs.AgentTask.{AgentTask}
-use Rattle.mp_task.specs.Limits.{IsWithinLimits}
 use Rattle.mp_messages.specs.declared.history.Event.{Event}
 use Rattle.mp_messages.specs.declared.history.Event.TheVariants.{Take}
 use Rattle.mp_messages.specs.declared.message.Message.{Message}
@@ -18,6 +15,7 @@ use Rattle.mp_machine.specs.Verdicts.{is_deciding}
 use Rattle.mp_world.specs.Events.{is_legal}
 use Rattle.mp_world.specs.RoundRobin.{Round, is_over}
 use Rattle.mp_world.specs.Steps.{IsStepOf}
+use Rattle.mp_world.specs.Team.{IsTeam, Team}
 use Rattle.mp_world.specs.World.{World, agent_at}
 use Rattle.mp_world.proofs.Agents.{agent_there}
 use Rattle.mp_team_snapshots.specs.Snapshots.{one_if_due}
@@ -72,42 +70,42 @@ ends_by value r from m s last took =
       done = λ kind first last. ended_kind kind;
     }) m s took last
 
-module _ (value : AgentTask → Numbers → Numbers → Option ℕ) (limit publics : ℕ) (tasks : List AgentTask)
-    (agree : Agree tasks) (limits : All IsWithinLimits tasks) (most : limit ≤ 10000000)
-    (team : IsTeamOf publics tasks) where
+module _ (team : Team) (is_team : IsTeam team) (publics : ℕ) (of_team : IsTeamOf publics team.tasks) where
+  open team use {tasks, value}
+
   abbrev n : ℕ
   n = length tasks
 
   abbrev At : World → Type 0
-  At = Reached value limit publics tasks agree limits most team
+  At = Reached team is_team publics of_team
 
   abbrev Near : World → ℕ → Type 0
   Near = IsNear n publics
 
   is_known : (w : World) → At w → IsKnownWorld publics tasks w
-  is_known = known value limit publics tasks agree limits most team
+  is_known = known team is_team publics of_team
 
   ends_of : (w : World) → At w → EndsSoFar publics tasks w
-  ends_of w at = ends value limit publics tasks agree limits most team w at
+  ends_of w at = ends team is_team publics of_team w at
 
   one : (w : World) → At w → IsOf n 1
-  one w at = is_first value limit publics tasks agree limits most team w at
+  one w at = is_first team is_team publics of_team w at
 
   stays_ended : (v next : World) (event : Event) → At v → At next → IsStepOf value v event next → (i : ℕ) → HasEnded v i → HasEnded next i
-  stays_ended v next event at at_next step i ended = ended_stays value publics tasks team v (is_known v at).team event next step i ended
+  stays_ended v next event at at_next step i ended = ended_stays value publics tasks of_team v (is_known v at).team event next step i ended
 
   -- an agent that goes on takes what waits
   module _ (v : World) (at : At v) (from to : ℕ) (of_from : IsOf n from) (of_to : IsOf n to) (apart : from ≢ to) (m : Message)
       (waits : end_messages publics v from to ≡ m ∷ []) (illegal : is_legal v (Take to from) ≡ false) where
     taker : (r : AgentRecord) × (agent_at v to ≡ Some r)
-    taker = agent_there v to (is_agent value limit publics tasks agree limits most team v at to of_to)
+    taker = agent_there v to (is_agent team is_team publics of_team v at to of_to)
 
     pub takes_it : (r : AgentRecord) → agent_at v to ≡ Some r → is_going r.ending ≡ true → ⊥
     takes_it r there going =
         let none = nothing_left v from to r there going
-        (another_at value limit publics tasks agree limits most team v at from to r there of_from apart) illegal in
+        (another_at team is_team publics of_team v at from to r there of_from apart) illegal in
         no_item m []
-        (sym (ap (filter is_of_end) (no_messages value limit publics tasks agree limits most team v at from to none)) ∙ waits)
+        (sym (ap (filter is_of_end) (no_messages team is_team publics of_team v at from to none)) ∙ waits)
 
     -- it goes on, where what waits is no last message
     module _ (not_last : IsLast m → ⊥) where
@@ -125,7 +123,7 @@ module _ (value : AgentTask → Numbers → Numbers → Option ℕ) (limit publi
           let e = ends_of v at in
           takes_it taker.0 taker.1
           (goes_on e.stage e.is
-          (sym (e.is.mail from to taker.0 (is_agent value limit publics tasks agree limits most team v at from of_from) taker.1) ∙ waits))
+          (sym (e.is.mail from to taker.0 (is_agent team is_team publics of_team v at from of_from) taker.1) ∙ waits))
 
   -- ---- all end where one has ended
 
@@ -141,21 +139,21 @@ module _ (value : AgentTask → Numbers → Numbers → Option ℕ) (limit publi
   to_end_on : (v next : World) (event : Event) → At v → At next → IsStepOf value v event next → (teller j : ℕ) → IsOf n teller → IsOf n j
       → IsToEnd v teller j → IsToEnd next teller j ⊎ HasEnded next j
   to_end_on v next event at at_next step teller j of_teller of_j to_end =
-      by (is_going later.0.ending) refl (left_or_taken value limit publics tasks agree limits most team v next event at at_next step teller j of_teller of_j)
+      by (is_going later.0.ending) refl (left_or_taken team is_team publics of_team v next event at at_next step teller j of_teller of_j)
     where
       later : (r : AgentRecord) × (agent_at next j ≡ Some r)
-      later = agent_there next j (is_agent value limit publics tasks agree limits most team next at_next j of_j)
+      later = agent_there next j (is_agent team is_team publics of_team next at_next j of_j)
 
       by : (g : Bool) → is_going later.0.ending ≡ g
-          → (left_of value limit publics tasks agree limits most team v next event at at_next step teller j ≡ end_messages publics v teller j)
-          ⊎ TakesEnd value limit publics tasks agree limits most team v next event at at_next step teller j
+          → (left_of team is_team publics of_team v next event at at_next step teller j ≡ end_messages publics v teller j)
+          ⊎ TakesEnd team is_team publics of_team v next event at at_next step teller j
           → IsToEnd next teller j ⊎ HasEnded next j
       by false test what = inr (record { who = later.0; there = later.1; ended = test })
       by true test (inl kept) = inl (record {
         message = to_end.message;
         last = to_end.last;
         waits =
-            still_waits value limit publics tasks agree limits most team v next event at at_next step teller j of_teller of_j
+            still_waits team is_team publics of_team v next event at at_next step teller j of_teller of_j
             to_end.message to_end.waits kept;
         who = later.0;
         there = later.1;
@@ -174,7 +172,7 @@ module _ (value : AgentTask → Numbers → Numbers → Option ℕ) (limit publi
     -- an agent for which a last message waits, if it goes on, has ended after the round
     one_ends : (teller j : ℕ) → IsOf n teller → IsOf n j → teller ≢ j → IsToEnd w teller j ⊎ HasEnded w j → HasEnded next j
     one_ends teller j of_teller of_j apart now =
-        round_turns value limit publics tasks agree limits most team (λ v. IsToEnd v teller j) (λ v. HasEnded v j)
+        round_turns team is_team publics of_team (λ v. IsToEnd v teller j) (λ v. HasEnded v j)
         (λ v later event at_v at_later step to_end. to_end_on v later event at_v at_later step teller j of_teller of_j to_end)
         (λ v later event at_v at_later step ended. stays_ended v later event at_v at_later step j ended)
         teller j of_teller of_j apart
@@ -185,7 +183,7 @@ module _ (value : AgentTask → Numbers → Numbers → Option ℕ) (limit publi
     -- the one that has ended stays so
     itself_ends : (i : ℕ) → HasEnded w i → HasEnded next i
     itself_ends i ended =
-        (onward value limit publics tasks agree limits most team (λ event. true) (λ v. HasEnded v i)
+        (onward team is_team publics of_team (λ event. true) (λ v. HasEnded v i)
         (λ v event later at_v at_later step pass old. stays_ended v later event at_v at_later step i old)
         events w next at ended (all_pass events) (round_runs value n w next events round)).1
 
@@ -196,7 +194,7 @@ module _ (value : AgentTask → Numbers → Numbers → Option ℕ) (limit publi
         by true test = test
         by false test =
             let goes = one_goes next.agents test in
-            let e = each (suc goes.place) (of_there value limit publics tasks agree limits most team next at_next (suc goes.place) goes.who goes.there) in
+            let e = each (suc goes.place) (of_there team is_team publics of_team next at_next (suc goes.place) goes.who goes.there) in
             absurd (false≢true (sym e.ended
             ∙ ap (λ (r : AgentRecord). is_going r.ending) (same_Some e.who goes.who (sym e.there ∙ goes.there)) ∙ goes.going))
 
@@ -207,7 +205,7 @@ module _ (value : AgentTask → Numbers → Numbers → Option ℕ) (limit publi
     all_from teller m last ended tells = all_ended (λ j of_j. each j of_j (cases_eq teller j))
       where
         of_teller : IsOf n teller
-        of_teller = of_there value limit publics tasks agree limits most team w at teller ended.who ended.there
+        of_teller = of_there team is_team publics of_team w at teller ended.who ended.there
 
         now : (j : ℕ) (r : AgentRecord) → agent_at w j ≡ Some r → (g : Bool) → is_going r.ending ≡ g → IsToEnd w teller j ⊎ HasEnded w j
         now j r there true going = inl (record {
@@ -223,7 +221,7 @@ module _ (value : AgentTask → Numbers → Numbers → Option ℕ) (limit publi
         each : (j : ℕ) → IsOf n j → (teller ≡ j) ⊎ (teller ≡ j → ⊥) → HasEnded next j
         each j of_j (inl same) = subst (λ (k : ℕ). HasEnded next k) same (itself_ends teller ended)
         each j of_j (inr other) =
-            let x = agent_there w j (is_agent value limit publics tasks agree limits most team w at j of_j) in
+            let x = agent_there w j (is_agent team is_team publics of_team w at j of_j) in
             one_ends teller j of_teller of_j other (now j x.0 x.1 (is_going x.0.ending) refl)
 
     -- once one has ended, all have after the round
@@ -247,25 +245,25 @@ module _ (value : AgentTask → Numbers → Numbers → Option ℕ) (limit publi
         by (without_plan kind) a =
             all_from 1 (Done kind) tt a.verdict.teller
             (λ j r there going.
-            a.mail 1 j r (is_agent value limit publics tasks agree limits most team w at 1 (one w at)) there
+            a.mail 1 j r (is_agent team is_team publics of_team w at 1 (one w at)) there
             ∙ told_of 1 (is_going r.ending) (Done kind) going)
         by (over teller plan) a =
             let t = a.verdict.teller in
             all_from teller (Length (length plan)) tt t
             (λ j r there going.
             a.mail teller j r
-            (is_agent value limit publics tasks agree limits most team w at teller
-            (of_there value limit publics tasks agree limits most team w at teller t.who t.there)) there
+            (is_agent team is_team publics of_team w at teller
+            (of_there team is_team publics of_team w at teller t.who t.there)) there
             ∙ told_of teller (is_going r.ending) (Length (length plan)) going)
 
     -- all have ended after the round, or the end is nearer by a round
     pub near_round : (rounds : ℕ) → Near w (suc rounds) → (is_over next ≡ true) ⊎ Near next rounds
     near_round rounds (told agent ended some) = inl (over_after agent ended)
     near_round rounds (asked from to messages asks enough) =
-        inr (round_turns value limit publics tasks agree limits most team (λ v. IsAsked n publics v from to messages) (λ v. Near v rounds)
+        inr (round_turns team is_team publics of_team (λ v. IsAsked n publics v from to messages) (λ v. Near v rounds)
         (λ v later event at_v at_later step is.
-        nearer later (asked_on value limit publics tasks agree limits most team v later event at_v at_later step from to messages is))
-        (λ v later event at_v at_later step near. near_next value limit publics tasks agree limits most team v later event at_v at_later step rounds near)
+        nearer later (asked_on team is_team publics of_team v later event at_v at_later step from to messages is))
+        (λ v later event at_v at_later step near. near_next team is_team publics of_team v later event at_v at_later step rounds near)
         from to asks.of_from asks.of_to asks.apart
         (λ v at_v is illegal.
         never_left v at_v from to is.of_from is.of_to is.apart (Trace is.sent is.back) is.waits illegal (λ last. last))
@@ -276,10 +274,10 @@ module _ (value : AgentTask → Numbers → Numbers → Option ℕ) (limit publi
         nearer v (inl still) = inl still
         nearer v (inr near) = inr (near rounds enough)
     near_round rounds (chosen to pick enough) =
-        inr (round_turns value limit publics tasks agree limits most team (λ v. IsPickedOut n publics v to) (λ v. Near v rounds)
+        inr (round_turns team is_team publics of_team (λ v. IsPickedOut n publics v to) (λ v. Near v rounds)
         (λ v later event at_v at_later step is.
-        nearer later (picked_on value limit publics tasks agree limits most team v later event at_v at_later step to is))
-        (λ v later event at_v at_later step near. near_next value limit publics tasks agree limits most team v later event at_v at_later step rounds near)
+        nearer later (picked_on team is_team publics of_team v later event at_v at_later step to is))
+        (λ v later event at_v at_later step near. near_next team is_team publics of_team v later event at_v at_later step rounds near)
         1 to (one w at) pick.of_to pick.apart
         (λ v at_v is illegal.
         never_left v at_v 1 to (one v at_v) is.of_to is.apart (Pick is.number) is.waits illegal (λ last. last))
@@ -313,11 +311,11 @@ module _ (value : AgentTask → Numbers → Numbers → Option ℕ) (limit publi
           let here : agent_at w agent ≡ Some p.picked = sym (ap (agent_at w) a.verdict.agent_is) ∙ p.there in
           chosen agent
           (record {
-            of_to = of_there value limit publics tasks agree limits most team w at agent p.picked here;
+            of_to = of_there team is_team publics of_team w at agent p.picked here;
             apart = λ same. a.verdict.other (sym same);
             number = number;
             waits =
-                a.mail 1 agent p.picked (is_agent value limit publics tasks agree limits most team w at 1 (one w at)) here
+                a.mail 1 agent p.picked (is_agent team is_team publics of_team w at 1 (one w at)) here
                 ∙ ap (λ (t : Bool). one_if_due t (Pick number)) (both_same 1 agent);
           }) (omega arith)
       by (walking from to sent earlier later) a =
@@ -325,12 +323,12 @@ module _ (value : AgentTask → Numbers → Numbers → Option ℕ) (limit publi
           let k = is_known w at in
           let entry = path_entry w to next.number earlier next.path in
           let h = has_it w to next.number entry.0 entry.1 in
-          let way = path_over w (records_sound tasks agree limits w k.team k.so_far.sound) to next.number earlier next.path in
-          let few = few_messages value limit publics tasks agree limits most team w at to next.number way.0 way.1 in
+          let way = path_over w (records_sound tasks is_team.tasks w k.team k.so_far.sound) to next.number earlier next.path in
+          let few = few_messages team is_team publics of_team w at to next.number way.0 way.1 in
           asked from to way.0
           (record {
-            of_from = is_of_agent publics tasks team w (team_numbers publics tasks team w k.team) from a.verdict.sender;
-            of_to = of_there value limit publics tasks agree limits most team w at to h.agent_is h.there;
+            of_from = is_of_agent publics tasks of_team w (team_numbers publics tasks of_team w k.team) from a.verdict.sender;
+            of_to = of_there team is_team publics of_team w at to h.agent_is h.there;
             apart = λ same. a.verdict.apart (sym same);
             sent = sent;
             back = length later;

@@ -1,13 +1,9 @@
 -- The end of a search comes nearer: a message of it is taken, and what the agent does by it.
-use Rattle.std.proofs.Common.{◌≡◌, ◌≢◌, ℕ, suc, ◌+◌, ◌*◌, ◌≤◌, ◌^◌, Bool, true, List, [], ◌∷◌, ◌++◌, length, Option, Some, None, All, refl, sym, ap, subst, ◌∙◌, arith, ◌⊎◌, inl, inr}
+use Rattle.std.proofs.Common.{◌≡◌, ◌≢◌, ℕ, suc, ◌+◌, ◌*◌, ◌≤◌, ◌^◌, Bool, true, List, [], ◌∷◌, ◌++◌, length, Option, Some, None, refl, sym, ap, subst, ◌∙◌, arith, ◌⊎◌, inl, inr}
 use Rattle.std.specs.Prelude.{IsSomeAnd, Ok, Err, if◌then◌else◌}
 use Rattle.std.specs.Option.{option_map_or}
 use Rattle.std.proofs.lemmas.Bool.{eq-eqb}
 use Rattle.std.proofs.lemmas.Option.{same_Some}
-use Rattle.mp_sets.specs.Numbers.{Numbers}
-use Rattle.mp_task.specs.Agree.{Agree}
-use Rattle.mp_task.specs.AgentTask.{AgentTask}
-use Rattle.mp_task.specs.Limits.{IsWithinLimits}
 use Rattle.mp_task.specs.Plan.{TaskStep}
 use Rattle.mp_messages.specs.declared.history.Event.{Event}
 use Rattle.mp_messages.specs.declared.message.Message.{Message}
@@ -24,6 +20,7 @@ use Rattle.mp_machine.specs.Taking.{is_strange_pick, is_strange_trace, took_mess
 use Rattle.mp_machine.specs.WalkingBack.{arrived, walked, walked_from_goal}
 use Rattle.mp_world.specs.Events.{agent_of}
 use Rattle.mp_world.specs.Steps.{IsStepOf}
+use Rattle.mp_world.specs.Team.{IsTeam, Team}
 use Rattle.mp_world.specs.World.{World, agent_at}
 use Rattle.mp_world.proofs.LocalCases.{good_step}
 use Rattle.mp_team_snapshots.specs.Snapshots.{one_if_due}
@@ -86,20 +83,20 @@ sent_by w agent sent number is = by (agent_at w agent) refl is
     by None there is = absurd is
     by (Some r) there is = (r, there)
 
-module _ (value : AgentTask → Numbers → Numbers → Option ℕ) (limit publics : ℕ) (tasks : List AgentTask)
-    (agree : Agree tasks) (limits : All IsWithinLimits tasks) (most : limit ≤ 10000000)
-    (team : IsTeamOf publics tasks) where
+module _ (team : Team) (is_team : IsTeam team) (publics : ℕ) (of_team : IsTeamOf publics team.tasks) where
+  open team use {tasks, value}
+
   abbrev n : ℕ
   n = length tasks
 
   abbrev At : World → Type 0
-  At = Reached value limit publics tasks agree limits most team
+  At = Reached team is_team publics of_team
 
   abbrev Near : World → ℕ → Type 0
   Near = IsNear n publics
 
   is_known : (w : World) → At w → IsKnownWorld publics tasks w
-  is_known = known value limit publics tasks agree limits most team
+  is_known = known team is_team publics of_team
 
   -- ---- an agent walks back
 
@@ -108,7 +105,7 @@ module _ (value : AgentTask → Numbers → Numbers → Option ℕ) (limit publi
     b = agent_of event
 
     of_b : IsOf n b
-    of_b = of_there value limit publics tasks agree limits most team next at_next b step.step.after step.after
+    of_b = of_there team is_team publics of_team next at_next b step.step.after step.after
 
     module _ (r : AgentRecord) (entry back messages rounds : ℕ) (is : walked r entry back ≡ step.step) (far : IsOver next b entry messages)
         (enough : messages + 1 ≤ rounds) where
@@ -118,7 +115,7 @@ module _ (value : AgentTask → Numbers → Numbers → Option ℕ) (limit publi
       away : EndsElsewhere b (walk r.search.kept entry back).end
       away =
           let k = is_known next at_next in
-          walk_elsewhere b step.step.after (k.hears b step.step.after step.after) ((team_numbers publics tasks team next k.team).me b step.step.after step.after)
+          walk_elsewhere b step.step.after (k.hears b step.step.after step.after) ((team_numbers publics tasks of_team next k.team).me b step.step.after step.after)
           r.search.kept (ap (λ (x : SearchRecord). x.kept) search) entry back
 
       -- another agent is asked
@@ -129,11 +126,11 @@ module _ (value : AgentTask → Numbers → Numbers → Option ℕ) (limit publi
           (ap (λ (x : SearchRecord). (walk x.kept entry back).end) search ∙ ends_at) in
           let one = later.one in
           let who = sent_by next sender sent later.there later.given in
-          let of_sender = of_there value limit publics tasks agree limits most team next at_next sender who.0 who.1 in
+          let of_sender = of_there team is_team publics of_team next at_next sender who.0 who.1 in
           let sent_to : ends_to sender step.step.out ≡ Trace sent count ∷ [] =
           ap (ends_to sender) out_is ∙ one_end sender (Trace sent count) refl sender
           ∙ ap (λ (t : Bool). one_if_due t (Trace sent count)) (eq-eqb sender sender refl) in
-          let rest = left_of value limit publics tasks agree limits most team w next event at at_next step b sender in
+          let rest = left_of team is_team publics of_team w next event at at_next step b sender in
           asked b sender later.fewer
           (record {
             of_from = of_b;
@@ -143,8 +140,8 @@ module _ (value : AgentTask → Numbers → Numbers → Option ℕ) (limit publi
             back = count;
             waits =
                 alone (end_messages publics next b sender) rest [] (Trace sent count)
-                (few_ends value limit publics tasks agree limits most team next at_next b sender of_b of_sender)
-                (ends_after value limit publics tasks agree limits most team w next event at at_next step b sender of_b of_sender
+                (few_ends team is_team publics of_team next at_next b sender of_b of_sender)
+                (ends_after team is_team publics of_team w next event at at_next step b sender of_b of_sender
                 ∙ (λ k. rest ++ (if eq-eqb b b refl k then sent_to k else [])));
             entry = later.there;
             given = later.given;
@@ -169,7 +166,7 @@ module _ (value : AgentTask → Numbers → Numbers → Option ℕ) (limit publi
     -- ---- an agent takes what it is asked
 
     asked_nears : (from to messages rounds : ℕ) → IsAsked n publics w from to messages → messages + 2 ≤ suc rounds
-        → TakesEnd value limit publics tasks agree limits most team w next event at at_next step from to → Near next rounds
+        → TakesEnd team is_team publics of_team w next event at at_next step from to → Near next rounds
     asked_nears from to messages rounds asks enough takes =
         let r = step.agent in
         let both = sym asks.waits ∙ takes.first in
@@ -188,7 +185,7 @@ module _ (value : AgentTask → Numbers → Numbers → Option ℕ) (limit publi
 
     -- the agent that is picked begins at the goal entry that it noted
     picked_nears : (to rounds : ℕ) → IsPickedOut n publics w to → 17 * 2 ^ 46 + 2 ≤ suc rounds
-        → TakesEnd value limit publics tasks agree limits most team w next event at at_next step 1 to → Near next rounds
+        → TakesEnd team is_team publics of_team w next event at at_next step 1 to → Near next rounds
     picked_nears to rounds pick enough takes =
         due_holds 1 to (is_going r.ending) [] (λ stage m. m ≡ Pick pick.number → IsAt publics w stage → Near next rounds) (record {
           done = λ kind one none same a. absurd (let impossible : ⊥ = cc in impossible);
@@ -198,7 +195,7 @@ module _ (value : AgentTask → Numbers → Numbers → Option ℕ) (limit publi
         }) e.stage (Pick pick.number) due_now refl e.is
       where
         e : EndsSoFar publics tasks w
-        e = ends value limit publics tasks agree limits most team w at
+        e = ends team is_team publics of_team w at
 
         r : AgentRecord
         r = step.agent
@@ -213,10 +210,10 @@ module _ (value : AgentTask → Numbers → Numbers → Option ℕ) (limit publi
             subst (λ (m : Message). took_message (value r.task) r 1 m ≡ Ok step.step) (sym same) takes.took
 
         due_now : due e.stage 1 to (is_going r.ending) ≡ Pick pick.number ∷ []
-        due_now = sym (e.is.mail 1 to r (is_agent value limit publics tasks agree limits most team w at 1 one) there) ∙ pick.waits
+        due_now = sym (e.is.mail 1 to r (is_agent team is_team publics of_team w at 1 one) there) ∙ pick.waits
           where
             one : IsOf n 1
-            one = is_first value limit publics tasks agree limits most team w at
+            one = is_first team is_team publics of_team w at
 
         walks : (agent number : ℕ) (plan : List TaskStep) → agent ≡ to → IsAt publics w (picking agent number plan) → Near next rounds
         walks agent number plan is_to a =
@@ -230,8 +227,8 @@ module _ (value : AgentTask → Numbers → Numbers → Option ℕ) (limit publi
             ap (λ (o : Option ℕ). option_map_or (λ entry. walked after entry 0) o (without_messages after)) (sym goal) ∙ good.1 in
             let k = is_known w at in
             let path : IsPath w to p.number plan = subst (λ (i : ℕ). IsPath w i p.number plan) agent_is p.path in
-            let way = path_over w (records_sound tasks agree limits w k.team k.so_far.sound) to p.number plan path in
-            let few = few_messages value limit publics tasks agree limits most team w at to p.number way.0 way.1 in
+            let way = path_over w (records_sound tasks is_team.tasks w k.team k.so_far.sound) to p.number plan path in
+            let few = few_messages team is_team publics of_team w at to p.number way.0 way.1 in
             let far : IsOver next b p.number way.0 =
             subst (λ (i : ℕ). IsOver next i p.number way.0) takes.agent_is
             (over_stays w next (step_grows value w next event step) to p.number way.0 way.1) in
@@ -243,10 +240,10 @@ module _ (value : AgentTask → Numbers → Numbers → Option ℕ) (limit publi
     pub asked_on : (from to messages : ℕ) → IsAsked n publics w from to messages
         → IsAsked n publics next from to messages ⊎ ((rounds : ℕ) → messages + 2 ≤ suc rounds → Near next rounds)
     asked_on from to messages asks =
-        by (left_or_taken value limit publics tasks agree limits most team w next event at at_next step from to asks.of_from asks.of_to)
+        by (left_or_taken team is_team publics of_team w next event at at_next step from to asks.of_from asks.of_to)
       where
-        by : (left_of value limit publics tasks agree limits most team w next event at at_next step from to ≡ end_messages publics w from to)
-            ⊎ TakesEnd value limit publics tasks agree limits most team w next event at at_next step from to
+        by : (left_of team is_team publics of_team w next event at at_next step from to ≡ end_messages publics w from to)
+            ⊎ TakesEnd team is_team publics of_team w next event at at_next step from to
             → IsAsked n publics next from to messages ⊎ ((rounds : ℕ) → messages + 2 ≤ suc rounds → Near next rounds)
         by (inl kept) = inl (record {
           of_from = asks.of_from;
@@ -255,7 +252,7 @@ module _ (value : AgentTask → Numbers → Numbers → Option ℕ) (limit publi
           sent = asks.sent;
           back = asks.back;
           waits =
-              still_waits value limit publics tasks agree limits most team w next event at at_next step from to asks.of_from asks.of_to
+              still_waits team is_team publics of_team w next event at at_next step from to asks.of_from asks.of_to
               (Trace asks.sent asks.back) asks.waits kept;
           entry = asks.entry;
           given = sent_at_stays w next (step_grows value w next event step) to asks.sent asks.entry asks.given;
@@ -266,20 +263,20 @@ module _ (value : AgentTask → Numbers → Numbers → Option ℕ) (limit publi
     pub picked_on : (to : ℕ) → IsPickedOut n publics w to
         → IsPickedOut n publics next to ⊎ ((rounds : ℕ) → 17 * 2 ^ 46 + 2 ≤ suc rounds → Near next rounds)
     picked_on to pick =
-        by (left_or_taken value limit publics tasks agree limits most team w next event at at_next step 1 to one pick.of_to)
+        by (left_or_taken team is_team publics of_team w next event at at_next step 1 to one pick.of_to)
       where
         one : IsOf n 1
-        one = is_first value limit publics tasks agree limits most team w at
+        one = is_first team is_team publics of_team w at
 
-        by : (left_of value limit publics tasks agree limits most team w next event at at_next step 1 to ≡ end_messages publics w 1 to)
-            ⊎ TakesEnd value limit publics tasks agree limits most team w next event at at_next step 1 to
+        by : (left_of team is_team publics of_team w next event at at_next step 1 to ≡ end_messages publics w 1 to)
+            ⊎ TakesEnd team is_team publics of_team w next event at at_next step 1 to
             → IsPickedOut n publics next to ⊎ ((rounds : ℕ) → 17 * 2 ^ 46 + 2 ≤ suc rounds → Near next rounds)
         by (inl kept) = inl (record {
           of_to = pick.of_to;
           apart = pick.apart;
           number = pick.number;
           waits =
-              still_waits value limit publics tasks agree limits most team w next event at at_next step 1 to one pick.of_to
+              still_waits team is_team publics of_team w next event at at_next step 1 to one pick.of_to
               (Pick pick.number) pick.waits kept;
         })
         by (inr takes) = inr (λ rounds enough. picked_nears to rounds pick enough takes)
@@ -287,7 +284,7 @@ module _ (value : AgentTask → Numbers → Numbers → Option ℕ) (limit publi
     -- the end does not get further away
     pub near_next : (rounds : ℕ) → Near w rounds → Near next rounds
     near_next rounds (told agent ended some) =
-        told agent (ended_stays value publics tasks team w (is_known w at).team event next step agent ended) some
+        told agent (ended_stays value publics tasks of_team w (is_known w at).team event next step agent ended) some
     near_next rounds (asked from to messages asks some) = by (asked_on from to messages asks)
       where
         by : IsAsked n publics next from to messages ⊎ ((rounds : ℕ) → messages + 2 ≤ suc rounds → Near next rounds) → Near next rounds

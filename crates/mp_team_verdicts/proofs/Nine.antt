@@ -1,11 +1,7 @@
 -- The search does not go on over nine rounds in which no agent expands.
-use Rattle.std.proofs.Common.{◌≡◌, ℕ, ◌+◌, ◌≤◌, ◌<◌, ◌^◌, Bool, true, List, ◌++◌, length, take, Option, Some, None, All, refl, sym, ap, ◌∙◌, arith, ◌⊎◌, inl, inr}
+use Rattle.std.proofs.Common.{◌≡◌, ℕ, ◌+◌, ◌≤◌, ◌<◌, ◌^◌, Bool, true, List, ◌++◌, length, take, Some, None, refl, sym, ap, ◌∙◌, arith, ◌⊎◌, inl, inr}
 use Rattle.std.specs.Prelude.{nat_lt, if◌then◌else◌}
 use Rattle.std.proofs.lemmas.Bool.{and_from, and_parts, cases_eq, false≢true, lt-ltb}
-use Rattle.mp_sets.specs.Numbers.{Numbers}
-use Rattle.mp_task.specs.Agree.{Agree}
-use Rattle.mp_task.specs.AgentTask.{AgentTask}
-use Rattle.mp_task.specs.Limits.{IsWithinLimits}
 use Rattle.mp_messages.specs.declared.history.Event.{Event}
 use Rattle.mp_messages.specs.declared.history.Event.TheVariants.{Expand, Take, Start}
 use Rattle.mp_messages.specs.declared.message.Message.{Message}
@@ -22,6 +18,7 @@ use Rattle.mp_machine.specs.Verdicts.{is_deciding}
 use Rattle.mp_machine.proofs.NotesLemmas.{given_at_first}
 use Rattle.mp_world.specs.Events.{agent_of, taken}
 use Rattle.mp_world.specs.Steps.{IsStepOf}
+use Rattle.mp_world.specs.Team.{IsTeam, Team}
 use Rattle.mp_world.specs.World.{World, agent_at}
 use Rattle.mp_world.proofs.Agents.{member_of}
 use Rattle.mp_team_snapshots.specs.Team.{IsTeamOf}
@@ -58,35 +55,35 @@ message_number r from (Trace sent back) s me effect = ap (λ (t : Notes). t.numb
 message_number r from (Length plan) s me effect = ap (λ (t : Notes). t.number) effect.snapshot
 message_number r from (Done kind) s me effect = ap (λ (t : Notes). t.number) effect.snapshot
 
-module _ (value : AgentTask → Numbers → Numbers → Option ℕ) (limit publics : ℕ) (tasks : List AgentTask)
-    (agree : Agree tasks) (limits : All IsWithinLimits tasks) (most : limit ≤ 10000000)
-    (team : IsTeamOf publics tasks) where
+module _ (team : Team) (is_team : IsTeam team) (publics : ℕ) (of_team : IsTeamOf publics team.tasks) where
+  open team use {tasks, value}
+
   abbrev n : ℕ
   n = length tasks
 
   abbrev At : World → Type 0
-  At = Reached value limit publics tasks agree limits most team
+  At = Reached team is_team publics of_team
 
   abbrev Leads : World → List Event → World → Type 0
-  Leads = Goes value limit publics tasks agree limits most team
+  Leads = Goes team is_team publics of_team
 
   abbrev Go : World → Type 0
-  Go = AllGo value limit publics tasks agree limits most team
+  Go = AllGo team is_team publics of_team
 
   abbrev Quiet : World → World → Type 0
-  Quiet = IsQuietRound value limit publics tasks agree limits most team
+  Quiet = IsQuietRound team is_team publics of_team
 
   abbrev num : World → ℕ → ℕ
-  num = number_at value limit publics tasks agree limits most team
+  num = number_at team is_team publics of_team
 
   is_known : (w : World) → At w → IsKnownWorld publics tasks w
-  is_known = known value limit publics tasks agree limits most team
+  is_known = known team is_team publics of_team
 
   seen : (w : World) → At w → Sound n (view publics w)
-  seen = sound_view value limit publics tasks agree limits most team
+  seen = sound_view team is_team publics of_team
 
   one : (w : World) → At w → IsOf n 1
-  one = is_first value limit publics tasks agree limits most team
+  one = is_first team is_team publics of_team
 
   -- In silence agent 1 starts no snapshot more once it has one that began in silence.
   abbrev IsLate : ℕ → ℕ → World → Type 0
@@ -99,45 +96,45 @@ module _ (value : AgentTask → Numbers → Numbers → Option ℕ) (limit publi
     same_number : (event : Event) (next : World) (step : IsStepOf value v event next) → 1 ≡ agent_of event
         → step.step.after.snapshot.number ≡ step.agent.snapshot.number
     same_number (Expand agent) next step is =
-        absurd (false≢true (quiet_in_silence value publics tasks team v (is_known v at).team (is_known v at).in_runs old.0 (Expand agent) next step))
+        absurd (false≢true (quiet_in_silence value publics tasks of_team v (is_known v at).team (is_known v at).in_runs old.0 (Expand agent) next step))
     same_number (Take b a) next step is =
-        let notes = its_notes value publics tasks team v (is_known v at).team (is_known v at).in_runs (Take b a) next step in
+        let notes = its_notes value publics tasks of_team v (is_known v at).team (is_known v at).in_runs (Take b a) next step in
         let took = took_effect (value step.agent.task) step.agent a (taken v (Take b a)) step.step step.local in
         message_number step.agent a took.message step.step (notes.me ∙ sym is) took.effect
     same_number Start next step is =
         let number = first_there step.agent step.there in
-        absurd (no_start value publics tasks team v (is_known v at).team (is_known v at).in_runs old.0 k old.1 step.agent step.there (omega arith) some
+        absurd (no_start value publics tasks of_team v (is_known v at).team (is_known v at).in_runs old.0 k old.1 step.agent step.there (omega arith) some
         (and_parts (is_going step.agent.ending) (may_start step.agent) step.may).1)
 
     late_next : (event : Event) (next : World) → IsStepOf value v event next → IsLate k m next
     late_next event next step = (
-      silent_next value publics tasks team v (is_known v at).team (is_known v at).in_runs old.0 event next step,
-      fresh_next value publics tasks team v (is_known v at).team (is_known v at).in_runs old.0 event next step k old.1,
+      silent_next value publics tasks of_team v (is_known v at).team (is_known v at).in_runs old.0 event next step,
+      fresh_next value publics tasks of_team v (is_known v at).team (is_known v at).in_runs old.0 event next step k old.1,
       by (cases_eq 1 (agent_of event)),
     )
       where
         by : (1 ≡ agent_of event) ⊎ (1 ≡ agent_of event → ⊥) → num next 1 ≡ m
         by (inl is) =
             ap (λ (i : ℕ). num next i) is
-            ∙ ap (λ (s : Notes). s.number) (note_after value publics tasks team v (is_known v at).team event next step)
+            ∙ ap (λ (s : Notes). s.number) (note_after value publics tasks of_team v (is_known v at).team event next step)
             ∙ same_number event next step is
             ∙ first_there step.agent (ap (agent_at v) is ∙ step.there)
         by (inr other) =
-            ap (λ (s : Notes). s.number) (note_other value publics tasks team v (is_known v at).team event next step 1 other) ∙ old.2
+            ap (λ (s : Notes). s.number) (note_other value publics tasks of_team v (is_known v at).team event next step 1 other) ∙ old.2
 
   late_on : (k m : ℕ) → 1 ≤ k → k ≤ m → (events : List Event) (u w : World) → At u → Leads u events w → IsLate k m u → IsLate k m w
   late_on k m some late events u w at goes old =
-      (onward value limit publics tasks agree limits most team (λ event. true) (IsLate k m)
+      (onward team is_team publics of_team (λ event. true) (IsLate k m)
       (λ v event next at_v at_next step pass holds. late_next k m some late v at_v holds event next step)
       events u w at old (all_pass events) goes).1
 
   fresh_on : (k : ℕ) → (events : List Event) (u w : World) → At u → Leads u events w → IsSilent n publics u × AreFresh k u
       → IsSilent n publics w × AreFresh k w
   fresh_on k events u w at goes old =
-      (onward value limit publics tasks agree limits most team (λ event. true) (λ v. IsSilent n publics v × AreFresh k v)
+      (onward team is_team publics of_team (λ event. true) (λ v. IsSilent n publics v × AreFresh k v)
       (λ v event next at_v at_next step pass holds. (
-        silent_next value publics tasks team v (is_known v at_v).team (is_known v at_v).in_runs holds.0 event next step,
-        fresh_next value publics tasks team v (is_known v at_v).team (is_known v at_v).in_runs holds.0 event next step k holds.1,
+        silent_next value publics tasks of_team v (is_known v at_v).team (is_known v at_v).in_runs holds.0 event next step,
+        fresh_next value publics tasks of_team v (is_known v at_v).team (is_known v at_v).in_runs holds.0 event next step k holds.1,
       )) events u w at old (all_pass events) goes).1
 
   -- the verdict on a complete snapshot that began in silence decides
@@ -157,7 +154,7 @@ module _ (value : AgentTask → Numbers → Numbers → Option ℕ) (limit publi
 
       given : given_verdict searches.first ≡ Some (verdict_of (take searches.first.snapshot.agents searches.first.snapshot.found))
       given =
-          given_at_first searches.first (member_of tasks team.numbered w (is_known w at).team 1 searches.first searches.there).me
+          given_at_first searches.first (member_of tasks of_team.numbered w (is_known w at).team 1 searches.first searches.there).me
           ∙ ap (λ (b : Bool). if b then Some (verdict_of (take searches.first.snapshot.agents searches.first.snapshot.found)) else None)
           (and_from (nat_lt 0 searches.first.snapshot.number) (is_complete searches.first.snapshot) (lt-ltb 0 searches.first.snapshot.number begun)
           (ap is_complete (sym noted) ∙ complete))
@@ -167,7 +164,7 @@ module _ (value : AgentTask → Numbers → Numbers → Option ℕ) (limit publi
       by NoPlan is = false≢true (sym searches.verdict ∙ ap is_deciding is)
       by (Spent agent) is = false≢true (sym searches.verdict ∙ ap is_deciding is)
       by Continue is =
-          not_continue value publics tasks team w (is_known w at).team (is_known w at).in_runs silent k fresh searches.first searches.there
+          not_continue value publics tasks of_team w (is_known w at).team (is_known w at).in_runs silent k fresh searches.first searches.there
           (let same = number in omega arith) is
 
   -- nine rounds, of the worlds between which the search goes on in these
@@ -180,13 +177,13 @@ module _ (value : AgentTask → Numbers → Numbers → Option ℕ) (limit publi
     goes_in w s i r there = (s.agents i r there).walked.going
 
     reach : (u v : World) → At u → Quiet u v → At v
-    reach u v at q = goes_reached value limit publics tasks agree limits most team q.events u v at (round_leads value limit publics tasks agree limits most team u v q)
+    reach u v at q = goes_reached team is_team publics of_team q.events u v at (round_leads team is_team publics of_team u v q)
 
     lead : (u v : World) (q : Quiet u v) → Leads u q.events v
-    lead = round_leads value limit publics tasks agree limits most team
+    lead = round_leads team is_team publics of_team
 
     join : (u v w : World) (es fs : List Event) → Leads u es v → Leads v fs w → Leads u (es ++ fs) w
-    join = leads_on value limit publics tasks agree limits most team
+    join = leads_on team is_team publics of_team
 
     at1 : At w1
     at1 = reach w0 w1 at0 q1
@@ -219,15 +216,15 @@ module _ (value : AgentTask → Numbers → Numbers → Option ℕ) (limit publi
     go2 = goes_in w2 s2
 
     go1 : Go w1
-    go1 = went_on value limit publics tasks agree limits most team q2.events w1 w2 at1 (lead w1 w2 q2) go2
+    go1 = went_on team is_team publics of_team q2.events w1 w2 at1 (lead w1 w2 q2) go2
 
     silent2 : IsSilent n publics w2
     silent2 =
-        silent_after value limit publics tasks agree limits most team w1 w2 at1 q2 go2
-        (no_states_after value limit publics tasks agree limits most team w0 w1 at0 q1 go1)
+        silent_after team is_team publics of_team w1 w2 at1 q2 go2
+        (no_states_after team is_team publics of_team w0 w1 at0 q1 go1)
 
     rise : (j : ℕ) (es : List Event) (u v : World) → At u → Leads u es v → num u j ≤ num v j
-    rise = rises value limit publics tasks agree limits most team
+    rise = rises team is_team publics of_team
 
     leads5 : Leads w2 (q3.events ++ (q4.events ++ q5.events)) w5
     leads5 =
@@ -243,7 +240,7 @@ module _ (value : AgentTask → Numbers → Numbers → Option ℕ) (limit publi
         (join w7 w8 w9 q8.events q9.events (lead w7 w8 q8) (lead w8 w9 q9))
 
     silent5 : IsSilent n publics w5
-    silent5 = silent_on value limit publics tasks agree limits most team (q3.events ++ (q4.events ++ q5.events)) w2 w5 at2 leads5 silent2
+    silent5 = silent_on team is_team publics of_team (q3.events ++ (q4.events ++ q5.events)) w2 w5 at2 leads5 silent2
 
     room_at : (w : World) → At w → num w 1 ≤ num w9 1 → HasNumberLeft w
     room_at w at low first there =
@@ -269,7 +266,7 @@ module _ (value : AgentTask → Numbers → Numbers → Option ℕ) (limit publi
 
         none : num w2 1 ≡ 0 → num w2 1 + 1 ≤ num w6 1
         none is =
-            let next = starts_next value limit publics tasks agree limits most team w2
+            let next = starts_next team is_team publics of_team w2
             (record { at = at2; silent = silent2; searches = s2; over = inl is }) w3 q3
             (room_at w2 at2 (let a = low26 in let b = low69 in omega arith)) in
             let more = rise 1 ((q4.events ++ q5.events) ++ q6.events) w3 w6 at3
@@ -281,9 +278,9 @@ module _ (value : AgentTask → Numbers → Numbers → Option ℕ) (limit publi
             let a = low56 in
             let b = low25 in
             let same5 : num w5 1 ≡ num w2 1 = omega arith in
-            let complete = complete3 value limit publics tasks agree limits most team w2 w3 w4 w5 at2 q3 q4 q5 (goes_in w5 s5) same5
+            let complete = complete3 team is_team publics of_team w2 w3 w4 w5 at2 q3 q4 q5 (goes_in w5 s5) same5
             (omega (arith, is)) in
-            let next = starts_next value limit publics tasks agree limits most team w5
+            let next = starts_next team is_team publics of_team w5
             (record { at = at5; silent = silent5; searches = s5; over = inr complete }) w6 q6
             (room_at w5 at5 (let c = low69 in omega arith)) in
             omega arith
@@ -299,9 +296,9 @@ module _ (value : AgentTask → Numbers → Numbers → Option ℕ) (limit publi
     -- it began in silence
     fresh2 : AreFresh (num w2 1 + 1) w2
     fresh2 i r there =
-        let of = of_there value limit publics tasks agree limits most team w2 at2 i r there in
+        let of = of_there team is_team publics of_team w2 at2 i r there in
         let number : num w2 i ≡ r.snapshot.number = ap (λ (s : Notes). s.number) (note_of w2 i r there) in
-        let low = behind value limit publics tasks agree limits most team w2 at2 i of in
+        let low = behind team is_team publics of_team w2 at2 i of in
         inl (omega arith)
 
     pub never_nine : ⊥
@@ -311,5 +308,5 @@ module _ (value : AgentTask → Numbers → Numbers → Option ℕ) (limit publi
         let last = late_on (num w2 1 + 1) (num w6 1) (omega arith) more (q7.events ++ (q8.events ++ q9.events)) w6 w9 at6 leads9
         (at_6.0, at_6.1, refl) in
         let same : num w9 1 ≡ num w6 1 = last.2 in
-        let complete = complete3 value limit publics tasks agree limits most team w6 w7 w8 w9 at6 q7 q8 q9 (goes_in w9 s9) same (omega arith) in
+        let complete = complete3 team is_team publics of_team w6 w7 w8 w9 at6 q7 q8 q9 (goes_in w9 s9) same (omega arith) in
         decided (num w2 1 + 1) w9 at9 s9 last.0 last.1 (omega arith) (omega arith) complete

@@ -1,13 +1,10 @@
 -- No agent has taken a message that it found to be a bad one.
-use Rattle.std.proofs.Common.{◌≡◌, ◌≤◌, ℕ, true, false, ◌&&◌, List, [], ◌∷◌, length, Option, Some, None, refl, sym, ap, subst, ◌∙◌}
-use Rattle.std.specs.Prelude.{◌==◌, All, Contains, Result, Ok, Err, not, slice_get, slice_index_or}
+use Rattle.std.proofs.Common.{◌≡◌, ℕ, true, false, ◌&&◌, List, [], ◌∷◌, length, Option, Some, None, refl, sym, ap, subst, ◌∙◌}
+use Rattle.std.specs.Prelude.{◌==◌, Contains, Result, Ok, Err, not, slice_get, slice_index_or}
 use Rattle.std.specs.Option.{option_map_or}
 use Rattle.std.proofs.Math.Dec.{eqb-suc-zero}
 use Rattle.std.proofs.lemmas.Option.{none-some, same_Some}
-use Rattle.mp_sets.specs.Numbers.{Numbers}
-use Rattle.mp_task.specs.Agree.{Agree}
 use Rattle.mp_task.specs.AgentTask.{AgentTask}
-use Rattle.mp_task.specs.Limits.{IsWithinLimits}
 use Rattle.mp_messages.specs.declared.history.Entry.{Entry}
 use Rattle.mp_messages.specs.declared.history.Event.{Event}
 use Rattle.mp_messages.specs.declared.history.Event.TheVariants.{Take}
@@ -18,6 +15,7 @@ use Rattle.mp_machine.specs.AgentRecord.{AgentRecord, new_record}
 use Rattle.mp_machine.specs.LocalStep.{local, may}
 use Rattle.mp_machine.specs.Outgoing.{Step}
 use Rattle.mp_world.specs.Events.{agent_may, is_legal, taken}
+use Rattle.mp_world.specs.Team.{IsTeam, Team}
 use Rattle.mp_world.specs.World.{AreNumbered, IsAgent, World, agent_at, under_way}
 use Rattle.mp_world.proofs.Agents.{agree_numbered, sender_of}
 use Rattle.mp_world.proofs.Mail.{agent_of_team}
@@ -41,18 +39,19 @@ first_is (z ∷ zs) x is = same_Some z x is
 not_both : (result : Result Step BadKind) (s : Step) (kind : BadKind) → result ≡ Ok s → result ≡ Err kind → ⊥
 not_both result s kind good bad = let impossible : ⊥ = cc in impossible
 
-module _ (value : AgentTask → Numbers → Numbers → Option ℕ) (limit : ℕ) (tasks : List AgentTask) (log : List Entry)
-    (served : AgentTask → Served) (agree : Agree tasks) (limits : All IsWithinLimits tasks) (most : limit ≤ 10000000)
-    (history : IsTeamHistory tasks log)
-    (has : (u : AgentTask) → Contains tasks u → HasServed value limit u (part log u.me) (served u)) where
+module _ (team : Team) (is_team : IsTeam team) (log : List Entry) (served : AgentTask → Served)
+    (history : IsTeamHistory team.tasks log)
+    (has : (u : AgentTask) → Contains team.tasks u → HasServed team.value team.limit u (part log u.me) (served u)) where
+  open team use {tasks, value, limit}
+
   numbered : AreNumbered tasks
-  numbered = agree_numbered tasks agree
+  numbered = agree_numbered tasks is_team.tasks.agree
 
   abbrev whole : List Entry
-  whole = settled value limit tasks log served numbered history has
+  whole = settled team log served numbered history has
 
-  is : IsSettled value limit tasks served whole
-  is = is_settled value limit tasks log served numbered history has
+  is : IsSettled team served whole
+  is = is_settled team log served numbered history has
 
   module _ (t : AgentTask) (here : Contains tasks t) (m : Receipt) (bad : (served t).bad ≡ Some m)
       (allowed : may (served t).last (locals.Take m.from) ≡ true) (kind : BadKind)
@@ -70,7 +69,7 @@ module _ (value : AgentTask → Numbers → Numbers → Option ℕ) (limit : ℕ
     there = is.log.agents t here
 
     sender : IsAgent w m.from
-    sender = (sender_of tasks numbered w (run_of_team value limit tasks (schedule whole) w is.log.runs) t.me m.from r there
+    sender = (sender_of tasks numbered w (run_of_team team (schedule whole) w is.log.runs) t.me m.from r there
         allowed).0
 
     first : slice_get (under_way w m.from t.me) 0 ≡ Some m.bytes
@@ -89,9 +88,9 @@ module _ (value : AgentTask → Numbers → Numbers → Option ℕ) (limit : ℕ
 
     pub impossible_receipt : ⊥
     impossible_receipt =
-        let next = leads_in_runs value limit tasks agree limits most (schedule whole) w is.log.runs event legal in
-        let team = run_of_team value limit tasks (schedule whole) w is.log.runs in
-        let step = event_is_step value w (team_lists tasks w team) event next.0 next.1 in
+        let next = leads_in_runs team is_team (schedule whole) w is.log.runs event legal in
+        let of_team = run_of_team team (schedule whole) w is.log.runs in
+        let step = event_is_step value w (team_lists tasks w of_team) event next.0 next.1 in
         let same : step.agent ≡ r = same_Some step.agent r (sym step.there ∙ there) in
         let good : local (value r.task) r (locals.Take m.from) (taken w event) ≡ Ok step.step =
         subst (λ (x : AgentRecord). local (value x.task) x (locals.Take m.from) (taken w event) ≡ Ok step.step) same step.local

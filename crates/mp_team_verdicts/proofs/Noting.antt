@@ -4,7 +4,6 @@ use Rattle.std.specs.Prelude.{None, Option, Some, slice_set}
 use Rattle.std.proofs.lemmas.Bool.{cases_eq}
 use Rattle.std.proofs.lemmas.List.{length-replicate}
 use Rattle.std.proofs.lemmas.Option.{none-some}
-use Rattle.mp_sets.specs.Numbers.{Numbers}
 use Rattle.mp_task.specs.AgentTask.{AgentTask}
 use Rattle.mp_messages.specs.declared.history.Event.{Event}
 use Rattle.mp_messages.specs.declared.history.Event.TheVariants.{Expand, Take, Start}
@@ -22,6 +21,7 @@ use Rattle.mp_machine.specs.Outgoing.{Step}
 use Rattle.mp_machine.specs.Snapshots.{findings, started}
 use Rattle.mp_world.specs.Events.{agent_of, taken}
 use Rattle.mp_world.specs.Steps.{IsStepOf}
+use Rattle.mp_world.specs.Values.{Values}
 use Rattle.mp_world.specs.World.{IsTeamWorld, World}
 use Rattle.mp_team_snapshots.specs.Snapshots.{AreNotesOf}
 use Rattle.mp_team_snapshots.specs.Team.{IsTeamOf}
@@ -75,7 +75,7 @@ Takes Start = ⊥
 
 -- what an event does to the notes of its agent, and the message that it takes, if it takes one
 pub record HasMoved
-    (value : AgentTask → Numbers → Numbers → Option ℕ)
+    (value : Values)
     (w : World)
     (event : Event)
     (next : World)
@@ -87,7 +87,7 @@ pub record HasMoved
       (m : Message) → message ≡ Some m
       → Takes event × (message_of step.agent.task.agents step.agent.task.publics (taken w event) ≡ Some m)
 
-module _ (value : AgentTask → Numbers → Numbers → Option ℕ) (publics : ℕ) (tasks : List AgentTask)
+module _ (value : Values) (publics : ℕ) (tasks : List AgentTask)
     (team : IsTeamOf publics tasks) (w : World) (is : IsTeamWorld tasks w) where
   pub moved : (event : Event) (next : World) (step : IsStepOf value w event next) → HasMoved value w event next step
   moved (Expand agent) next step =

@@ -1,17 +1,14 @@
 -- The number of agent 1's last snapshot is at most that of the events so far.
-use Rattle.std.proofs.Common.{◌≡◌, ℕ, ◌+◌, ◌≤◌, List, [], ◌∷◌, length, Option, Some, All, refl, sym, ap, ◌∙◌, arith, ◌⊎◌, inl, inr}
+use Rattle.std.proofs.Common.{◌≡◌, ℕ, ◌+◌, ◌≤◌, List, [], ◌∷◌, length, Some, refl, sym, ap, ◌∙◌, arith, ◌⊎◌, inl, inr}
 use Rattle.std.proofs.lemmas.Bool.{cases_eq}
 use Rattle.std.proofs.lemmas.Option.{same_Some}
 use Rattle.mp_runs.proofs.Runs.{run-none, run_parts}
-use Rattle.mp_sets.specs.Numbers.{Numbers}
-use Rattle.mp_task.specs.Agree.{Agree}
-use Rattle.mp_task.specs.AgentTask.{AgentTask}
-use Rattle.mp_task.specs.Limits.{IsWithinLimits}
 use Rattle.mp_messages.specs.declared.history.Event.{Event}
 use Rattle.mp_snapshot.specs.Notes.{Notes}
 use Rattle.mp_machine.specs.AgentRecord.{AgentRecord}
 use Rattle.mp_world.specs.Events.{after_event, agent_of, run}
 use Rattle.mp_world.specs.Steps.{IsStepOf}
+use Rattle.mp_world.specs.Team.{IsTeam, Team}
 use Rattle.mp_world.specs.World.{World, agent_at, start_world}
 use Rattle.mp_world.proofs.Agents.{agent_there}
 use Rattle.mp_world.proofs.LogOfRun.{new_at}
@@ -29,20 +26,20 @@ at_most_one_more : (before after old new : ℕ) → before ≡ old → after ≡
 at_most_one_more before after old new was is (inl same) = omega arith
 at_most_one_more before after old new was is (inr more) = omega arith
 
-module _ (value : AgentTask → Numbers → Numbers → Option ℕ) (limit publics : ℕ) (tasks : List AgentTask)
-    (agree : Agree tasks) (limits : All IsWithinLimits tasks) (most : limit ≤ 10000000)
-    (team : IsTeamOf publics tasks) where
+module _ (team : Team) (is_team : IsTeam team) (publics : ℕ) (of_team : IsTeamOf publics team.tasks) where
+  open team use {tasks, value}
+
   abbrev At : World → Type 0
-  At = Reached value limit publics tasks agree limits most team
+  At = Reached team is_team publics of_team
 
   abbrev Leads : World → List Event → World → Type 0
-  Leads = Goes value limit publics tasks agree limits most team
+  Leads = Goes team is_team publics of_team
 
   abbrev number : World → ℕ
   number w = (note_at w 1).number
 
   is_known : (w : World) → At w → IsKnownWorld publics tasks w
-  is_known = known value limit publics tasks agree limits most team
+  is_known = known team is_team publics of_team
 
   -- an event gives one number more at most
   pub one_more : (w next : World) (event : Event) → At w → IsStepOf value w event next → number next ≤ number w + 1
@@ -51,13 +48,13 @@ module _ (value : AgentTask → Numbers → Numbers → Option ℕ) (limit publi
       by : (1 ≡ agent_of event) ⊎ (1 ≡ agent_of event → ⊥) → number next ≤ number w + 1
       by (inl same) =
           let is = (is_known w at).team in
-          let m = moved value publics tasks team w is event next step in
+          let m = moved value publics tasks of_team w is event next step in
           at_most_one_more (number w) (number next) step.agent.snapshot.number step.step.after.snapshot.number
-          (ap (λ (s : Notes). s.number) (ap (note_at w) same ∙ note_before value publics tasks team w is event next step))
-          (ap (λ (s : Notes). s.number) (ap (note_at next) same ∙ note_after value publics tasks team w is event next step))
+          (ap (λ (s : Notes). s.number) (ap (note_at w) same ∙ note_before value publics tasks of_team w is event next step))
+          (ap (λ (s : Notes). s.number) (ap (note_at next) same ∙ note_after value publics tasks of_team w is event next step))
           (number_moves (agent_of event) m.message step.agent step.step.after m.moves)
       by (inr other) =
-          let same = ap (λ (s : Notes). s.number) (note_other value publics tasks team w (is_known w at).team event next step 1 other) in
+          let same = ap (λ (s : Notes). s.number) (note_other value publics tasks of_team w (is_known w at).team event next step 1 other) in
           at_most_one_more (number w) (number next) (number w) (number next) refl refl (inl same)
 
   -- so many events give so many numbers at most
@@ -67,26 +64,26 @@ module _ (value : AgentTask → Numbers → Numbers → Option ℕ) (limit publi
       omega arith
   more_by_events (e ∷ events) u w at goes =
       let parts = run_parts (after_event value) u w e events goes in
-      let first = one_more u parts.0 e at (step_of value limit publics tasks agree limits most team u parts.0 e at parts.1) in
-      let rest = more_by_events events parts.0 w (reached_next value limit publics tasks agree limits most team u parts.0 e at parts.1) parts.2 in
+      let first = one_more u parts.0 e at (step_of team is_team publics of_team u parts.0 e at parts.1) in
+      let rest = more_by_events events parts.0 w (reached_next team is_team publics of_team u parts.0 e at parts.1) parts.2 in
       omega arith
 
   -- no snapshot has begun at the start
-  none_begun : number (start_world value limit tasks) ≡ 0
+  none_begun : number (start_world team) ≡ 0
   none_begun =
-      let begin = start_world value limit tasks in
-      let at = start_reached value limit publics tasks agree limits most team in
+      let begin = start_world team in
+      let at = start_reached team is_team publics of_team in
       let first = agent_there begin 1
-      (is_agent value limit publics tasks agree limits most team begin at 1
-      (is_first value limit publics tasks agree limits most team begin at)) in
+      (is_agent team is_team publics of_team begin at 1
+      (is_first team is_team publics of_team begin at)) in
       ap (λ (s : Notes). s.number) (note_of begin 1 first.0 first.1)
-      ∙ ap (λ (r : AgentRecord). r.snapshot.number) (new_at value limit tasks 1 first.0 first.1)
+      ∙ ap (λ (r : AgentRecord). r.snapshot.number) (new_at team 1 first.0 first.1)
 
-  pub number_of_events : (schedule : List Event) (w : World) (first : AgentRecord) → run value limit tasks schedule ≡ Some w
+  pub number_of_events : (schedule : List Event) (w : World) (first : AgentRecord) → run team schedule ≡ Some w
       → agent_at w 1 ≡ Some first → first.snapshot.number ≤ length schedule
   number_of_events schedule w first ran there =
-      let begin = start_world value limit tasks in
+      let begin = start_world team in
       let none = none_begun in
-      let more = more_by_events schedule begin w (start_reached value limit publics tasks agree limits most team) ran in
+      let more = more_by_events schedule begin w (start_reached team is_team publics of_team) ran in
       let mine = ap (λ (s : Notes). s.number) (note_of w 1 first there) in
       omega arith

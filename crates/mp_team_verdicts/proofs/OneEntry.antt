@@ -10,9 +10,7 @@ use Rattle.std.proofs.lemmas.Map.Made.{IsDistinct-from_AllPairs, is_member-Decid
 use Rattle.std.proofs.lemmas.Map.Steps.{length-le_from_distinct_below}
 use Rattle.std.proofs.lemmas.Option.{get_or_from_slice_get, same_Some, slice_get-get_or, slice_get_within}
 use Rattle.mp_runs.specs.System.{state_after}
-use Rattle.mp_task.specs.Agree.{Agree}
 use Rattle.mp_task.specs.AgentTask.{AgentTask}
-use Rattle.mp_task.specs.Limits.{IsWithinLimits}
 use Rattle.mp_task.specs.Plan.{TaskStep, joint_start, task_cost, team_system}
 use Rattle.mp_store.specs.declared.entry.Entry.{Entry}
 use Rattle.mp_store.specs.declared.entry.Origin.{Origin}
@@ -22,6 +20,7 @@ use Rattle.mp_search.specs.AgentState.{AgentState, same_state, start_state}
 use Rattle.mp_search.proofs.KeyedStates.{Decides-state, all_get}
 use Rattle.mp_machine.specs.AgentRecord.{AgentRecord}
 use Rattle.mp_world.specs.Joint.{joint}
+use Rattle.mp_world.specs.Team.{AreTeamTasks}
 use Rattle.mp_world.specs.World.{IsTeamWorld, World, agent_at}
 use Rattle.mp_world.proofs.Agents.{agree_numbered, member_of}
 use Rattle.mp_world.proofs.Mail.{agent_of_team}
@@ -56,7 +55,7 @@ sent_path w agent number r e steps sender sent there at from (by_message _ _ f s
       path = subst (λ (s : ℕ). IsPath w s place steps) senders path;
     }
 
-module _ (tasks : List AgentTask) (agree : Agree tasks) (limits : All IsWithinLimits tasks) (w : World) (team : IsTeamWorld tasks w) (sound : AreStatesSound tasks w)
+module _ (tasks : List AgentTask) (are : AreTeamTasks tasks) (w : World) (team : IsTeamWorld tasks w) (sound : AreStatesSound tasks w)
     (reached : AreReached tasks w) (agent : ℕ) (r : AgentRecord) (there : agent_at w agent ≡ Some r) where
   abbrev At : ℕ → Entry AgentState → Type 0
   At n e = slice_get r.search.kept.entries n ≡ Some e
@@ -64,7 +63,7 @@ module _ (tasks : List AgentTask) (agree : Agree tasks) (limits : All IsWithinLi
   known : (n : ℕ) (e : Entry AgentState) → At n e → IsStateOf w r.task e.key
   known n e at =
       all_get (λ (e : Entry AgentState). IsStateOf w r.task e.key) r.search.kept.entries n e
-      (agent_sound tasks agree limits w team sound agent r there).states at
+      (agent_sound tasks are w team sound agent r there).states at
 
   -- of two entries of one path the later one would cost less
   not_twice : (m n : ℕ) (d e : Entry AgentState) → m < n → At m d → At n e
@@ -73,11 +72,11 @@ module _ (tasks : List AgentTask) (agree : Agree tasks) (limits : All IsWithinLi
       let joints : joint w agent d.key ≡ joint w agent e.key =
       same_Some (joint w agent d.key) (joint w agent e.key) (sym x.leads ∙ ap (λ (xs : List TaskStep). state_after (team_system tasks) (joint_start tasks) xs) same ∙ y.leads) in
       let keys : d.key ≡ e.key =
-      equal_if_joint tasks agree limits w team sound agent r d.key e.key there (known m d at_m) (known n e at_n) joints in
+      equal_if_joint tasks are w team sound agent r d.key e.key there (known m d at_m) (known n e at_n) joints in
       let costs : d.g ≡ e.g = sym x.cost ∙ ap (λ (xs : List TaskStep). task_cost tasks xs) same ∙ y.cost in
       let is_m = get_or_from_slice_get r.search.kept.entries m d d at_m in
       let is_n = get_or_from_slice_get r.search.kept.entries n e d at_n in
-      let falls = (agent_sound tasks agree limits w team sound agent r there).kept.falling m n d before (slice_get_within r.search.kept.entries n e at_n)
+      let falls = (agent_sound tasks are w team sound agent r there).kept.falling m n d before (slice_get_within r.search.kept.entries n e at_n)
       ((λ k. same_state (is_m k).key (is_n k).key) ∙ (Decides-state d.key e.key).1 keys) in
       let less : e.g < d.g = subst (λ (x : Entry AgentState). x.g < d.g) is_n (subst (λ (x : Entry AgentState). (get_or r.search.kept.entries n d).g < x.g) is_m falls) in
       omega arith
@@ -160,12 +159,12 @@ two_numbers (From i m) (From j n) heard_a heard_b small_a small_b same =
 
 -- ---- few entries
 
-module _ (tasks : List AgentTask) (agree : Agree tasks) (limits : All IsWithinLimits tasks) (w : World) (team : IsTeamWorld tasks w) (sound : AreStatesSound tasks w)
+module _ (tasks : List AgentTask) (are : AreTeamTasks tasks) (w : World) (team : IsTeamWorld tasks w) (sound : AreStatesSound tasks w)
     (reached : AreReached tasks w) (agent : ℕ) (r : AgentRecord) (there : agent_at w agent ≡ Some r) where
   pub few_agents : length w.agents ≤ 16
   few_agents =
-      let fit = limits_of tasks agree limits w team agent r there in
-      let of = member_of tasks (agree_numbered tasks agree) w team agent r there in
+      let fit = limits_of tasks are w team agent r there in
+      let of = member_of tasks (agree_numbered tasks are.agree) w team agent r there in
       let size = team_size tasks w team in
       let many = of.agents in
       let most = fit.at_most_16_agents in
@@ -179,7 +178,7 @@ module _ (tasks : List AgentTask) (agree : Agree tasks) (limits : All IsWithinLi
       by None at is = absurd is
       by (Some u) at is =
           let inside = slice_get_within u.search.kept.sent sent number is in
-          let known_u = agent_sound tasks agree limits w team sound sender u at in
+          let known_u = agent_sound tasks are w team sound sender u at in
           let limit = known_u.limit in
           let within = known_u.within in
           let many = known_u.sent in
@@ -235,7 +234,7 @@ module _ (tasks : List AgentTask) (agree : Agree tasks) (limits : All IsWithinLi
       by Root is heard too = absurd (let impossible : ⊥ = cc in impossible)
       by (Own action parent) is heard too = absurd (let impossible : ⊥ = cc in impossible)
       by (From sender sent) is heard too =
-          one_of_message tasks agree limits w team sound reached agent r there i j (get_or r.search.kept.entries i d) (get_or r.search.kept.entries j d) sender sent before
+          one_of_message tasks are w team sound reached agent r there i j (get_or r.search.kept.entries i d) (get_or r.search.kept.entries j d) sender sent before
           (slice_get-get_or r.search.kept.entries i d (omega arith)) (slice_get-get_or r.search.kept.entries j d inside) is too
 
   heard_apart : AllPairs Apart hs
@@ -279,7 +278,7 @@ module _ (tasks : List AgentTask) (agree : Agree tasks) (limits : All IsWithinLi
   few_entries own =
       let both = count_both r.search.kept.entries in
       let heard = few_heard in
-      let known_r = agent_sound tasks agree limits w team sound agent r there in
+      let known_r = agent_sound tasks are w team sound agent r there in
       let limit = known_r.limit in
       let within = known_r.within in
       let few = own in

@@ -1,13 +1,11 @@
 -- Points of a round: worlds that it goes through.
-use Rattle.std.proofs.Common.{◌≡◌, ◌≢◌, ℕ, zero, suc, ◌+◌, ◌≤◌, ◌<◌, Bool, true, false, ◌||◌, List, [], ◌∷◌, ◌++◌, Option, Some, refl, sym, ap, subst, ◌∙◌, append_assoc, append-nil, arith, ◌⊎◌, inl, inr}
+use Rattle.std.proofs.Common.{◌≡◌, ◌≢◌, ℕ, zero, suc, ◌+◌, ◌≤◌, ◌<◌, Bool, true, false, ◌||◌, List, [], ◌∷◌, ◌++◌, Some, refl, sym, ap, subst, ◌∙◌, append_assoc, append-nil, arith, ◌⊎◌, inl, inr}
 use Rattle.std.specs.Prelude.{◌==◌, filter, not}
 use Rattle.std.specs.List.{list_any, range_with_len}
 use Rattle.std.proofs.lemmas.Bool.{and_parts, eqb-false, eqb-true, false≢true}
 use Rattle.std.proofs.lemmas.List.Folds.{list_all-append}
 use Rattle.mp_runs.specs.Run.{run as run_of}
 use Rattle.mp_runs.proofs.Runs.{run-after, run-first, run-none, run-one}
-use Rattle.mp_sets.specs.Numbers.{Numbers}
-use Rattle.mp_task.specs.AgentTask.{AgentTask}
 use Rattle.mp_messages.specs.declared.history.Event.{Event}
 use Rattle.mp_messages.specs.declared.history.Event.TheVariants.{Expand, Take, Start}
 use Rattle.mp_machine.specs.Outgoing.{others}
@@ -16,6 +14,7 @@ use Rattle.mp_world.specs.RoundRobin.{AsLongAsItMay, ForEach, IfItMay, Nothing, 
 use Rattle.mp_world.specs.RoundRobin.AsLongAsItMay.{no_more, once_more}
 use Rattle.mp_world.specs.RoundRobin.IfItMay.{not_now, now}
 use Rattle.mp_world.specs.RoundRobin.StartsIfFirst.{first, another}
+use Rattle.mp_world.specs.Values.{Values}
 use Rattle.mp_world.specs.World.{World}
 use Rattle.mp_team_snapshots.proofs.Protocol.{IsOf}
 use Rattle.mp_team_verdicts.specs.Quiet.{are_quiet, is_quiet}
@@ -53,7 +52,7 @@ in_others i me (x ∷ xs) off listed = by (x == me) refl (x == i) refl (in_other
     by false is_me true is_i more = rw (is_me, is_i) refl
     by false is_me false is_i more = rw (is_me, is_i) (more (ap (λ (c : Bool). c || is_listed i xs) (sym is_i) ∙ listed))
 
-module _ (value : AgentTask → Numbers → Numbers → Option ℕ) where
+module _ (value : Values) where
   -- a part is a run
   abbrev pub IsRunOf : Part → Type 0
   IsRunOf P = (w last : World) (events : List Event) → P w events last → run_of (after_event value) w events ≡ Some last

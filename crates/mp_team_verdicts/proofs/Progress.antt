@@ -1,16 +1,13 @@
 -- In silence agent 1 has the findings of all agents after three rounds more, unless it starts another snapshot.
-use Rattle.std.proofs.Common.{◌≡◌, ◌≢◌, ℕ, ◌+◌, ◌≤◌, ◌<◌, true, List, [], ◌++◌, length, Option, All, sym, ap, subst, ◌∙◌, arith, ◌⊎◌, inl, inr}
+use Rattle.std.proofs.Common.{◌≡◌, ◌≢◌, ℕ, ◌+◌, ◌≤◌, ◌<◌, true, List, [], ◌++◌, length, sym, ap, subst, ◌∙◌, arith, ◌⊎◌, inl, inr}
 use Rattle.std.proofs.lemmas.Bool.{cases_eq}
 use Rattle.mp_runs.proofs.Runs.{run-after, run-none}
-use Rattle.mp_sets.specs.Numbers.{Numbers}
-use Rattle.mp_task.specs.Agree.{Agree}
-use Rattle.mp_task.specs.AgentTask.{AgentTask}
-use Rattle.mp_task.specs.Limits.{IsWithinLimits}
 use Rattle.mp_messages.specs.declared.history.Event.{Event}
 use Rattle.mp_snapshot.specs.Notes.{Notes}
 use Rattle.mp_snapshot.specs.Rules.{has, is_complete, is_whole}
 use Rattle.mp_machine.specs.AgentRecord.{AgentRecord}
 use Rattle.mp_world.specs.Events.{after_event}
+use Rattle.mp_world.specs.Team.{IsTeam, Team}
 use Rattle.mp_world.specs.World.{World}
 use Rattle.mp_world.proofs.Agents.{agent_there}
 use Rattle.mp_team_snapshots.specs.Messages.{marker_of, report_of}
@@ -23,26 +20,26 @@ use Rattle.mp_team_verdicts.proofs.Complete.{begun_by, complete_by, marked_by, r
 use Rattle.mp_team_verdicts.proofs.Points.{round_runs}
 use Rattle.mp_team_verdicts.proofs.Stuck.{is_agent, is_first, list_themselves, sound_view}
 
-module _ (value : AgentTask → Numbers → Numbers → Option ℕ) (limit publics : ℕ) (tasks : List AgentTask)
-    (agree : Agree tasks) (limits : All IsWithinLimits tasks) (most : limit ≤ 10000000)
-    (team : IsTeamOf publics tasks) where
+module _ (team : Team) (is_team : IsTeam team) (publics : ℕ) (of_team : IsTeamOf publics team.tasks) where
+  open team use {tasks, value}
+
   abbrev n : ℕ
   n = length tasks
 
   abbrev At : World → Type 0
-  At = Reached value limit publics tasks agree limits most team
+  At = Reached team is_team publics of_team
 
   abbrev Leads : World → List Event → World → Type 0
-  Leads = Goes value limit publics tasks agree limits most team
+  Leads = Goes team is_team publics of_team
 
   abbrev Go : World → Type 0
-  Go = AllGo value limit publics tasks agree limits most team
+  Go = AllGo team is_team publics of_team
 
   abbrev Quiet : World → World → Type 0
-  Quiet = IsQuietRound value limit publics tasks agree limits most team
+  Quiet = IsQuietRound team is_team publics of_team
 
   abbrev num : World → ℕ → ℕ
-  num = number_at value limit publics tasks agree limits most team
+  num = number_at team is_team publics of_team
 
   pub round_leads : (w v : World) (q : Quiet w v) → Leads w q.events v
   round_leads w v q = round_runs value n w v q.events q.round
@@ -51,10 +48,10 @@ module _ (value : AgentTask → Numbers → Numbers → Option ℕ) (limit publi
   leads_on u v w es fs one two = run-after (after_event value) u v es fs one ∙ two
 
   seen : (w : World) → At w → Sound n (view publics w)
-  seen = sound_view value limit publics tasks agree limits most team
+  seen = sound_view team is_team publics of_team
 
   one : (w : World) → At w → IsOf n 1
-  one = is_first value limit publics tasks agree limits most team
+  one = is_first team is_team publics of_team
 
   -- no agent is ahead of agent 1
   pub behind : (w : World) → At w → (j : ℕ) → IsOf n j → num w j ≤ num w 1
@@ -69,13 +66,13 @@ module _ (value : AgentTask → Numbers → Numbers → Option ℕ) (limit publi
   module _ (w0 w1 w2 w3 : World) (at0 : At w0) (q1 : Quiet w0 w1) (q2 : Quiet w1 w2) (q3 : Quiet w2 w3) (go3 : Go w3)
       (same : num w3 1 ≡ num w0 1) (some : 1 ≤ num w0 1) where
     at1 : At w1
-    at1 = goes_reached value limit publics tasks agree limits most team q1.events w0 w1 at0 (round_leads w0 w1 q1)
+    at1 = goes_reached team is_team publics of_team q1.events w0 w1 at0 (round_leads w0 w1 q1)
 
     at2 : At w2
-    at2 = goes_reached value limit publics tasks agree limits most team q2.events w1 w2 at1 (round_leads w1 w2 q2)
+    at2 = goes_reached team is_team publics of_team q2.events w1 w2 at1 (round_leads w1 w2 q2)
 
     at3 : At w3
-    at3 = goes_reached value limit publics tasks agree limits most team q3.events w2 w3 at2 (round_leads w2 w3 q3)
+    at3 = goes_reached team is_team publics of_team q3.events w2 w3 at2 (round_leads w2 w3 q3)
 
     from1 : Leads w1 (q2.events ++ q3.events) w3
     from1 = leads_on w1 w2 w3 q2.events q3.events (round_leads w1 w2 q2) (round_leads w2 w3 q3)
@@ -84,13 +81,13 @@ module _ (value : AgentTask → Numbers → Numbers → Option ℕ) (limit publi
     from0 = leads_on w0 w1 w3 q1.events (q2.events ++ q3.events) (round_leads w0 w1 q1) from1
 
     go2 : Go w2
-    go2 = went_on value limit publics tasks agree limits most team q3.events w2 w3 at2 (round_leads w2 w3 q3) go3
+    go2 = went_on team is_team publics of_team q3.events w2 w3 at2 (round_leads w2 w3 q3) go3
 
     go1 : Go w1
-    go1 = went_on value limit publics tasks agree limits most team (q2.events ++ q3.events) w1 w3 at1 from1 go3
+    go1 = went_on team is_team publics of_team (q2.events ++ q3.events) w1 w3 at1 from1 go3
 
     rise : (j : ℕ) (es : List Event) (u v : World) → At u → Leads u es v → num u j ≤ num v j
-    rise = rises value limit publics tasks agree limits most team
+    rise = rises team is_team publics of_team
 
     -- agent 1 has begun no other snapshot on the way
     still : (x : World) (es fs : List Event) → At x → Leads w0 es x → Leads x fs w3 → num x 1 ≡ num w0 1
@@ -111,14 +108,14 @@ module _ (value : AgentTask → Numbers → Numbers → Option ℕ) (limit publi
         by (inr other) =
             let is_1 = one w0 at0 in
             let off : 1 ≢ j = λ e. other (sym e) in
-            let t = takes_all value limit publics tasks agree limits most team w0 w1 at0 q1 go1 1 j is_1 is_j off in
+            let t = takes_all team is_team publics of_team w0 w1 at0 q1 go1 1 j is_1 is_j off in
             let u = t.at_world in
             let number : num u 1 ≡ num w0 1 =
             still u t.before (t.after ++ (q2.events ++ q3.events)) t.are_reached t.ran
             (leads_on u w1 w3 t.after (q2.events ++ q3.events) t.goes_on from1) in
-            let none = none_of_part value limit publics tasks agree limits most team w0 w1 at0 q1 go1 1 j is_1 is_j off marker_of in
+            let none = none_of_part team is_team publics of_team w0 w1 at0 q1 go1 1 j is_1 is_j off marker_of in
             let begun = begun_number (num u 1) (num u j)
-            (begun_by n team.agents (view publics u) (seen u t.are_reached) (omega arith) j is_j (λ e. none)) in
+            (begun_by n of_team.agents (view publics u) (seen u t.are_reached) (omega arith) j is_j (λ e. none)) in
             let later = rise j t.after u w1 t.are_reached t.goes_on in
             let most_j = behind w1 at1 j is_j in
             let last = last1 in
@@ -150,15 +147,15 @@ module _ (value : AgentTask → Numbers → Numbers → Option ℕ) (limit publi
             subst (λ k. has (note_at w2 j).marked k ≡ true) (sym is)
             (((seen w2 at2).follows j is_j).itself (begun_in_at w2 q2.events q3.events at2 (round_leads w1 w2 q2) (round_leads w2 w3 q3) j is_j))
         by (inr off) =
-            let t = takes_all value limit publics tasks agree limits most team w1 w2 at1 q2 go2 i j is_i is_j off in
+            let t = takes_all team is_team publics of_team w1 w2 at1 q2 go2 i j is_i is_j off in
             let u = t.at_world in
             let after = leads_on u w2 w3 t.after q3.events t.goes_on (round_leads w2 w3 q3) in
-            let none = none_of_part value limit publics tasks agree limits most team w1 w2 at1 q2 go2 i j is_i is_j off marker_of in
+            let none = none_of_part team is_team publics of_team w1 w2 at1 q2 go2 i j is_i is_j off marker_of in
             let first = begun_at u t.before (t.after ++ q3.events) t.are_reached t.ran after 1 (one u t.are_reached) in
             let here = begun_at u t.before (t.after ++ q3.events) t.are_reached t.ran after j is_j in
             let there = begun_at w2 q2.events q3.events at2 (round_leads w1 w2 q2) (round_leads w2 w3 q3) j is_j in
-            marked_on value limit publics tasks agree limits most team i j is_i t.after u w2 t.are_reached t.goes_on (omega arith)
-            (marked_by n team.agents (view publics u) (seen u t.are_reached) (omega arith) i j is_i is_j (λ e. none)
+            marked_on team is_team publics of_team i j is_i t.after u w2 t.are_reached t.goes_on (omega arith)
+            (marked_by n of_team.agents (view publics u) (seen u t.are_reached) (omega arith) i j is_i is_j (λ e. none)
             (begun_in_at u t.before (t.after ++ q3.events) t.are_reached t.ran after i is_i)
             (begun_in_at u t.before (t.after ++ q3.events) t.are_reached t.ran after j is_j))
 
@@ -169,22 +166,22 @@ module _ (value : AgentTask → Numbers → Numbers → Option ℕ) (limit publi
         let there = begun_at w2 q2.events q3.events at2 (round_leads w1 w2 q2) (round_leads w2 w3 q3) j is_j in
         let here = begun_at x (q2.events ++ es) fs at_x (leads_on w1 w2 x q2.events es (round_leads w1 w2 q2) before) after j is_j in
         let first = begun_at x (q2.events ++ es) fs at_x (leads_on w1 w2 x q2.events es (round_leads w1 w2 q2) before) after 1 (one x at_x) in
-        whole_by n team.agents (view publics x) (seen x at_x) (omega arith) j is_j
+        whole_by n of_team.agents (view publics x) (seen x at_x) (omega arith) j is_j
         (λ i is_i.
-        marked_on value limit publics tasks agree limits most team i j is_i es w2 x at2 before (here ∙ sym there) (marked2 i j is_i is_j))
+        marked_on team is_team publics of_team i j is_i es w2 x at2 before (here ∙ sym there) (marked2 i j is_i is_j))
 
     -- after three rounds agent 1 has all reports
     reported3 : (i : ℕ) → IsOf n i → i ≢ 1 → has (note_at w3 1).reported i ≡ true
     reported3 i is_i off =
         let is_1 = one w2 at2 in
-        let t = takes_all value limit publics tasks agree limits most team w2 w3 at2 q3 go3 i 1 is_i is_1 off in
+        let t = takes_all team is_team publics of_team w2 w3 at2 q3 go3 i 1 is_i is_1 off in
         let u = t.at_world in
         let before = leads_on w1 w2 u q2.events t.before (round_leads w1 w2 q2) t.ran in
-        let none = none_of_part value limit publics tasks agree limits most team w2 w3 at2 q3 go3 i 1 is_i is_1 off report_of in
+        let none = none_of_part team is_team publics of_team w2 w3 at2 q3 go3 i 1 is_i is_1 off report_of in
         let first = begun_at u (q2.events ++ t.before) t.after t.are_reached before t.goes_on 1 (one u t.are_reached) in
         let number = same in
-        reported_on value limit publics tasks agree limits most team i 1 is_i t.after u w3 t.are_reached t.goes_on (omega arith)
-        (reported_by n team.agents (view publics u) (seen u t.are_reached) (omega arith) i is_i off none
+        reported_on team is_team publics of_team i 1 is_i t.after u w3 t.are_reached t.goes_on (omega arith)
+        (reported_by n of_team.agents (view publics u) (seen u t.are_reached) (omega arith) i is_i off none
         (begun_in_at u (q2.events ++ t.before) t.after t.are_reached before t.goes_on i is_i)
         (whole_at u t.before t.after t.are_reached t.ran t.goes_on i is_i))
 
@@ -192,7 +189,7 @@ module _ (value : AgentTask → Numbers → Numbers → Option ℕ) (limit publi
     pub complete3 : is_complete (note_at w3 1) ≡ true
     complete3 =
         let is_1 = one w3 at3 in
-        let found = agent_there w3 1 (is_agent value limit publics tasks agree limits most team w3 at3 1 is_1) in
+        let found = agent_there w3 1 (is_agent team is_team publics of_team w3 at3 1 is_1) in
         let first : AgentRecord = found.0 in
         let noted : note_at w3 1 ≡ first.snapshot = note_of w3 1 first found.1 in
         let me : first.snapshot.me ≡ 1 = ap (λ (s : Notes). s.me) (sym noted) ∙ ((seen w3 at3).notes 1 is_1).me in
@@ -201,7 +198,7 @@ module _ (value : AgentTask → Numbers → Numbers → Option ℕ) (limit publi
         let itself : has (note_at w3 1).reported 1 ≡ true =
         ap (λ (s : Notes). has s.reported 1) noted
         ∙ ap (has first.snapshot.reported) (sym me)
-        ∙ (list_themselves value limit publics tasks agree limits most team w3 at3 1 first found.1).listed
+        ∙ (list_themselves team is_team publics of_team w3 at3 1 first found.1).listed
         (subst (λ (s : Notes). 0 < s.number) noted begun) in
-        complete_by n team.agents (view publics w3) (seen w3 at3) begun
+        complete_by n of_team.agents (view publics w3) (seen w3 at3) begun
         (whole_at w3 q3.events [] at3 (round_leads w2 w3 q3) (run-none (after_event value) w3) 1 is_1) is_1 itself reported3

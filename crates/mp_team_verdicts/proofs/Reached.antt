@@ -1,18 +1,15 @@
 -- Worlds that the legal schedules of a team lead to, and what holds of them.
-use Rattle.std.proofs.Common.{◌≡◌, ℕ, ◌≤◌, Bool, true, List, [], ◌∷◌, ◌++◌, Option, Some, All, refl, sym, ap, subst, ◌∙◌}
+use Rattle.std.proofs.Common.{◌≡◌, ℕ, Bool, true, List, [], ◌∷◌, ◌++◌, Option, Some, refl, sym, ap, subst, ◌∙◌}
 use Rattle.std.specs.List.{list_all}
 use Rattle.std.specs.Option.{option_and_then}
 use Rattle.std.proofs.lemmas.Bool.{and_parts}
 use Rattle.std.proofs.lemmas.Option.{same_Some}
 use Rattle.mp_runs.specs.Run.{run as run_of}
 use Rattle.mp_runs.proofs.Runs.{run-more, run-none, run_parts}
-use Rattle.mp_sets.specs.Numbers.{Numbers}
-use Rattle.mp_task.specs.Agree.{Agree}
-use Rattle.mp_task.specs.AgentTask.{AgentTask}
-use Rattle.mp_task.specs.Limits.{IsWithinLimits}
 use Rattle.mp_messages.specs.declared.history.Event.{Event}
 use Rattle.mp_world.specs.Events.{after_event, run}
 use Rattle.mp_world.specs.Steps.{IsStepOf}
+use Rattle.mp_world.specs.Team.{IsTeam, Team}
 use Rattle.mp_world.specs.World.{World, start_world}
 use Rattle.mp_world.proofs.Stepping.{event_is_step, team_lists}
 use Rattle.mp_team_snapshots.specs.Team.{IsTeamOf}
@@ -20,51 +17,46 @@ use Rattle.mp_team_verdicts.proofs.Frames.{IsKnownWorld}
 use Rattle.mp_team_verdicts.proofs.InRuns.{known_of}
 
 -- a legal schedule of the team leads to a world
-pub record IsReached
-    (value : AgentTask → Numbers → Numbers → Option ℕ)
-    (limit : ℕ)
-    (tasks : List AgentTask)
-    (w : World)
-    : Type 0 where
+pub record IsReached (team : Team) (w : World) : Type 0 where
   pub schedule : List Event
-  pub ran : run value limit tasks schedule ≡ Some w
+  pub ran : run team schedule ≡ Some w
 
 pub all_pass : (events : List Event) → list_all (λ event. true) events ≡ true
 all_pass [] = refl
 all_pass (e ∷ events) = all_pass events
 
-module _ (value : AgentTask → Numbers → Numbers → Option ℕ) (limit publics : ℕ) (tasks : List AgentTask)
-    (agree : Agree tasks) (limits : All IsWithinLimits tasks) (most : limit ≤ 10000000)
-    (team : IsTeamOf publics tasks) where
-  pub start_reached : IsReached value limit tasks (start_world value limit tasks)
-  start_reached = record { schedule = []; ran = run-none (after_event value) (start_world value limit tasks) }
+module _ (team : Team) (is_team : IsTeam team) (publics : ℕ) (of_team : IsTeamOf publics team.tasks) where
+  open team use {tasks, value}
 
-  pub known : (w : World) → IsReached value limit tasks w → IsKnownWorld publics tasks w
-  known w at = known_of value limit publics tasks agree limits most team at.schedule w at.ran
+  pub start_reached : IsReached team (start_world team)
+  start_reached = record { schedule = []; ran = run-none (after_event value) (start_world team) }
 
-  pub reached_next : (w next : World) (event : Event) → IsReached value limit tasks w → after_event value w event ≡ Some next
-      → IsReached value limit tasks next
+  pub known : (w : World) → IsReached team w → IsKnownWorld publics tasks w
+  known w at = known_of team is_team publics of_team at.schedule w at.ran
+
+  pub reached_next : (w next : World) (event : Event) → IsReached team w → after_event value w event ≡ Some next
+      → IsReached team next
   reached_next w next event at leads = record {
     schedule = at.schedule ++ event ∷ [];
     ran =
-        run-more (after_event value) (start_world value limit tasks) at.schedule event
+        run-more (after_event value) (start_world team) at.schedule event
         ∙ ap (λ (o : Option World). option_and_then (λ t. after_event value t event) o) at.ran ∙ leads;
   }
 
-  pub step_of : (w next : World) (event : Event) → IsReached value limit tasks w → after_event value w event ≡ Some next
+  pub step_of : (w next : World) (event : Event) → IsReached team w → after_event value w event ≡ Some next
       → IsStepOf value w event next
   step_of w next event at leads = event_is_step value w (team_lists tasks w (known w at).team) event next leads
 
   -- What each event that passes a test keeps is kept by events that all pass it.
   pub onward : (test : Event → Bool) (Holds : World → Type 0)
-      → ((v : World) (event : Event) (next : World) → IsReached value limit tasks v → IsReached value limit tasks next
+      → ((v : World) (event : Event) (next : World) → IsReached team v → IsReached team next
       → IsStepOf value v event next → test event ≡ true → Holds v → Holds next)
-      → (events : List Event) (u w : World) → IsReached value limit tasks u → Holds u → list_all test events ≡ true
+      → (events : List Event) (u w : World) → IsReached team u → Holds u → list_all test events ≡ true
       → run_of (after_event value) u events ≡ Some w
-      → IsReached value limit tasks w × Holds w
+      → IsReached team w × Holds w
   onward test Holds keeps [] u w at holds pass goes =
       let same : u ≡ w = same_Some u w (sym (run-none (after_event value) u) ∙ goes) in
-      (subst (IsReached value limit tasks) same at, subst Holds same holds)
+      (subst (IsReached team) same at, subst Holds same holds)
   onward test Holds keeps (e ∷ events) u w at holds pass goes =
       let parts = run_parts (after_event value) u w e events goes in
       let v = parts.0 in
@@ -75,10 +67,10 @@ module _ (value : AgentTask → Numbers → Numbers → Option ℕ) (limit publi
       tests.1 parts.2
 
   -- so it is with what the world at the start has, too
-  pub in_runs : (Holds : World → Type 0) → Holds (start_world value limit tasks)
-      → ((v : World) (event : Event) (next : World) → IsReached value limit tasks v → IsReached value limit tasks next
+  pub in_runs : (Holds : World → Type 0) → Holds (start_world team)
+      → ((v : World) (event : Event) (next : World) → IsReached team v → IsReached team next
       → IsStepOf value v event next → Holds v → Holds next)
-      → (w : World) → IsReached value limit tasks w → Holds w
+      → (w : World) → IsReached team w → Holds w
   in_runs Holds start keeps w at =
       (onward (λ event. true) Holds (λ v event next at_v at_next step pass holds. keeps v event next at_v at_next step holds)
-      at.schedule (start_world value limit tasks) w start_reached start (all_pass at.schedule) at.ran).1
+      at.schedule (start_world team) w start_reached start (all_pass at.schedule) at.ran).1

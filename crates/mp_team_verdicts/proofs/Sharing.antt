@@ -1,18 +1,15 @@
 -- The shares of all agents together are the plan, and the plan solves at the verdict's cost.
-use Rattle.std.proofs.Common.{◌≡◌, ℕ, zero, suc, ◌+◌, ◌-◌, ◌≤◌, ◌⊎◌, Bool, true, false, List, [], ◌∷◌, ◌++◌, length, map, reverse, Option, Some, All, refl, sym, ap, subst, ◌∙◌, arith, inl, inr}
+use Rattle.std.proofs.Common.{◌≡◌, ℕ, zero, suc, ◌+◌, ◌-◌, ◌⊎◌, Bool, true, false, List, [], ◌∷◌, ◌++◌, length, map, reverse, Option, Some, All, refl, sym, ap, subst, ◌∙◌, arith, inl, inr}
 use Rattle.std.specs.Prelude.{IsSomeAnd, IsTrue, ◌==◌, filter, if◌then◌else◌, not}
 use Rattle.std.specs.List.{enumerate_from}
 use Rattle.std.specs.Option.{option_map_or}
 use Rattle.std.proofs.lemmas.Bool.{false≢true}
 use Rattle.std.proofs.lemmas.List.{map-append, reverse-append}
-use Rattle.std.proofs.lemmas.List.Elements.{All-contains, All-nil, All-push}
+use Rattle.std.proofs.lemmas.List.Elements.{All-nil, All-push}
 use Rattle.std.proofs.lemmas.List.Sums.{AllPass-from_list_all}
 use Rattle.std.proofs.lemmas.Option.{get_or_from_slice_get, none-some, same_Some, slice_get_within}
 use Rattle.mp_runs.specs.System.{state_after}
-use Rattle.mp_sets.specs.Numbers.{Numbers}
-use Rattle.mp_task.specs.Agree.{Agree}
 use Rattle.mp_task.specs.AgentTask.{AgentTask}
-use Rattle.mp_task.specs.Limits.{IsWithinLimits}
 use Rattle.mp_task.specs.Plan.{JointState, TaskStep, goals_hold, joint_start, task_cost, team_system}
 use Rattle.mp_messages.specs.declared.history.Event.{Event}
 use Rattle.mp_store.specs.declared.entry.Entry.{Entry}
@@ -29,11 +26,12 @@ use Rattle.mp_world.specs.Answers.{answer_by}
 use Rattle.mp_world.specs.Events.{run}
 use Rattle.mp_world.specs.Joint.{joint}
 use Rattle.mp_world.specs.RoundRobin.{is_over}
+use Rattle.mp_world.specs.Team.{AreTeamTasks, IsTeam, Team}
 use Rattle.mp_world.specs.World.{IsAgent, IsTeamWorld, World, agent_at}
 use Rattle.mp_world.proofs.Agents.{agree_numbered, member_of}
 use Rattle.mp_world.proofs.Mail.{agent_of_team}
 use Rattle.mp_world.proofs.Runs.{run_of_team}
-use Rattle.mp_team_snapshots.proofs.Agreeing.{agreeing_team}
+use Rattle.mp_team_snapshots.proofs.Agreeing.{are_of_team}
 use Rattle.mp_team_states.specs.Paths.{IsPath}
 use Rattle.mp_team_states.specs.Paths.IsPath.{at_root, by_action, by_message}
 use Rattle.mp_team_states.specs.Sound.{IsStateOf}
@@ -107,14 +105,14 @@ ended_in w over_is (suc k) r there =
     flipped true h = sym h
     flipped false h = refl
 
-module _ (publics : ℕ) (tasks : List AgentTask) (agree : Agree tasks) (limits : All IsWithinLimits tasks) (w : World) (team : IsTeamWorld tasks w)
+module _ (publics : ℕ) (tasks : List AgentTask) (are : AreTeamTasks tasks) (w : World) (team : IsTeamWorld tasks w)
     (so_far : HoldsSoFar tasks w) (flags : HaveFlags w) (finished : is_over w ≡ true) (first : AgentRecord) (first_there : agent_at w 1 ≡ Some first)
     (agent cost : ℕ) (given : given_verdict first ≡ Some (Proved agent cost)) where
   same_first : (x : AgentRecord) → agent_at w 1 ≡ Some x → first ≡ x
   same_first x there = same_Some first x (sym first_there ∙ there)
 
   me_is : (i : ℕ) (r : AgentRecord) → agent_at w i ≡ Some r → r.task.me ≡ i
-  me_is i r there = (member_of tasks (agree_numbered tasks agree) w team i r there).me
+  me_is i r there = (member_of tasks (agree_numbered tasks are.agree) w team i r there).me
 
   module _ (plan : List TaskStep) (p : IsProved w first plan) (each : (i : ℕ) (r : AgentRecord) → agent_at w i ≡ Some r → EndsWith plan r) where
     has_share : (i : ℕ) (r : AgentRecord) → agent_at w i ≡ Some r → HasShare plan r
@@ -130,11 +128,11 @@ module _ (publics : ℕ) (tasks : List AgentTask) (agree : Agree tasks) (limits 
         let has = entry_in w p.agent p.number p.picked e p.there p.goal.at in
         let x = so_far.reached p.agent p.number e has in
         let same : x.steps ≡ plan = one_path w p.agent p.number x.steps plan x.path p.path in
-        let states = (agent_sound tasks agree limits w team so_far.sound p.agent p.picked p.there).states in
+        let states = (agent_sound tasks are w team so_far.sound p.agent p.picked p.there).states in
         let known : IsStateOf w p.picked.task e.key =
         all_get (λ (e : Entry AgentState). IsStateOf w p.picked.task e.key) p.picked.search.kept.entries p.number e states p.goal.at in
         let goal = sym (flags p.agent p.picked p.there p.number e p.goal.at) ∙ p.goal.is_goal in
-        let hold = all_hold tasks agree limits w team p.agent p.picked p.there e.key known goal in
+        let hold = all_hold tasks are w team p.agent p.picked p.there e.key known goal in
         let leads : state_after (team_system tasks) (joint_start tasks) plan ≡ Some (joint w p.agent e.key) =
         ap (state_after (team_system tasks) (joint_start tasks)) (sym same) ∙ x.leads in
         let costs : cost ≡ p.cost = let one = sym given ∙ p.verdict in cc in
@@ -168,14 +166,13 @@ module _ (publics : ℕ) (tasks : List AgentTask) (agree : Agree tasks) (limits 
   by_stage (over teller plan) old =
       outcome plan (subst (λ (x : AgentRecord). IsProved w x plan) (sym (same_first old.first old.there)) old.verdict.proved) old.agents
 
-pub shares_in_runs : (value : AgentTask → Numbers → Numbers → Option ℕ) (limit : ℕ) (tasks : List AgentTask) → Agree tasks → All IsWithinLimits tasks → limit ≤ 10000000
-    → (schedule : List Event) (w : World) → run value limit tasks schedule ≡ Some w → is_over w ≡ true
-    → (first : AgentRecord) (agent cost : ℕ) → agent_at w 1 ≡ Some first → given_verdict first ≡ Some (Proved agent cost) → IsOutcome tasks w cost
-shares_in_runs value limit tasks agree limits most schedule w ran finished first agent cost there given =
-    let is_team = run_of_team value limit tasks schedule w ran in
-    let member = (member_of tasks (agree_numbered tasks agree) w is_team 1 first there).task in
-    let team = agreeing_team tasks first.task agree member (All-contains IsWithinLimits tasks first.task limits member) in
+pub shares_in_runs : (team : Team) → IsTeam team → (schedule : List Event) (w : World) → run team schedule ≡ Some w → is_over w ≡ true
+    → (first : AgentRecord) (agent cost : ℕ) → agent_at w 1 ≡ Some first → given_verdict first ≡ Some (Proved agent cost) → IsOutcome team.tasks w cost
+shares_in_runs team is_team schedule w ran finished first agent cost there given =
+    let of_world = run_of_team team schedule w ran in
+    let member = (member_of team.tasks (agree_numbered team.tasks is_team.tasks.agree) w of_world 1 first there).task in
+    let of_team = are_of_team team.tasks first.task is_team.tasks member in
     let publics = first.task.publics in
-    let ends = ends_so_far value limit publics tasks agree limits most team schedule w ran in
-    by_stage publics tasks agree limits w is_team (holds_so_far tasks agree limits value limit most schedule w ran)
-    (flags_in_runs value limit tasks agree limits most schedule w ran) finished first there agent cost given ends.stage ends.is
+    let ends = ends_so_far team is_team publics of_team schedule w ran in
+    by_stage publics team.tasks is_team.tasks w of_world (holds_so_far team is_team schedule w ran)
+    (flags_in_runs team is_team schedule w ran) finished first there agent cost given ends.stage ends.is

@@ -1,15 +1,12 @@
 -- The path to each entry has at most as many steps as all agents have expanded entries.
-use Rattle.std.proofs.Common.{◌≡◌, ℕ, zero, suc, ◌+◌, ◌-◌, ◌≤◌, ◌⊎◌, List, [], ◌∷◌, ◌++◌, length, get_or, Option, Some, None, All, refl, sym, ap, subst, ◌∙◌, arith, inl, inr}
+use Rattle.std.proofs.Common.{◌≡◌, ℕ, zero, suc, ◌+◌, ◌-◌, ◌≤◌, ◌⊎◌, List, [], ◌∷◌, ◌++◌, length, get_or, Option, Some, None, refl, sym, ap, subst, ◌∙◌, arith, inl, inr}
 use Rattle.std.specs.Prelude.{IsSomeAnd, slice_get, slice_set}
 use Rattle.std.specs.List.{sum_by}
 use Rattle.std.proofs.lemmas.Bool.{cases_eq}
 use Rattle.std.proofs.lemmas.List.{length-append}
 use Rattle.std.proofs.lemmas.List.Sums.{sum_by-set}
 use Rattle.std.proofs.lemmas.Option.{get_or_from_slice_get, none-some, same_Some, slice_get_within}
-use Rattle.mp_sets.specs.Numbers.{Numbers}
-use Rattle.mp_task.specs.Agree.{Agree}
 use Rattle.mp_task.specs.AgentTask.{AgentTask}
-use Rattle.mp_task.specs.Limits.{IsWithinLimits}
 use Rattle.mp_task.specs.Plan.{TaskStep}
 use Rattle.mp_messages.specs.declared.history.Event.{Event}
 use Rattle.mp_store.specs.declared.entry.Entry.{Entry}
@@ -17,6 +14,8 @@ use Rattle.mp_store.specs.Record.{empty}
 use Rattle.mp_search.specs.AgentState.{AgentState}
 use Rattle.mp_search.specs.Offering.{start_record}
 use Rattle.mp_machine.specs.AgentRecord.{AgentRecord}
+use Rattle.mp_world.specs.Team.{AreTeamTasks, IsTeam, Team}
+use Rattle.mp_world.specs.Values.{Values}
 use Rattle.mp_world.specs.World.{IsTeamWorld, World, agent_at, start_world, with_agent}
 use Rattle.mp_world.specs.Events.{agent_of}
 use Rattle.mp_world.specs.Steps.{IsStepOf}
@@ -47,7 +46,7 @@ same_by_get (x ∷ xs) (y ∷ ys) same =
     let rest = same_by_get xs ys (λ k. same (suc k)) in
     λ j. first j ∷ rest j
 
-module _ (value : AgentTask → Numbers → Numbers → Option ℕ) (w next : World) (event : Event) (is : IsStepOf value w event next) where
+module _ (value : Values) (w next : World) (event : Event) (is : IsStepOf value w event next) where
   pub agents_are : next.agents ≡ (with_agent w (agent_of event) is.step.after).agents
   agents_are = same_by_get next.agents (with_agent w (agent_of event) is.step.after).agents (λ k. by k (cases_eq (suc k) (agent_of event)))
     where
@@ -90,8 +89,8 @@ sent_at_stays w next grown agent sent number is = by (agent_at w agent) refl is
         subst (λ (o : Option AgentRecord). IsSomeAnd o (λ r. slice_get r.search.kept.sent sent ≡ Some number)) (sym later.1)
         (ap (λ (ns : List ℕ). slice_get ns sent) later.2.kept.sent.is ∙ stays_at r.search.kept.sent later.2.kept.sent.more sent number is)
 
-module _ (tasks : List AgentTask) (agree : Agree tasks) (limits : All IsWithinLimits tasks) (w : World) (team : IsTeamWorld tasks w) (sound : AreStatesSound tasks w)
-    (reached : AreReached tasks w) (short : ArePathsShort w) (value : AgentTask → Numbers → Numbers → Option ℕ) (next : World) (event : Event)
+module _ (tasks : List AgentTask) (are : AreTeamTasks tasks) (w : World) (team : IsTeamWorld tasks w) (sound : AreStatesSound tasks w)
+    (reached : AreReached tasks w) (short : ArePathsShort w) (value : Values) (next : World) (event : Event)
     (is : IsStepOf value w event next) where
   grown : HaveGrown w next
   grown = step_grows value w next event is
@@ -134,7 +133,7 @@ module _ (tasks : List AgentTask) (agree : Agree tasks) (limits : All IsWithinLi
   heard_short n e steps heard has now =
       let a = agent_of event in
       let m = heard.message in
-      let x = told_rightly tasks agree limits w team sound reached heard.sender heard.task m heard.at heard.state in
+      let x = told_rightly tasks are w team sound reached heard.sender heard.task m heard.at heard.state in
       let given = sent_at_stays w next grown heard.sender m.sent x.number x.given in
       let path = path_stays w next grown heard.sender x.number x.steps x.path in
       let same = ap length (one_path next a n x.steps steps (by_message a n e heard.sender m.sent x.number x.steps has heard.origin given path) now) in
@@ -166,22 +165,24 @@ module _ (tasks : List AgentTask) (agree : Agree tasks) (limits : All IsWithinLi
       by (inl same) =
           let one : h.agent_is ≡ is.step.after = same_Some h.agent_is is.step.after (sym h.there ∙ ap (agent_at next) same ∙ is.after) in
           new (subst (λ (a : ℕ). IsEntryAt next a number found.0) same found.1) (subst (λ (a : ℕ). IsPath next a number steps) same now)
-          (entry_comes tasks agree limits w team sound value next event is number found.0
+          (entry_comes tasks are w team sound value next event is number found.0
           (subst (λ (r : AgentRecord). slice_get r.search.kept.entries number ≡ Some found.0) one h.at))
       by (inr other) = was_old agent h.agent_is found.0 (sym (is.others agent other) ∙ h.there) h.at now
 
 -- ---- the start
 
-module _ (value : AgentTask → Numbers → Numbers → Option ℕ) (limit : ℕ) (tasks : List AgentTask) (agree : Agree tasks) (limits : All IsWithinLimits tasks) (most : limit ≤ 10000000) where
+module _ (team : Team) (is_team : IsTeam team) where
+  open team use {value}
+
   abbrev pub start : World
-  start = start_world value limit tasks
+  start = start_world team
 
   -- each entry is an initial state
   pub start_short : ArePathsShort start
   start_short agent number steps path =
       let found = path_entry start agent number steps path in
       let h = has_it start agent number found.0 found.1 in
-      let of = task_is value limit tasks agree limits most agent h.agent_is h.there in
+      let of = task_is team is_team agent h.agent_is h.there in
       let t = of.0 in
       let at : slice_get (start_record t (value t)).kept.entries number ≡ Some found.0 =
       subst (λ (r : AgentRecord). slice_get r.search.kept.entries number ≡ Some found.0) of.2 h.at in

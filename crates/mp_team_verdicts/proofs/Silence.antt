@@ -1,10 +1,9 @@
 -- Worlds in which no state is under way and no agent has anything to expand: so it stays, and agent 1 decides the search by
 -- the next snapshot that it starts.
-use Rattle.std.proofs.Common.{◌≡◌, ◌≢◌, ℕ, true, List, [], ◌∷◌, length, Option, Some, All, sym, subst, ◌∙◌}
+use Rattle.std.proofs.Common.{◌≡◌, ◌≢◌, ℕ, true, List, [], ◌∷◌, length, Some, All, sym, subst, ◌∙◌}
 use Rattle.std.specs.Prelude.{◌==◌, not, slice_index_or}
 use Rattle.std.proofs.lemmas.Bool.{false≢true}
 use Rattle.std.proofs.lemmas.List.Elements.{All-contains, All-head, All-nil}
-use Rattle.mp_sets.specs.Numbers.{Numbers}
 use Rattle.mp_task.specs.AgentTask.{AgentTask}
 use Rattle.mp_messages.specs.declared.history.Event.{Event}
 use Rattle.mp_messages.specs.declared.history.Event.TheVariants.{Expand, Take, Start}
@@ -17,6 +16,7 @@ use Rattle.mp_machine.specs.Snapshots.{started}
 use Rattle.mp_machine.specs.Taking.{with_state}
 use Rattle.mp_world.specs.Events.{local_of, taken}
 use Rattle.mp_world.specs.Steps.{IsStepOf}
+use Rattle.mp_world.specs.Values.{Values}
 use Rattle.mp_world.specs.World.{IsTeamWorld, World, agent_at, under_way}
 use Rattle.mp_world.proofs.Agents.{member_of}
 use Rattle.mp_world.proofs.LocalCases.{same_step}
@@ -41,7 +41,7 @@ front_of : (P : List ℕ → Type 0) (xs : List (List ℕ)) → not (length xs =
 front_of P [] some all = absurd (let impossible : ⊥ = cc in impossible)
 front_of P (x ∷ xs) some all = All-head P x xs all
 
-module _ (value : AgentTask → Numbers → Numbers → Option ℕ) (publics : ℕ) (tasks : List AgentTask) (team : IsTeamOf publics tasks)
+module _ (value : Values) (publics : ℕ) (tasks : List AgentTask) (team : IsTeamOf publics tasks)
     (w : World) (is : IsTeamWorld tasks w) where
   abbrev NoState : List ℕ → Type 0
   NoState = IsNoState (length tasks) publics

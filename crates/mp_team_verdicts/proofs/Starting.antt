@@ -1,14 +1,10 @@
 -- In silence, where no snapshot is under way and the search is not decided, agent 1 starts the next snapshot in a round.
-use Rattle.std.proofs.Common.{◌≡◌, ◌≢◌, ℕ, ◌+◌, ◌≤◌, Bool, true, ◌&&◌, List, [], ◌∷◌, ◌++◌, length, Option, Some, All, refl, sym, ap, subst, ◌∙◌, arith, ◌⊎◌, inl, inr}
+use Rattle.std.proofs.Common.{◌≡◌, ◌≢◌, ℕ, ◌+◌, ◌≤◌, Bool, true, ◌&&◌, List, [], ◌∷◌, ◌++◌, length, Some, refl, sym, ap, subst, ◌∙◌, arith, ◌⊎◌, inl, inr}
 use Rattle.std.specs.Prelude.{filter}
 use Rattle.std.specs.List.{filter_map}
 use Rattle.std.proofs.lemmas.Bool.{and_from, cases_eq, false≢true}
 use Rattle.std.proofs.lemmas.Option.{same_Some}
 use Rattle.mp_runs.proofs.Runs.{run-none, run_parts}
-use Rattle.mp_sets.specs.Numbers.{Numbers}
-use Rattle.mp_task.specs.Agree.{Agree}
-use Rattle.mp_task.specs.AgentTask.{AgentTask}
-use Rattle.mp_task.specs.Limits.{IsWithinLimits}
 use Rattle.mp_messages.specs.declared.history.Event.{Event}
 use Rattle.mp_messages.specs.declared.history.Event.TheVariants.{Expand, Take, Start}
 use Rattle.mp_messages.specs.declared.message.Message.{Message}
@@ -22,6 +18,7 @@ use Rattle.mp_machine.specs.Outgoing.{Step}
 use Rattle.mp_machine.specs.Snapshots.{started}
 use Rattle.mp_world.specs.Events.{after_event, agent_may, is_legal, taken}
 use Rattle.mp_world.specs.Steps.{IsStepOf}
+use Rattle.mp_world.specs.Team.{IsTeam, Team}
 use Rattle.mp_world.specs.World.{World}
 use Rattle.mp_world.proofs.Agents.{member_of}
 use Rattle.mp_team_snapshots.specs.Messages.{marker_of, markers, messages, report_of, reports}
@@ -48,36 +45,36 @@ use Rattle.mp_team_verdicts.proofs.Stuck.{HasNumberLeft, first_may_start, idle, 
 no_item : {X : Type 0} (x : X) (xs : List X) → x ∷ xs ≡ [] → ⊥
 no_item x xs is = let impossible : ⊥ = cc in impossible
 
-module _ (value : AgentTask → Numbers → Numbers → Option ℕ) (limit publics : ℕ) (tasks : List AgentTask)
-    (agree : Agree tasks) (limits : All IsWithinLimits tasks) (most : limit ≤ 10000000)
-    (team : IsTeamOf publics tasks) where
+module _ (team : Team) (is_team : IsTeam team) (publics : ℕ) (of_team : IsTeamOf publics team.tasks) where
+  open team use {tasks, value}
+
   abbrev n : ℕ
   n = length tasks
 
   abbrev At : World → Type 0
-  At = Reached value limit publics tasks agree limits most team
+  At = Reached team is_team publics of_team
 
   abbrev Leads : World → List Event → World → Type 0
-  Leads = Goes value limit publics tasks agree limits most team
+  Leads = Goes team is_team publics of_team
 
   abbrev num : World → ℕ → ℕ
-  num = number_at value limit publics tasks agree limits most team
+  num = number_at team is_team publics of_team
 
   is_known : (w : World) → At w → IsKnownWorld publics tasks w
-  is_known = known value limit publics tasks agree limits most team
+  is_known = known team is_team publics of_team
 
   seen : (w : World) → At w → Sound n (view publics w)
-  seen = sound_view value limit publics tasks agree limits most team
+  seen = sound_view team is_team publics of_team
 
   -- a start gives the next number
   pub start_number : (w next : World) → At w → IsStepOf value w Start next → num next 1 ≡ num w 1 + 1
   start_number w next at step =
       let is = (is_known w at).team in
       let r = step.agent in
-      ap (λ (s : Notes). s.number) (note_after value publics tasks team w is Start next step)
+      ap (λ (s : Notes). s.number) (note_after value publics tasks of_team w is Start next step)
       ∙ ap (λ (s : Step). s.after.snapshot.number) (sym (same_step (started r) step.step step.local))
       ∙ ap (λ (s : Notes). s.number) (start_effect r).snapshot
-      ∙ ap (λ (s : Notes). s.number + 1) (sym (note_before value publics tasks team w is Start next step))
+      ∙ ap (λ (s : Notes). s.number + 1) (sym (note_before value publics tasks of_team w is Start next step))
 
   -- A world in silence, in which the search goes on and no snapshot is under way.
   pub record IsIdle (w : World) : Type 0 where
@@ -91,7 +88,7 @@ module _ (value : AgentTask → Numbers → Numbers → Option ℕ) (limit publi
     is = is_known w i.at
 
     one : IsOf n 1
-    one = is_first value limit publics tasks agree limits most team w i.at
+    one = is_first team is_team publics of_team w i.at
 
     no_marker : (a b : ℕ) → IsOf n a → IsOf n b → a ≢ b → markers publics w a b ≡ []
     no_marker a b is_a is_b off = by (cases_eq (num w 1) 0) i.over
@@ -102,7 +99,7 @@ module _ (value : AgentTask → Numbers → Numbers → Option ℕ) (limit publi
             ∙ no_marker_begun (num w 1) (num w a) (num w b) _ (none_begun (num w 1) (num w a) none)
         by (inr some) (inl none) = absurd (some none)
         by (inr some) (inr complete) =
-            no_marker_left n team.agents (view publics w) (seen w i.at) (omega (arith, some)) complete a b is_a is_b off
+            no_marker_left n of_team.agents (view publics w) (seen w i.at) (omega (arith, some)) complete a b is_a is_b off
 
     no_report : (a : ℕ) → IsOf n a → a ≢ 1 → reports publics w a 1 ≡ []
     no_report a is_a off = by (cases_eq (num w 1) 0) i.over
@@ -114,7 +111,7 @@ module _ (value : AgentTask → Numbers → Numbers → Option ℕ) (limit publi
             (ap (λ (b : Bool). b && is_whole (note_at w a)) (none_begun (num w 1) (num w a) none))
         by (inr some) (inl none) = absurd (some none)
         by (inr some) (inr complete) =
-            no_report_left n team.agents (view publics w) (seen w i.at) (omega (arith, some)) complete a is_a off
+            no_report_left n of_team.agents (view publics w) (seen w i.at) (omega (arith, some)) complete a is_a off
 
     -- no message is taken
     no_take : (b a : ℕ) (next : World) → IsStepOf value w (Take b a) next → ⊥
@@ -124,20 +121,20 @@ module _ (value : AgentTask → Numbers → Numbers → Option ℕ) (limit publi
         took = took_effect (value step.agent.task) step.agent a (taken w (Take b a)) step.step step.local
 
         is_a : IsOf n a
-        is_a = is_sender value publics tasks team w (is_known w i.at).team b a next step
+        is_a = is_sender value publics tasks of_team w (is_known w i.at).team b a next step
 
         is_b : IsOf n b
-        is_b = is_receiver value publics tasks team w (is_known w i.at).team b a next step
+        is_b = is_receiver value publics tasks of_team w (is_known w i.at).team b a next step
 
         off : a ≢ b
-        off = apart value publics tasks team w (is_known w i.at).team b a next step
+        off = apart value publics tasks of_team w (is_known w i.at).team b a next step
 
         rest : List Message
-        rest = left value publics tasks team w (is_known w i.at).team (Take b a) next step a b
+        rest = left value publics tasks of_team w (is_known w i.at).team (Take b a) next step a b
 
         front : (m : Message) → message_of step.agent.task.agents step.agent.task.publics (taken w (Take b a)) ≡ Some m
-            → messages publics w a b ≡ m ∷ left value publics tasks team w (is_known w i.at).team (Take b a) next step a b
-        front m read = taken_first value publics tasks team w (is_known w i.at).team b a next step m read
+            → messages publics w a b ≡ m ∷ left value publics tasks of_team w (is_known w i.at).team (Take b a) next step a b
+        front m read = taken_first value publics tasks of_team w (is_known w i.at).team b a next step m read
 
         no_report_to : reports publics w a b ≡ []
         no_report_to = by (cases_eq b 1)
@@ -146,20 +143,20 @@ module _ (value : AgentTask → Numbers → Numbers → Option ℕ) (limit publi
             by (inl same) =
                 subst (λ k. reports publics w a k ≡ []) (sym same) (no_report a is_a (λ e. off (e ∙ sym same)))
             by (inr other) =
-                (ends_so_far value limit publics tasks agree limits most team i.at.schedule w i.at.ran).reports a b is_a is_b other
+                (ends_so_far team is_team publics of_team i.at.schedule w i.at.ran).reports a b is_a is_b other
 
         no_end : end_messages publics w a b ≡ []
         no_end =
             i.searches.mail a b step.agent
-            (is_agent_of publics tasks team w (team_numbers publics tasks team w (is_known w i.at).team) a is_a) step.there
+            (is_agent_of publics tasks of_team w (team_numbers publics tasks of_team w (is_known w i.at).team) a is_a) step.there
 
         no_end_taken : (m : Message) → is_of_end m ≡ true → message_of step.agent.task.agents step.agent.task.publics (taken w (Take b a)) ≡ Some m → ⊥
         no_end_taken m is_end read =
-            no_item m (filter is_of_end rest) (sym (end_taken value publics tasks team w (is_known w i.at).team b a next step m read is_end) ∙ no_end)
+            no_item m (filter is_of_end rest) (sym (end_taken value publics tasks of_team w (is_known w i.at).team b a next step m read is_end) ∙ no_end)
 
         by : (m : Message) → message_of step.agent.task.agents step.agent.task.publics (taken w (Take b a)) ≡ Some m → ⊥
         by (AState s) read =
-            takes_other value publics tasks team w (is_known w i.at).team b a next step (i.silent.no_states a b is_a is_b off) (AState s) read
+            takes_other value publics tasks of_team w (is_known w i.at).team b a next step (i.silent.no_states a b is_a is_b off) (AState s) read
         by (Marker k) read =
             no_item k (filter_map marker_of rest) (sym (ap (filter_map marker_of) (front (Marker k) read)) ∙ no_marker a b is_a is_b off)
         by (Report f) read =
@@ -175,7 +172,7 @@ module _ (value : AgentTask → Numbers → Numbers → Option ℕ) (limit publi
         let first = i.searches.first in
         let there = i.searches.there in
         let going = (i.searches.agents 1 first there).walked.going in
-        let me = (member_of tasks team.numbered w (is_known w i.at).team 1 first there).me in
+        let me = (member_of tasks of_team.numbered w (is_known w i.at).team 1 first there).me in
         let noted : note_at w 1 ≡ first.snapshot = note_of w 1 first there in
         let notes_me : first.snapshot.me ≡ 1 = ap (λ (s : Notes). s.me) (sym noted) ∙ ((seen w i.at).notes 1 one).me in
         let free = idle first.snapshot notes_me
@@ -185,27 +182,27 @@ module _ (value : AgentTask → Numbers → Numbers → Option ℕ) (limit publi
 
     -- the first event is a start
     begins_with : (event : Event) (next : World) → after_event value w event ≡ Some next → num next 1 ≡ num w 1 + 1
-    begins_with event next leads = by event next (step_of value limit publics tasks agree limits most team w next event i.at leads)
+    begins_with event next leads = by event next (step_of team is_team publics of_team w next event i.at leads)
       where
         by : (event : Event) (next : World) → IsStepOf value w event next → num next 1 ≡ num w 1 + 1
         by (Expand agent) next step =
-            absurd (false≢true (quiet_in_silence value publics tasks team w (is_known w i.at).team (is_known w i.at).in_runs i.silent (Expand agent) next step))
+            absurd (false≢true (quiet_in_silence value publics tasks of_team w (is_known w i.at).team (is_known w i.at).in_runs i.silent (Expand agent) next step))
         by (Take b a) next step = absurd (no_take b a next step)
         by Start next step = start_number w next i.at step
 
-    module _ (v : World) (q : IsQuietRound value limit publics tasks agree limits most team w v) (room : HasNumberLeft w) where
+    module _ (v : World) (q : IsQuietRound team is_team publics of_team w v) (room : HasNumberLeft w) where
       later : (event : Event) (es : List Event) (u last : World) → At u → after_event value w event ≡ Some u → Leads u es last
           → num w 1 + 1 ≤ num last 1
       later event es u last at_u leads goes =
           let first = begins_with event u leads in
-          let more = rises value limit publics tasks agree limits most team 1 es u last at_u goes in
+          let more = rises team is_team publics of_team 1 es u last at_u goes in
           omega arith
 
       first_event : (events : List Event) → Leads w events v → (events ≡ [] → ⊥) → num w 1 + 1 ≤ num v 1
       first_event [] goes some = absurd (some refl)
       first_event (e ∷ es) goes some =
           let parts = run_parts (after_event value) w v e es goes in
-          later e es parts.0 v (reached_next value limit publics tasks agree limits most team w parts.0 e i.at parts.1) parts.1 parts.2
+          later e es parts.0 v (reached_next team is_team publics of_team w parts.0 e i.at parts.1) parts.1 parts.2
 
       -- so agent 1 has started a snapshot after the round
       pub starts_next : num w 1 + 1 ≤ num v 1

@@ -4,10 +4,7 @@ use Rattle.std.specs.Prelude.{Ok, ◌==◌, filter, if◌then◌else◌}
 use Rattle.std.specs.List.{filter_map}
 use Rattle.std.proofs.lemmas.Bool.{and_parts, cases_eq, eq-eqb, false≢true}
 use Rattle.std.proofs.lemmas.Option.{none-some, same_Some}
-use Rattle.mp_sets.specs.Numbers.{Numbers}
-use Rattle.mp_task.specs.Agree.{Agree}
 use Rattle.mp_task.specs.AgentTask.{AgentTask}
-use Rattle.mp_task.specs.Limits.{IsWithinLimits}
 use Rattle.mp_messages.specs.declared.history.Event.{Event}
 use Rattle.mp_messages.specs.declared.history.Event.TheVariants.{Expand, Take, Start}
 use Rattle.mp_messages.specs.declared.message.Message.{Message}
@@ -27,6 +24,8 @@ use Rattle.mp_machine.specs.Verdicts.{is_deciding}
 use Rattle.mp_machine.proofs.NotesLemmas.{report_fair, state_changes_nothing}
 use Rattle.mp_world.specs.Events.{agent_of, taken}
 use Rattle.mp_world.specs.Steps.{IsStepOf}
+use Rattle.mp_world.specs.Team.{AreTeamTasks}
+use Rattle.mp_world.specs.Values.{Values}
 use Rattle.mp_world.specs.World.{World, agent_at}
 use Rattle.mp_world.proofs.LocalCases.{message_holds, same_step}
 use Rattle.mp_team_snapshots.specs.Messages.{marker_of, markers}
@@ -63,7 +62,7 @@ state_verdict s from f many few low high = by (verdict s) refl
 other_verdict : (r s : AgentRecord) → s.task ≡ r.task → verdict s.snapshot ≡ verdict r.snapshot → given_verdict s ≡ given_verdict r
 other_verdict r s task same = λ k. if (task k).me == 1 then same k else None
 
-module _ (value : AgentTask → Numbers → Numbers → Option ℕ) (publics : ℕ) (tasks : List AgentTask) (agree : Agree tasks) (limits : All IsWithinLimits tasks)
+module _ (value : Values) (publics : ℕ) (tasks : List AgentTask) (are : AreTeamTasks tasks)
     (team : IsTeamOf publics tasks) (w next : World) (known : IsKnownWorld publics tasks w) (known_next : IsKnownWorld publics tasks next)
     (goals : (i : ℕ) (r : AgentRecord) → agent_at next i ≡ Some r → NotesItsGoal r) where
   -- a verdict is given: the search went on before
@@ -84,7 +83,7 @@ module _ (value : AgentTask → Numbers → Numbers → Option ℕ) (publics : �
       by : (stage : Stage) (old : IsAt publics w stage) → ((first : AgentRecord) → agent_at w 1 ≡ Some first → is_deciding (given_verdict first) ≡ true → ⊥)
           → ComesTo publics tasks step.step.out next
       by searching old never =
-          judged_comes value publics tasks agree limits team w next known known_next event step room goals judges old.agents
+          judged_comes value publics tasks are team w next known known_next event step room goals judges old.agents
           (λ i j is_i is_j.
           let x = agent_before value publics tasks team w known.team event next step j is_j in
           left_same i j is_i is_j ∙ old.mail i j x.0 (is_agent_of publics tasks team w (team_numbers publics tasks team w known.team) i is_i) x.1)
@@ -107,7 +106,7 @@ module _ (value : AgentTask → Numbers → Numbers → Option ℕ) (publics : �
     me = me_before value publics tasks team w known.team (Take b a) next step b r step.there
 
     notes_me : r.snapshot.me ≡ r.task.me
-    notes_me = (place_of value publics tasks agree limits team w next known known_next (Take b a) step b r step.there).1
+    notes_me = (place_of value publics tasks are team w next known known_next (Take b a) step b r step.there).1
 
     notes : AreNotesOf (length w.agents) r.task.me r.snapshot
     notes = known.in_runs.sound.notes r (ap (agent_at w) me ∙ step.there)
@@ -127,14 +126,14 @@ module _ (value : AgentTask → Numbers → Numbers → Option ℕ) (publics : �
         let verdict_same : verdict (with_state (value r.task) r a m).snapshot ≡ verdict r.snapshot =
         ap verdict (state_snapshot (value r.task) r a m) ∙ state_verdict r.snapshot a (m.g + m.h) notes.marked (omega arith) low (omega arith) in
         let calm = state_calm (value r.task) r a m in
-        calm_comes value publics tasks agree limits team w next known known_next (Take b a) step room
+        calm_comes value publics tasks are team w next known known_next (Take b a) step room
         (λ first. subst (λ (s : Step). IsSameVerdict r s.after) same (record {
           verdict = other_verdict r (with_state (value r.task) r a m) calm.task verdict_same;
           number = ap (λ (s : Notes). s.number) (state_snapshot (value r.task) r a m) ∙ counted_has (λ t. t.number ≡ r.snapshot.number) r.snapshot a (m.g + m.h) refl refl;
         }))
         stage old
         (λ deciding. subst (λ (s : Step). s.after.goal ≡ r.goal) same
-        (state_goal (value r.task) r a m (place_of value publics tasks agree limits team w next known known_next (Take b a) step b r step.there).0).goal)
+        (state_goal (value r.task) r a m (place_of value publics tasks are team w next known known_next (Take b a) step b r step.there).0).goal)
         (subst (IsCalm r) same calm) (ends_left value publics tasks team w known.team b a next step (AState m) read refl)
 
     -- no marker is under way once a verdict is given
@@ -175,7 +174,7 @@ module _ (value : AgentTask → Numbers → Numbers → Option ℕ) (publics : �
     -- another agent does nothing for the end
     calm_marker : (number : ℕ) → Reading (Marker number) → r.task.me ≢ 1 → IsCalm r step.step → Comes
     calm_marker number read other calm =
-        calm_comes value publics tasks agree limits team w next known known_next (Take b a) step room (λ first. absurd (other (me ∙ first)))
+        calm_comes value publics tasks are team w next known known_next (Take b a) step room (λ first. absurd (other (me ∙ first)))
         stage old (λ deciding. absurd (no_marker number read old.first old.there deciding)) calm
         (ends_left value publics tasks team w known.team b a next step (Marker number) read refl)
 
@@ -183,7 +182,7 @@ module _ (value : AgentTask → Numbers → Numbers → Option ℕ) (publics : �
     Takes m = took_message (value r.task) r a m ≡ Ok step.step
 
     end_taken : (m : Message) → is_of_end m ≡ true → Reading m → Takes m → Comes
-    end_taken m is_end read took = end_comes value publics tasks agree limits team w next known known_next b a step room stage m is_end old read took
+    end_taken m is_end read took = end_comes value publics tasks are team w next known known_next b a step room stage m is_end old read took
 
     take_comes : Comes
     take_comes =
@@ -219,7 +218,7 @@ module _ (value : AgentTask → Numbers → Numbers → Option ℕ) (publics : �
       let r = step.agent in
       let made = expanded r.task (value r.task) r.search in
       let same = same_step (with_search r made) step.step step.local in
-      calm_comes value publics tasks agree limits team w next known known_next (Expand agent) step room
+      calm_comes value publics tasks are team w next known known_next (Expand agent) step room
       (λ first. subst (λ (s : Step). IsSameVerdict r s.after) same (record { verdict = refl; number = refl }))
       stage old (λ deciding. subst (λ (s : Step). s.after.goal ≡ r.goal) same refl)
       (subst (IsCalm r) same (expansion_calm r made))

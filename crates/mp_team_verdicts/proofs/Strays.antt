@@ -16,6 +16,7 @@ use Rattle.mp_machine.specs.LocalStep.{local}
 use Rattle.mp_machine.specs.Outgoing.{Outgoing, Step, others, to_each, to_one, to_others}
 use Rattle.mp_world.specs.Events.{local_of, taken}
 use Rattle.mp_world.specs.Steps.{IsStepOf}
+use Rattle.mp_world.specs.Values.{Values}
 use Rattle.mp_world.specs.World.{IsTeamWorld, World}
 use Rattle.mp_world.proofs.LocalCases.{StepCases, each_local, each_such}
 use Rattle.mp_team_snapshots.specs.Messages.{report_of, reports}
@@ -73,7 +74,7 @@ local_tells value r s event bytes is =
 abbrev pub ReportsToFirst : ℕ → ℕ → World → Type 0
 ReportsToFirst agents publics w = (i j : ℕ) → IsOf agents i → IsOf agents j → j ≢ 1 → reports publics w i j ≡ []
 
-pub reports_next : (value : AgentTask → Numbers → Numbers → Option ℕ) (publics : ℕ) (tasks : List AgentTask) (team : IsTeamOf publics tasks) (w : World)
+pub reports_next : (value : Values) (publics : ℕ) (tasks : List AgentTask) (team : IsTeamOf publics tasks) (w : World)
     (is : IsTeamWorld tasks w) → ReportsToFirst (length tasks) publics w → (next : World) (event : Event) (step : IsStepOf value w event next)
     → SendsFitting step.step → ReportsToFirst (length tasks) publics next
 reports_next value publics tasks team w is old next event step fits =

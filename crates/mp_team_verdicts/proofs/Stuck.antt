@@ -1,14 +1,11 @@
 -- As long as not all agents have ended, some event may happen.
-use Rattle.std.proofs.Common.{◌≡◌, ◌≢◌, ℕ, zero, suc, ◌+◌, ◌≤◌, ◌<◌, ◌^◌, Bool, true, false, ◌&&◌, List, [], ◌∷◌, length, Option, Some, All, refl, sym, ap, subst, ◌∙◌, arith, ◌⊎◌, inl, inr}
+use Rattle.std.proofs.Common.{◌≡◌, ◌≢◌, ℕ, zero, suc, ◌+◌, ◌≤◌, ◌<◌, ◌^◌, Bool, true, false, ◌&&◌, List, [], ◌∷◌, length, Some, refl, sym, ap, subst, ◌∙◌, arith, ◌⊎◌, inl, inr}
 use Rattle.std.specs.Prelude.{◌==◌, filter, nat_le, nat_lt, not, if◌then◌else◌, slice_get}
 use Rattle.std.specs.List.{filter_map, list_all}
 use Rattle.std.specs.Option.{option_map_or}
 use Rattle.std.proofs.lemmas.Bool.{and_from, and_left, and_right, eq-eqb, eqb-true, false_from_ne_true, false≢true, le-leb, lt-ltb}
 use Rattle.std.proofs.lemmas.Option.{same_Some}
-use Rattle.mp_sets.specs.Numbers.{Numbers}
-use Rattle.mp_task.specs.Agree.{Agree}
 use Rattle.mp_task.specs.AgentTask.{AgentTask}
-use Rattle.mp_task.specs.Limits.{IsWithinLimits}
 use Rattle.mp_task.specs.Plan.{TaskStep}
 use Rattle.mp_messages.specs.declared.history.Event.{Event}
 use Rattle.mp_messages.specs.declared.history.Event.TheVariants.{Expand, Take, Start}
@@ -23,6 +20,7 @@ use Rattle.mp_machine.specs.LocalStep.{is_another, may, may_start}
 use Rattle.mp_machine.specs.Verdicts.{is_deciding}
 use Rattle.mp_world.specs.Events.{agent_may, agent_of, has_message, is_legal, local_of}
 use Rattle.mp_world.specs.RoundRobin.{is_over}
+use Rattle.mp_world.specs.Team.{IsTeam, Team}
 use Rattle.mp_world.specs.World.{IsAgent, World, agent_at, start_world, under_way}
 use Rattle.mp_world.proofs.Agents.{agent_there, member_of}
 use Rattle.mp_world.proofs.LogOfRun.{new_at}
@@ -132,58 +130,58 @@ first_may_start r me done free undecided room =
     and_from ((r.task.me == 1) && not (may_expand r.limit r.search) && not (is_under_way r.snapshot) && not (is_deciding (given_verdict r)))
     (nat_lt (r.snapshot.number + 1) (2 ^ 60)) four (lt-ltb (r.snapshot.number + 1) (2 ^ 60) room)
 
-module _ (value : AgentTask → Numbers → Numbers → Option ℕ) (limit publics : ℕ) (tasks : List AgentTask)
-    (agree : Agree tasks) (limits : All IsWithinLimits tasks) (most : limit ≤ 10000000)
-    (team : IsTeamOf publics tasks) where
+module _ (team : Team) (is_team : IsTeam team) (publics : ℕ) (of_team : IsTeamOf publics team.tasks) where
+  open team use {tasks, value}
+
   -- ---- each agent has its own findings
 
   abbrev pub ListThemselves : World → Type 0
   ListThemselves w = (i : ℕ) (r : AgentRecord) → agent_at w i ≡ Some r → ListsItself r.snapshot
 
-  new_listed : ListThemselves (start_world value limit tasks)
+  new_listed : ListThemselves (start_world team)
   new_listed i r there =
-      subst (λ (x : AgentRecord). ListsItself x.snapshot) (sym (new_at value limit tasks i r there))
+      subst (λ (x : AgentRecord). ListsItself x.snapshot) (sym (new_at team i r there))
       (record { listed = λ some. absurd (omega arith) })
 
-  pub list_themselves : (w : World) → IsReached value limit tasks w → ListThemselves w
+  pub list_themselves : (w : World) → IsReached team w → ListThemselves w
   list_themselves =
-      in_runs value limit publics tasks agree limits most team ListThemselves new_listed
+      in_runs team is_team publics of_team ListThemselves new_listed
       (λ v event next at at_next step old.
-      let is = known value limit publics tasks agree limits most team v at in
-      let move = moved value publics tasks team v is.team event next step in
-      let notes = its_notes value publics tasks team v is.team is.in_runs event next step in
-      let of = is_its value publics tasks team v is.team is.in_runs event next step in
+      let is = known team is_team publics of_team v at in
+      let move = moved value publics tasks of_team v is.team event next step in
+      let notes = its_notes value publics tasks of_team v is.team is.in_runs event next step in
+      let of = is_its value publics tasks of_team v is.team is.in_runs event next step in
       each_agent value v event next step (λ i r. ListsItself r.snapshot)
-      (lists_itself (length tasks) (agent_of event) team.agents of move.message step.agent step.step.after notes
+      (lists_itself (length tasks) (agent_of event) of_team.agents of move.message step.agent step.step.after notes
       move.moves
       (old (agent_of event) step.agent step.there))
       (λ i r there off. old i r there))
 
-  module _ (w : World) (at : IsReached value limit tasks w) where
+  module _ (w : World) (at : IsReached team w) where
     is : IsKnownWorld publics tasks w
-    is = known value limit publics tasks agree limits most team w at
+    is = known team is_team publics of_team w at
 
     pub sound_view : Sound (length tasks) (view publics w)
-    sound_view = to_view publics tasks team w (team_numbers publics tasks team w is.team) is.in_runs.sound
+    sound_view = to_view publics tasks of_team w (team_numbers publics tasks of_team w is.team) is.in_runs.sound
 
     pub of_there : (i : ℕ) (r : AgentRecord) → agent_at w i ≡ Some r → IsOf (length tasks) i
-    of_there i r there = is_of_there publics tasks team w (team_numbers publics tasks team w is.team) i r there
+    of_there i r there = is_of_there publics tasks of_team w (team_numbers publics tasks of_team w is.team) i r there
 
     pub is_agent : (i : ℕ) → IsOf (length tasks) i → IsAgent w i
-    is_agent i of = is_agent_of publics tasks team w (team_numbers publics tasks team w is.team) i of
+    is_agent i of = is_agent_of publics tasks of_team w (team_numbers publics tasks of_team w is.team) i of
 
     pub is_first : IsOf (length tasks) 1
-    is_first = record { from_1 = omega arith; at_most = team.some }
+    is_first = record { from_1 = omega arith; at_most = of_team.some }
 
     pub another_at : (i j : ℕ) (r : AgentRecord) → agent_at w j ≡ Some r → IsOf (length tasks) i → i ≢ j → is_another r.task i ≡ true
     another_at i j r there of off =
-        let m = member_of tasks team.numbered w is.team j r there in
+        let m = member_of tasks of_team.numbered w is.team j r there in
         let many = m.agents in
         let high = of.at_most in
         another r.task i of.from_1 (omega arith) (λ same. off (same ∙ m.me))
 
     pub ends : EndsSoFar publics tasks w
-    ends = ends_so_far value limit publics tasks agree limits most team at.schedule w at.ran
+    ends = ends_so_far team is_team publics of_team at.schedule w at.ran
 
     -- where nothing is under way there are no messages
     pub no_messages : (i j : ℕ) → under_way w i j ≡ [] → messages publics w i j ≡ []
@@ -246,7 +244,7 @@ module _ (value : AgentTask → Numbers → Numbers → Option ℕ) (limit publi
           let entry = path_entry w to next.number earlier next.path in
           let h = has_it w to next.number entry.0 entry.1 in
           let going = (a.agents to h.agent_is h.there).going in
-          let of = is_of_agent publics tasks team w (team_numbers publics tasks team w is.team) from a.verdict.sender in
+          let of = is_of_agent publics tasks of_team w (team_numbers publics tasks of_team w is.team) from a.verdict.sender in
           let none = none_to from to h.agent_is h.there going of (λ same. a.verdict.apart (sym same)) in
           false≢true (sym (not_due (from == from && to == to) (Trace sent (length later))
           (no_end (walking from to sent earlier later) a from to h.agent_is a.verdict.sender h.there none)) ∙ both_same from to)
@@ -274,7 +272,7 @@ module _ (value : AgentTask → Numbers → Numbers → Option ℕ) (limit publi
         first_note = note_of w 1 first a.there
 
         me_is : first.task.me ≡ 1
-        me_is = (member_of tasks team.numbered w is.team 1 first a.there).me
+        me_is = (member_of tasks of_team.numbered w is.team 1 first a.there).me
 
         notes_me : first.snapshot.me ≡ 1
         notes_me = ap (λ (s : Notes). s.me) (sym first_note) ∙ (sound_view.notes 1 is_first).me
@@ -289,7 +287,7 @@ module _ (value : AgentTask → Numbers → Numbers → Option ℕ) (limit publi
             ∙ ap (has first.snapshot.reported) (sym notes_me)
             ∙ (list_themselves w at 1 first a.there).listed some in
             inr (ap is_complete (sym first_note)
-            ∙ complete_if_still (length tasks) team.agents (view publics w) sound_view some_noted still is_first itself)
+            ∙ complete_if_still (length tasks) of_team.agents (view publics w) sound_view some_noted still is_first itself)
 
         pub not_searching : ⊥
         not_searching =

@@ -4,10 +4,7 @@ use Rattle.std.specs.Prelude.{IsSomeAnd, Ok, Err, ◌==◌, filter, not}
 use Rattle.std.specs.Option.{option_map_or}
 use Rattle.std.proofs.lemmas.Bool.{eq-eqb}
 use Rattle.std.proofs.lemmas.Option.{same_Some}
-use Rattle.mp_sets.specs.Numbers.{Numbers}
-use Rattle.mp_task.specs.Agree.{Agree}
 use Rattle.mp_task.specs.AgentTask.{AgentTask}
-use Rattle.mp_task.specs.Limits.{IsWithinLimits}
 use Rattle.mp_task.specs.Plan.{TaskStep}
 use Rattle.mp_messages.specs.declared.history.Event.TheVariants.{Take}
 use Rattle.mp_messages.specs.declared.message.EndKind.{EndKind}
@@ -23,6 +20,8 @@ use Rattle.mp_machine.specs.Taking.{ending_of, is_strange_length, is_strange_pic
 use Rattle.mp_machine.specs.WalkingBack.{solved, walked, walked_from_goal}
 use Rattle.mp_world.specs.Events.{taken}
 use Rattle.mp_world.specs.Steps.{IsStepOf}
+use Rattle.mp_world.specs.Team.{AreTeamTasks}
+use Rattle.mp_world.specs.Values.{Values}
 use Rattle.mp_world.specs.World.{World, agent_at}
 use Rattle.mp_world.proofs.LocalCases.{good_step}
 use Rattle.mp_team_snapshots.specs.Snapshots.{one_if_due}
@@ -45,7 +44,7 @@ pub ended_kind : (kind : EndKind) → is_going (ending_of kind) ≡ false
 ended_kind kinds.NoPlan = refl
 ended_kind kinds.Spent = refl
 
-module _ (value : AgentTask → Numbers → Numbers → Option ℕ) (publics : ℕ) (tasks : List AgentTask) (agree : Agree tasks) (limits : All IsWithinLimits tasks)
+module _ (value : Values) (publics : ℕ) (tasks : List AgentTask) (are : AreTeamTasks tasks)
     (team : IsTeamOf publics tasks) (w next : World) (known : IsKnownWorld publics tasks w) (known_next : IsKnownWorld publics tasks next) (b a : ℕ)
     (step : IsStepOf value w (Take b a) next) (room : All (λ x. HasRoom x.message) step.step.out) where
   abbrev Comes : Type 0
@@ -73,9 +72,9 @@ module _ (value : AgentTask → Numbers → Numbers → Option ℕ) (publics : �
       let good = good_step (is_strange_pick r a number) StrangePick (walked_from_goal after) step.step took in
       let is : walked after p.number 0 ≡ step.step =
       ap (λ (o : Option ℕ). option_map_or (λ entry. walked after entry 0) o (without_messages after)) (sym goal) ∙ good.1 in
-      walks_on value publics tasks agree limits team w next known known_next b a step room stage old after refl refl refl refl refl p.number plan [] is
+      walks_on value publics tasks are team w next known known_next b a step room stage old after refl refl refl refl refl p.number plan [] is
       (λ i x there. (old.agents i x there).walked)
-      (none_left value publics tasks agree limits team w next known known_next b a step room stage old (Pick number) read refl (Pick number)
+      (none_left value publics tasks are team w next known known_next b a step room stage old (Pick number) read refl (Pick number)
       (λ i j g k. one_if_due (i == sym a_is k && b_is k == j) (Pick number)) none)
       (subst (IsProved w old.first) (sym (append-nil plan)) p)
       (subst (λ (k : ℕ). IsPath w k p.number plan) agent_is p.path)
@@ -92,9 +91,9 @@ module _ (value : AgentTask → Numbers → Numbers → Option ℕ) (publics : �
       let now : traced r (length later) leads.number ≡ Ok step.step =
       ap (λ (o : Option ℕ). option_map_or (traced r (length later)) o (Err StrangeTrace)) (sym entry) ∙ took in
       let good = good_step (is_strange_trace r leads.number (length later)) StrangeTrace (walked r leads.number (length later)) step.step now in
-      walks_on value publics tasks agree limits team w next known known_next b a step room stage old r refl refl refl refl refl leads.number earlier later
+      walks_on value publics tasks are team w next known known_next b a step room stage old r refl refl refl refl refl leads.number earlier later
       good.1 (λ i x there. old.agents i x there)
-      (none_left value publics tasks agree limits team w next known known_next b a step room stage old m read refl m
+      (none_left value publics tasks are team w next known known_next b a step room stage old m read refl m
       (λ i j g k. one_if_due (i == sym a_is k && b_is k == j) m) none)
       old.verdict.proved (subst (λ (k : ℕ). IsPath w k leads.number earlier) b_is leads.path)
 
@@ -108,24 +107,24 @@ module _ (value : AgentTask → Numbers → Numbers → Option ℕ) (publics : �
       let over_now : is_going step.step.after.ending ≡ false = subst (λ (x : AgentRecord). is_going x.ending ≡ false) same ended in
       let kept = subst (IsSameVerdict step.agent) same keeps in
       let goal_now = subst (λ (x : AgentRecord). x.goal ≡ step.agent.goal) same goal in
-      let one = first_now value publics tasks agree limits team w next known known_next (Take b a) step room (λ e. kept) stage old (λ decided. goal_now) in
+      let one = first_now value publics tasks are team w next known known_next (Take b a) step room (λ e. kept) stage old (λ decided. goal_now) in
       record {
         stage = stage;
         is = record {
           first = one.0;
           there = one.1;
           verdict =
-              verdict_now value publics tasks agree limits team w next known known_next (Take b a) step room (λ e. kept) stage old
+              verdict_now value publics tasks are team w next known known_next (Take b a) step room (λ e. kept) stage old
               (λ decided. goal_now) stage old.verdict;
           agents =
               each_agent value w (Take b a) next step (λ i y. AgentAt stage y) (subst (AgentAt stage) same mine)
               (λ i y there other. old.agents i y there);
           mail =
-              mail_now value publics tasks agree limits team w next known known_next b a step room stage old m read is_end m teller all
+              mail_now value publics tasks are team w next known known_next b a step room stage old m read is_end m teller all
               (eq-eqb a teller a_is) none (sym silent) over_now;
         };
         fits =
-            fits_all value publics tasks agree limits team w next known known_next b a step room stage old m read is_end m teller all
+            fits_all value publics tasks are team w next known known_next b a step room stage old m read is_end m teller all
             (eq-eqb a teller a_is) none (sym silent) over_now;
       }
 
@@ -146,4 +145,4 @@ module _ (value : AgentTask → Numbers → Numbers → Option ℕ) (publics : �
             told (over teller plan) (Length (length plan)) teller (λ i j g. refl) refl first none old read after good.1
             (record { verdict = refl; number = refl }) refl refl
             (record { trail = (old.agents b step.agent step.there).trail; ending = inr (record { ending = refl; share = refl }) });
-      }) stage m (due_is value publics tasks agree limits team w next known known_next b a step room stage old m read is_end) old read took
+      }) stage m (due_is value publics tasks are team w next known known_next b a step room stage old m read is_end) old read took

@@ -1,13 +1,10 @@
 -- An agent takes a message of the end of the search.
-use Rattle.std.proofs.Common.{◌≡◌, ◌≢◌, ℕ, Bool, true, false, ◌&&◌, List, [], ◌∷◌, ◌++◌, length, Option, Some, None, All, refl, sym, ap, subst, ◌∙◌, append-nil, ◌⊎◌, inl, inr}
+use Rattle.std.proofs.Common.{◌≡◌, ◌≢◌, ℕ, Bool, true, false, ◌&&◌, List, [], ◌∷◌, ◌++◌, length, Some, None, All, refl, sym, ap, subst, ◌∙◌, append-nil, ◌⊎◌, inl, inr}
 use Rattle.std.specs.Prelude.{◌==◌, filter, if◌then◌else◌}
 use Rattle.std.proofs.lemmas.Bool.{and_parts, cases_eq, eqb-true, false_from_ne_true}
 use Rattle.std.proofs.lemmas.List.Elements.{All-nil}
 use Rattle.std.proofs.lemmas.Option.{same_Some}
-use Rattle.mp_sets.specs.Numbers.{Numbers}
-use Rattle.mp_task.specs.Agree.{Agree}
 use Rattle.mp_task.specs.AgentTask.{AgentTask}
-use Rattle.mp_task.specs.Limits.{IsWithinLimits}
 use Rattle.mp_task.specs.Plan.{TaskStep}
 use Rattle.mp_messages.specs.declared.history.Event.TheVariants.{Take}
 use Rattle.mp_messages.specs.declared.message.EndKind.{EndKind}
@@ -23,6 +20,8 @@ use Rattle.mp_machine.specs.Outgoing.{Outgoing, Step}
 use Rattle.mp_machine.specs.WalkingBack.{walked}
 use Rattle.mp_world.specs.Events.{taken}
 use Rattle.mp_world.specs.Steps.{IsStepOf}
+use Rattle.mp_world.specs.Team.{AreTeamTasks}
+use Rattle.mp_world.specs.Values.{Values}
 use Rattle.mp_world.specs.World.{IsAgent, World, agent_at}
 use Rattle.mp_team_snapshots.specs.Snapshots.{one_if_due}
 use Rattle.mp_team_snapshots.specs.Team.{HasRoom, IsTeamOf}
@@ -97,7 +96,7 @@ elsewhere sender receiver i j (inr other) =
     and_right_false true q is = is
     and_right_false false q is = refl
 
-module _ (value : AgentTask → Numbers → Numbers → Option ℕ) (publics : ℕ) (tasks : List AgentTask) (agree : Agree tasks) (limits : All IsWithinLimits tasks)
+module _ (value : Values) (publics : ℕ) (tasks : List AgentTask) (are : AreTeamTasks tasks)
     (team : IsTeamOf publics tasks) (w next : World) (known : IsKnownWorld publics tasks w) (known_next : IsKnownWorld publics tasks next) (b a : ℕ)
     (step : IsStepOf value w (Take b a) next) (room : All (λ x. HasRoom x.message) step.step.out) (stage : Stage) (old : IsAt publics w stage) where
   abbrev rest : ℕ → ℕ → List Message
@@ -145,7 +144,7 @@ module _ (value : AgentTask → Numbers → Numbers → Option ℕ) (publics : �
         (is_teller : (a == teller) ≡ true) (here : rest a b ≡ []) (silent : step.step.out ≡ []) (ended : is_going step.step.after.ending ≡ false) where
       fits_nothing : AllFit (length tasks) publics step.step.out
       fits_nothing =
-          team_fits value publics tasks agree limits team w next known known_next (Take b a) step room
+          team_fits value publics tasks are team w next known known_next (Take b a) step room
           (subst (λ (out : List Outgoing). All (λ y. HasEndRoom y.message) out) (sym silent) (All-nil (λ (y : Outgoing). HasEndRoom y.message)))
 
       pub fits_all : AllFit (length tasks) publics step.step.out
@@ -220,10 +219,10 @@ module _ (value : AgentTask → Numbers → Numbers → Option ℕ) (publics : �
     pub walks_on : ComesTo publics tasks step.step.out next
     walks_on =
         let same = walked_same r entry (length later) task snapshot goal is in
-        let one = first_same value publics tasks agree limits team w next known known_next (Take b a) step room (λ e. same.0) old.first old.there in
+        let one = first_same value publics tasks are team w next known known_next (Take b a) step room (λ e. same.0) old.first old.there in
         let now = proved_stays value publics tasks team w known.team (Take b a) next step old.first one.0 (earlier ++ later) one.2.verdict same.1 proved in
         let mine = all_walked b step.agent step.there in
-        walk_comes value publics tasks agree limits team w next known known_next (Take b a) step room r entry earlier later [] (All-nil IsNoEnd)
+        walk_comes value publics tasks are team w next known known_next (Take b a) step room r entry earlier later [] (All-nil IsNoEnd)
         is task (trail ∙ mine.trail ∙ ap (λ (i : ℕ). notes i later) me_is) (ap is_going ending ∙ mine.going)
         (λ i x there other. all_walked i x there) none one.0 one.1 now.0
         (path_stays w next (step_grows value w next (Take b a) step) b entry earlier path)

@@ -1,13 +1,11 @@
 -- States go to other agents alone: none is under way from an agent to itself.
-use Rattle.std.proofs.Common.{◌≡◌, ◌≢◌, ℕ, ◌-◌, ◌≤◌, ◌⊎◌, Bool, true, false, List, [], length, Option, Some, refl, sym, ap, subst, ◌∙◌, arith, inl, inr}
+use Rattle.std.proofs.Common.{◌≡◌, ◌≢◌, ℕ, ◌-◌, ◌≤◌, ◌⊎◌, Bool, true, false, List, [], length, Some, refl, sym, ap, subst, ◌∙◌, arith, inl, inr}
 use Rattle.std.specs.Prelude.{Contains, replicate, ◌==◌, if◌then◌else◌, slice_index_or}
 use Rattle.std.specs.List.{filter}
 use Rattle.std.proofs.lemmas.Bool.{cases_eq, eqb-true}
 use Rattle.std.proofs.lemmas.List.{get_or-replicate}
 use Rattle.std.proofs.lemmas.List.Elements.{All-contains, Contains-append_cases}
 use Rattle.mp_list.proofs.Members.{no_member}
-use Rattle.mp_sets.specs.Numbers.{Numbers}
-use Rattle.mp_task.specs.Agree.{Agree}
 use Rattle.mp_task.specs.AgentTask.{AgentTask}
 use Rattle.mp_messages.specs.declared.history.Event.{Event}
 use Rattle.mp_messages.specs.declared.history.Event.TheVariants.{Expand, Take, Start}
@@ -19,8 +17,9 @@ use Rattle.mp_machine.specs.declared.outgoing.Out.{Out}
 use Rattle.mp_machine.specs.Outgoing.{in_bytes}
 use Rattle.mp_world.specs.Events.{agent_of, local_of, run, sent_in, taken, without_taken}
 use Rattle.mp_world.specs.Steps.{IsStepOf, sent_between, sent_to}
-use Rattle.mp_world.specs.World.{IsAgent, IsTeamWorld, World, start_world, under_way}
-use Rattle.mp_world.proofs.Agents.{agree_numbered, member_of, sender_of}
+use Rattle.mp_world.specs.Team.{Team}
+use Rattle.mp_world.specs.World.{AreNumbered, IsAgent, IsTeamWorld, World, start_world, under_way}
+use Rattle.mp_world.proofs.Agents.{member_of, sender_of}
 use Rattle.mp_world.proofs.Mail.{agent_of_team, under_way-other}
 use Rattle.mp_world.proofs.Runs.{run_has}
 use Rattle.mp_world.proofs.Stepping.{team_lists, team_size}
@@ -33,10 +32,12 @@ use Rattle.mp_team_verdicts.proofs.StepMessages.{local_goes}
 abbrev pub HaveNoneToThemselves : List AgentTask → World → Type 0
 HaveNoneToThemselves tasks w = (agent : ℕ) (m : State) → 1 ≤ agent → agent ≤ length tasks → Contains (under_way w agent agent) (spelling (kinds.State m)) → ⊥
 
-module _ (value : AgentTask → Numbers → Numbers → Option ℕ) (limit : ℕ) (tasks : List AgentTask) (agree : Agree tasks) where
+module _ (team : Team) (numbered : AreNumbered team.tasks) where
+  open team use {tasks, value}
+
   none_next : (w : World) (event : Event) (next : World) → IsTeamWorld tasks w → HearOthers w → HaveNoneToThemselves tasks w → IsStepOf value w event next
       → HaveNoneToThemselves tasks next
-  none_next w event next team hears old is agent m low high here =
+  none_next w event next of_team hears old is agent m low high here =
       elim (Contains-append_cases (under_way (without_taken w event) agent agent) (sent_between event is.step agent agent) (spelling (kinds.State m))
       (subst (λ (ms : List (List ℕ)). Contains ms (spelling (kinds.State m))) (is.mail agent agent there there) here)) [
         | inl before ↦ old agent m low high (left event is before)
@@ -44,7 +45,7 @@ module _ (value : AgentTask → Numbers → Numbers → Option ℕ) (limit : ℕ
       ]
     where
       there : IsAgent w agent
-      there = record { from_1 = low; at_most = let size = team_size tasks w team in omega arith }
+      there = record { from_1 = low; at_most = let size = team_size tasks w of_team in omega arith }
 
       -- no event takes a message from an agent to itself
       left : (event : Event) → IsStepOf value w event next → Contains (under_way (without_taken w event) agent agent) (spelling (kinds.State m))
@@ -52,9 +53,9 @@ module _ (value : AgentTask → Numbers → Numbers → Option ℕ) (limit : ℕ
       left (Expand other) is here = here
       left Start is here = here
       left (Take by of) is here =
-          let sender = sender_of tasks (agree_numbered tasks agree) w team by of is.agent is.there is.may in
+          let sender = sender_of tasks numbered w of_team by of is.agent is.there is.may in
           subst (λ (ms : List (List ℕ)). Contains ms (spelling (kinds.State m)))
-          (under_way-other w (team_lists tasks w team) of by agent agent _ sender.0 (agent_of_team w by is.agent is.there) there there (apart sender.1 (cases_eq agent of))) here
+          (under_way-other w (team_lists tasks w of_team) of by agent agent _ sender.0 (agent_of_team w by is.agent is.there) there there (apart sender.1 (cases_eq agent of))) here
         where
           apart : of ≢ by → (agent ≡ of) ⊎ (agent ≡ of → ⊥) → (agent ≢ of) ⊎ (agent ≢ by)
           apart off (inl same) = inr (λ same_by. off (sym same ∙ same_by))
@@ -68,19 +69,19 @@ module _ (value : AgentTask → Numbers → Numbers → Option ℕ) (limit : ℕ
           let x = from_map in_bytes is.step.out out.0 passes.0 in
           let to : x.0.to ≡ agent = ap (λ (y : Out). y.to) x.2 ∙ eqb-true out.0.to agent passes.1 in
           let r = is.agent in
-          let me = (member_of tasks (agree_numbered tasks agree) w team (agent_of event) r is.there).me in
+          let me = (member_of tasks numbered w of_team (agent_of event) r is.there).me in
           let goes = local_goes (value r.task) r is.step (local_of event) (taken w event) (hears (agent_of event) r is.there) is.may is.local in
           (All-contains (GoesOut r.task) is.step.out x.0 goes.out x.1).another (to ∙ eqb-true agent (agent_of event) test ∙ sym me)
 
-  start_none : HaveNoneToThemselves tasks (start_world value limit tasks)
+  start_none : HaveNoneToThemselves tasks (start_world team)
   start_none agent m low high here = no_member (spelling (kinds.State m)) (subst (λ (ms : List (List ℕ)). Contains ms (spelling (kinds.State m))) nothing here)
     where
-      nothing : under_way (start_world value limit tasks) agent agent ≡ []
+      nothing : under_way (start_world team) agent agent ≡ []
       nothing =
           ap (λ (row : List (List (List ℕ))). slice_index_or row (agent - 1) []) (get_or-replicate (length tasks) (agent - 1) (replicate (length tasks) []) [] (omega arith))
           ∙ get_or-replicate (length tasks) (agent - 1) [] [] (omega arith)
 
-  pub none_to_themselves : (schedule : List Event) (w : World) → run value limit tasks schedule ≡ Some w → HaveNoneToThemselves tasks w
+  pub none_to_themselves : (schedule : List Event) (w : World) → run team schedule ≡ Some w → HaveNoneToThemselves tasks w
   none_to_themselves schedule w ran =
-      (run_has value limit tasks (λ w. HearOthers w × HaveNoneToThemselves tasks w) (start_hears value limit tasks agree, start_none)
-      (λ w event next team old is. (event_hears value limit tasks agree w event next old.0 is, none_next w event next team old.0 old.1 is)) schedule w ran).1
+      (run_has team (λ w. HearOthers w × HaveNoneToThemselves tasks w) (start_hears team numbered, start_none)
+      (λ w event next of_team old is. (event_hears team numbered w event next old.0 is, none_next w event next of_team old.0 old.1 is)) schedule w ran).1

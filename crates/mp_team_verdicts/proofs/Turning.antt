@@ -1,20 +1,17 @@
 -- What is so before a round until an agent has taken all messages of another one, and what is so from then on.
-use Rattle.std.proofs.Common.{◌≡◌, ◌≢◌, ℕ, ◌≤◌, Bool, true, false, ◌||◌, List, [], ◌∷◌, length, Option, All, refl, sym, ap, subst, ◌∙◌, arith, ◌⊎◌, inl, inr}
+use Rattle.std.proofs.Common.{◌≡◌, ◌≢◌, ℕ, Bool, true, false, ◌||◌, List, [], ◌∷◌, length, refl, sym, ap, subst, ◌∙◌, arith, ◌⊎◌, inl, inr}
 use Rattle.std.specs.Prelude.{◌==◌}
 use Rattle.std.specs.List.{range_with_len}
 use Rattle.std.proofs.lemmas.Bool.{eqb-true, false≢true}
 use Rattle.std.proofs.lemmas.Option.{same_Some}
 use Rattle.mp_runs.proofs.Runs.{run-none, run_parts}
-use Rattle.mp_sets.specs.Numbers.{Numbers}
-use Rattle.mp_task.specs.Agree.{Agree}
-use Rattle.mp_task.specs.AgentTask.{AgentTask}
-use Rattle.mp_task.specs.Limits.{IsWithinLimits}
 use Rattle.mp_messages.specs.declared.history.Event.{Event}
 use Rattle.mp_messages.specs.declared.history.Event.TheVariants.{Take}
 use Rattle.mp_machine.specs.Outgoing.{others}
 use Rattle.mp_world.specs.Events.{after_event, is_legal}
 use Rattle.mp_world.specs.RoundRobin.{AsLongAsItMay, ForEach, Round, Then, Turn}
 use Rattle.mp_world.specs.Steps.{IsStepOf}
+use Rattle.mp_world.specs.Team.{IsTeam, Team}
 use Rattle.mp_world.specs.World.{World}
 use Rattle.mp_team_snapshots.specs.Team.{IsTeamOf}
 use Rattle.mp_team_snapshots.proofs.Protocol.{IsOf}
@@ -22,20 +19,21 @@ use Rattle.mp_team_verdicts.proofs.Calm.{Goes, Reached, goes_reached}
 use Rattle.mp_team_verdicts.proofs.Points.{Alone, IsRunOf, Part, TakesFrom, alone_runs, as_long_runs, each_runs, in_others, in_range, is_listed, no_longer, takes_run, turn_runs}
 use Rattle.mp_team_verdicts.proofs.Reached.{reached_next, step_of}
 
-module _ (value : AgentTask → Numbers → Numbers → Option ℕ) (limit publics : ℕ) (tasks : List AgentTask)
-    (agree : Agree tasks) (limits : All IsWithinLimits tasks) (most : limit ≤ 10000000)
-    (team : IsTeamOf publics tasks) (Before After : World → Type 0) where
+module _ (team : Team) (is_team : IsTeam team) (publics : ℕ) (of_team : IsTeamOf publics team.tasks)
+    (Before After : World → Type 0) where
+  open team use {tasks, value}
+
   abbrev n : ℕ
   n = length tasks
 
   abbrev At : World → Type 0
-  At = Reached value limit publics tasks agree limits most team
+  At = Reached team is_team publics of_team
 
   abbrev Leads : World → List Event → World → Type 0
-  Leads = Goes value limit publics tasks agree limits most team
+  Leads = Goes team is_team publics of_team
 
   reach : (events : List Event) (u w : World) → At u → Leads u events w → At w
-  reach = goes_reached value limit publics tasks agree limits most team
+  reach = goes_reached team is_team publics of_team
 
   module _
       (goes : (v next : World) (event : Event) → At v → At next → IsStepOf value v event next → Before v → Before next ⊎ After next)
@@ -48,17 +46,17 @@ module _ (value : AgentTask → Numbers → Numbers → Option ℕ) (limit publi
     carry [] u w at leads is = subst (λ v. Before v ⊎ After v) (same_Some u w (sym (run-none (after_event value) u) ∙ leads)) is
     carry (e ∷ events) u w at leads is =
         let parts = run_parts (after_event value) u w e events leads in
-        let at_v = reached_next value limit publics tasks agree limits most team u parts.0 e at parts.1 in
+        let at_v = reached_next team is_team publics of_team u parts.0 e at parts.1 in
         carry events parts.0 w at_v parts.2
-        (one_on u parts.0 e at at_v (step_of value limit publics tasks agree limits most team u parts.0 e at parts.1) is)
+        (one_on u parts.0 e at at_v (step_of team is_team publics of_team u parts.0 e at parts.1) is)
 
     keep : (events : List Event) (u w : World) → At u → Leads u events w → After u → After w
     keep [] u w at leads is = subst After (same_Some u w (sym (run-none (after_event value) u) ∙ leads)) is
     keep (e ∷ events) u w at leads is =
         let parts = run_parts (after_event value) u w e events leads in
-        let at_v = reached_next value limit publics tasks agree limits most team u parts.0 e at parts.1 in
+        let at_v = reached_next team is_team publics of_team u parts.0 e at parts.1 in
         keep events parts.0 w at_v parts.2
-        (stays u parts.0 e at at_v (step_of value limit publics tasks agree limits most team u parts.0 e at parts.1) is)
+        (stays u parts.0 e at at_v (step_of team is_team publics of_team u parts.0 e at parts.1) is)
 
     -- a part after which the later is so
     abbrev Turns : Part → Type 0

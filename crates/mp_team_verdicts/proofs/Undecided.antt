@@ -1,13 +1,10 @@
 -- The search goes on where agent 1 has not decided it.
-use Rattle.std.proofs.Common.{◌≡◌, ℕ, ◌≤◌, true, false, List, Option, Some, All, sym, ap, subst, ◌∙◌}
+use Rattle.std.proofs.Common.{◌≡◌, ℕ, true, false, Option, Some, sym, ap, subst, ◌∙◌}
 use Rattle.std.specs.Prelude.{IfSome}
 use Rattle.std.proofs.lemmas.Bool.{false≢true}
-use Rattle.mp_sets.specs.Numbers.{Numbers}
-use Rattle.mp_task.specs.Agree.{Agree}
-use Rattle.mp_task.specs.AgentTask.{AgentTask}
-use Rattle.mp_task.specs.Limits.{IsWithinLimits}
 use Rattle.mp_machine.specs.AgentRecord.{AgentRecord, given_verdict}
 use Rattle.mp_machine.specs.Verdicts.{is_deciding}
+use Rattle.mp_world.specs.Team.{IsTeam, Team}
 use Rattle.mp_world.specs.World.{World, agent_at}
 use Rattle.mp_team_snapshots.specs.Team.{IsTeamOf}
 use Rattle.mp_team_verdicts.specs.Ending.{IsAt, Stage}
@@ -17,9 +14,8 @@ use Rattle.mp_team_verdicts.proofs.Proving.{end_decides}
 use Rattle.mp_team_verdicts.specs.Quiet.{IsUndecided}
 use Rattle.mp_team_verdicts.proofs.Reached.{IsReached}
 
-module _ (value : AgentTask → Numbers → Numbers → Option ℕ) (limit publics : ℕ) (tasks : List AgentTask)
-    (agree : Agree tasks) (limits : All IsWithinLimits tasks) (most : limit ≤ 10000000)
-    (team : IsTeamOf publics tasks) (w : World) (at : IsReached value limit tasks w) (undecided : IsUndecided w) where
+module _ (team : Team) (is_team : IsTeam team) (publics : ℕ) (of_team : IsTeamOf publics team.tasks) (w : World)
+    (at : IsReached team w) (undecided : IsUndecided w) where
   not_decided : (first : AgentRecord) → agent_at w 1 ≡ Some first → is_deciding (given_verdict first) ≡ true → ⊥
   not_decided first there decides =
       false≢true (sym (subst (λ (o : Option AgentRecord). IfSome o (λ r. is_deciding (given_verdict r) ≡ false)) there undecided) ∙ decides)
@@ -33,5 +29,5 @@ module _ (value : AgentTask → Numbers → Numbers → Option ℕ) (limit publi
 
   pub searches_still : IsAt publics w searching
   searches_still =
-      let ends = ends_so_far value limit publics tasks agree limits most team at.schedule w at.ran in
+      let ends = ends_so_far team is_team publics of_team at.schedule w at.ran in
       by_stage ends.stage ends.is

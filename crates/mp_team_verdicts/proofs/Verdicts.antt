@@ -1,12 +1,9 @@
 -- The verdict of agent 1 is right.
-use Rattle.std.proofs.Common.{◌≡◌, ℕ, suc, ◌+◌, ◌<◌, ◌≤◌, ◌⊎◌, true, List, map, Option, Some, None, All, refl, sym, ap, subst, ◌∙◌, arith, inl, inr}
+use Rattle.std.proofs.Common.{◌≡◌, ℕ, suc, ◌+◌, ◌<◌, ◌≤◌, ◌⊎◌, true, List, map, Option, Some, None, refl, sym, ap, subst, ◌∙◌, arith, inl, inr}
 use Rattle.std.specs.Prelude.{Contains, IsSomeAnd, IsTrue, option_map, slice_get, ◌&&◌}
 use Rattle.std.proofs.lemmas.Bool.{and_parts, eqb-true, false≢true}
 use Rattle.std.proofs.lemmas.Option.{none-some, same_Some, slice_get-map}
-use Rattle.mp_sets.specs.Numbers.{Numbers}
-use Rattle.mp_task.specs.Agree.{Agree}
 use Rattle.mp_task.specs.AgentTask.{AgentTask}
-use Rattle.mp_task.specs.Limits.{IsWithinLimits}
 use Rattle.mp_task.specs.Plan.{JointState, TaskSolves, TaskStep, goals_hold, task_cost}
 use Rattle.mp_messages.specs.declared.history.Event.{Event}
 use Rattle.mp_messages.specs.declared.message.Findings.{Findings}
@@ -20,8 +17,9 @@ use Rattle.mp_machine.specs.AgentRecord.{AgentRecord, given_verdict}
 use Rattle.mp_reach.proofs.PlanWitness.{plan_witness}
 use Rattle.mp_world.specs.Events.{run}
 use Rattle.mp_world.specs.Joint.{joint}
+use Rattle.mp_world.specs.Team.{IsTeam, Team}
 use Rattle.mp_world.specs.World.{World, agent_at, start_world}
-use Rattle.mp_world.proofs.Agents.{agent_there}
+use Rattle.mp_world.proofs.Agents.{agent_there, agree_numbered}
 use Rattle.mp_world.proofs.Mail.{agent_of_team}
 use Rattle.mp_world.proofs.Runs.{run_of_team}
 use Rattle.mp_world.proofs.Stepping.{team_size}
@@ -59,25 +57,27 @@ cost_is_some : (f : ℕ) (o : Option ℕ) → is_cost f o ≡ true → o ≡ Som
 cost_is_some f None is = absurd (false≢true is)
 cost_is_some f (Some c) is = ap Some (eqb-true c f is)
 
-module _ (value : AgentTask → Numbers → Numbers → Option ℕ) (limit : ℕ) (tasks : List AgentTask) (agree : Agree tasks) (limits : All IsWithinLimits tasks)
-    (most : limit ≤ 10000000) (heuristic : IsHeuristic value tasks) (t : AgentTask) (member : Contains tasks t) where
+module _ (team : Team) (is_team : IsTeam team) (heuristic : IsHeuristic team.value team.tasks) (t : AgentTask)
+    (member : Contains team.tasks t) where
+  open team use {tasks, value, limit}
+
   -- ---- a world that a legal schedule leads to
 
-  module _ (schedule : List Event) (w : World) (ran : run value limit tasks schedule ≡ Some w) where
-    all : IsInvariant value tasks agree limits w
-    all = run_invariant value tasks agree limits heuristic limit most schedule w ran
+  module _ (schedule : List Event) (w : World) (ran : run team schedule ≡ Some w) where
+    all : IsInvariant value tasks is_team.tasks w
+    all = run_invariant team is_team heuristic schedule w ran
 
     flags : AreGoalsFlagged tasks w
-    flags = flags_of_joint tasks agree limits w all.team all.sound all.flags
+    flags = flags_of_joint tasks is_team.tasks w all.team all.sound all.flags
 
     none : HaveNoneToThemselves tasks w
-    none = none_to_themselves value limit tasks agree schedule w ran
+    none = none_to_themselves team (agree_numbered tasks is_team.tasks.agree) schedule w ran
 
     reached : AreReached tasks w
-    reached = (holds_so_far tasks agree limits value limit most schedule w ran).reached
+    reached = (holds_so_far team is_team schedule w ran).reached
 
     counted : AreCounted limit schedule w
-    counted = counted_in_runs value limit tasks agree limits most schedule w ran
+    counted = counted_in_runs team is_team schedule w ran
 
     abbrev found : List Findings
     found = map (findings_in w) w.agents
@@ -85,7 +85,7 @@ module _ (value : AgentTask → Numbers → Numbers → Option ℕ) (limit : ℕ
     -- each plan shows in what is found
     plan_counted : (plan : List TaskStep) → TaskSolves tasks plan → IsAtMost (task_cost tasks plan) (least_f found) ⊎ IsAtMost (task_cost tasks plan) (least_goal found)
     plan_counted plan solves =
-        witness_counted tasks agree limits w all.team all.sound none flags (task_cost tasks plan) (plan_witness tasks t (found_of w) plan agree member all.explored solves)
+        witness_counted tasks is_team.tasks w all.team all.sound none flags (task_cost tasks plan) (plan_witness tasks t (found_of w) plan is_team.tasks.agree member all.explored solves)
 
     pub costs_at_least : (cost : ℕ) → (least_goal found ≡ Some cost) × IsNoneBelow cost (least_f found) → CostsAtLeast tasks cost
     costs_at_least cost said plan solves =
@@ -111,11 +111,11 @@ module _ (value : AgentTask → Numbers → Numbers → Option ℕ) (limit : ℕ
     is_least_left : (f : ℕ) → least_f found ≡ Some f → IsAbove f (least_goal found) → IsLeast w f
     is_least_left f least above = record {
       entries = λ agent number e has is_open.
-          at_most_is (f_of e) f (least_f found) least (open_counted tasks agree limits w all.team all.sound none agent number e has is_open);
+          at_most_is (f_of e) f (least_f found) least (open_counted tasks is_team.tasks w all.team all.sound none agent number e has is_open);
       states = λ from to r m sender there here.
-          at_most_is (m.g + m.h) f (least_f found) least (state_counted tasks agree limits w all.team all.sound none from to r m sender there here);
+          at_most_is (m.g + m.h) f (least_f found) least (state_counted tasks is_team.tasks w all.team all.sound none from to r m sender there here);
       goals = λ agent number e has goal.
-          above_most f e.g (least_goal found) above (goal_counted tasks agree limits w all.team all.sound none agent number e has goal);
+          above_most f e.g (least_goal found) above (goal_counted tasks is_team.tasks w all.team all.sound none agent number e has goal);
     }
 
     -- an agent that the rule names as spent
@@ -182,33 +182,33 @@ module _ (value : AgentTask → Numbers → Numbers → Option ℕ) (limit : ℕ
 
   -- ---- a verdict
 
-  module _ (schedule : List Event) (w : World) (ran : run value limit tasks schedule ≡ Some w) (first : AgentRecord) (there : agent_at w 1 ≡ Some first) where
+  module _ (schedule : List Event) (w : World) (ran : run team schedule ≡ Some w) (first : AgentRecord) (there : agent_at w 1 ≡ Some first) where
     abbrev k : ℕ
     k = first.snapshot.number
 
     abbrev cut_events : List Event
-    cut_events = cut_schedule value limit tasks k schedule
+    cut_events = cut_schedule team k schedule
 
     -- as many entries as it may, and still as many
-    still_spent : (c : World) → run value limit tasks cut_events ≡ Some c → (agent : ℕ) → HasExpanded c agent limit → HasExpanded w agent limit
+    still_spent : (c : World) → run team cut_events ≡ Some c → (agent : ℕ) → HasExpanded c agent limit → HasExpanded w agent limit
     still_spent c c_ran agent then =
         let is = agent_of_team c agent then.who then.there in
         let low = is.from_1 in
         let high = is.at_most in
-        let size_c = team_size tasks c (run_of_team value limit tasks cut_events c c_ran) in
-        let size = team_size tasks w (run_of_team value limit tasks schedule w ran) in
+        let size_c = team_size tasks c (run_of_team team cut_events c c_ran) in
+        let size = team_size tasks w (run_of_team team schedule w ran) in
         let now = agent_there w agent (record { from_1 = low; at_most = omega arith }) in
         let before = (counted cut_events c c_ran agent then.who then.there).count in
         let was = then.expanded in
         let after = counted schedule w ran agent now.0 now.1 in
         let count = after.count in
         let may = after.limit_is in
-        let fewer = count_cut value k agent (start_world value limit tasks) schedule in
+        let fewer = count_cut value k agent (start_world team) schedule in
         let all_now = all schedule w ran in
-        let within = (agent_sound tasks agree limits w all_now.team all_now.sound agent now.0 now.1).within in
+        let within = (agent_sound tasks is_team.tasks w all_now.team all_now.sound agent now.0 now.1).within in
         record { who = now.0; there = now.1; expanded = omega arith }
 
-    module _ (v : Verdict) (world : HasVerdictWorld value limit tasks k schedule w v) where
+    module _ (v : Verdict) (world : HasVerdictWorld team k schedule w v) where
       abbrev c : World
       c = world.cut.world
 
@@ -224,7 +224,7 @@ module _ (value : AgentTask → Numbers → Numbers → Option ℕ) (limit : ℕ
       no_plan : v ≡ NoPlan → IsUnsolvable tasks
       no_plan is = is_unsolvable cut_events c world.cut.runs (says_no_plan (map (findings_in c) c.agents) (world.verdict_on.rule ∙ is))
 
-      undecided : (agent : ℕ) → v ≡ Spent agent → IsUndecided value limit tasks schedule w k agent
+      undecided : (agent : ℕ) → v ≡ Spent agent → IsUndecided team schedule w k agent
       undecided agent is =
           let found = is_at_limit cut_events c world.cut.runs agent (says_spent (map (findings_in c) c.agents) agent (world.verdict_on.rule ∙ is)) in
           record {
@@ -234,13 +234,13 @@ module _ (value : AgentTask → Numbers → Numbers → Option ℕ) (limit : ℕ
             least = found.1;
           }
 
-    pub verdict_right : (v : Verdict) → given_verdict first ≡ Some v → IsRightVerdict value limit tasks schedule w first.snapshot.number v
+    pub verdict_right : (v : Verdict) → given_verdict first ≡ Some v → IsRightVerdict team schedule w first.snapshot.number v
     verdict_right v given = by v refl
       where
-        world : HasVerdictWorld value limit tasks k schedule w v
-        world = has_verdict_world value limit tasks schedule w ran first there v given agree limits
+        world : HasVerdictWorld team k schedule w v
+        world = has_verdict_world team schedule w ran first there v given is_team.tasks
 
-        by : (u : Verdict) → v ≡ u → IsRightVerdict value limit tasks schedule w first.snapshot.number u
+        by : (u : Verdict) → v ≡ u → IsRightVerdict team schedule w first.snapshot.number u
         by (Proved agent cost) is = proved v world agent cost is
         by NoPlan is = no_plan v world is
         by (Spent agent) is = undecided v world agent is

@@ -1,12 +1,8 @@
 -- Messages of the end of a search that are under way after an event: those that were, but for the one that was taken, and those
 -- that went out. No two are under way from one agent to another.
-use Rattle.std.proofs.Common.{◌≡◌, ◌≢◌, ℕ, ◌≤◌, ◌<◌, ◌^◌, Bool, true, false, ◌&&◌, List, [], ◌∷◌, ◌++◌, length, Option, All, refl, sym, ap, subst, ◌∙◌, arith, ◌⊎◌, inl, inr}
+use Rattle.std.proofs.Common.{◌≡◌, ◌≢◌, ℕ, ◌≤◌, ◌<◌, ◌^◌, Bool, true, false, ◌&&◌, List, [], ◌∷◌, ◌++◌, length, All, refl, sym, ap, subst, ◌∙◌, arith, ◌⊎◌, inl, inr}
 use Rattle.std.specs.Prelude.{◌==◌, Ok, filter, if◌then◌else◌}
 use Rattle.std.proofs.lemmas.List.{length-append}
-use Rattle.mp_sets.specs.Numbers.{Numbers}
-use Rattle.mp_task.specs.Agree.{Agree}
-use Rattle.mp_task.specs.AgentTask.{AgentTask}
-use Rattle.mp_task.specs.Limits.{IsWithinLimits}
 use Rattle.mp_messages.specs.declared.history.Event.{Event}
 use Rattle.mp_messages.specs.declared.history.Event.TheVariants.{Expand, Take, Start}
 use Rattle.mp_messages.specs.declared.message.Message.{Message}
@@ -15,6 +11,7 @@ use Rattle.mp_machine.specs.AgentRecord.{is_going}
 use Rattle.mp_machine.specs.Taking.{took_message}
 use Rattle.mp_world.specs.Events.{agent_of, taken}
 use Rattle.mp_world.specs.Steps.{IsStepOf}
+use Rattle.mp_world.specs.Team.{IsTeam, Team}
 use Rattle.mp_world.specs.World.{World}
 use Rattle.mp_world.proofs.Agents.{agent_there}
 use Rattle.mp_team_snapshots.specs.Snapshots.{one_if_due}
@@ -60,25 +57,25 @@ alone ms before after m few is =
     let none_too = none_of after (omega arith) in
     is ∙ (λ k. none k ++ m ∷ none_too k)
 
-module _ (value : AgentTask → Numbers → Numbers → Option ℕ) (limit publics : ℕ) (tasks : List AgentTask)
-    (agree : Agree tasks) (limits : All IsWithinLimits tasks) (most : limit ≤ 10000000)
-    (team : IsTeamOf publics tasks) where
+module _ (team : Team) (is_team : IsTeam team) (publics : ℕ) (of_team : IsTeamOf publics team.tasks) where
+  open team use {tasks, value}
+
   abbrev n : ℕ
   n = length tasks
 
   abbrev At : World → Type 0
-  At = Reached value limit publics tasks agree limits most team
+  At = Reached team is_team publics of_team
 
   pub is_known : (w : World) → At w → IsKnownWorld publics tasks w
-  is_known = known value limit publics tasks agree limits most team
+  is_known = known team is_team publics of_team
 
   -- from one agent to another one is under way at most
   pub few_ends : (w : World) → At w → (i j : ℕ) → IsOf n i → IsOf n j → length (end_messages publics w i j) ≤ 1
   few_ends w at i j is_i is_j =
-      let e = ends value limit publics tasks agree limits most team w at in
-      let who = agent_there w j (is_agent value limit publics tasks agree limits most team w at j is_j) in
+      let e = ends team is_team publics of_team w at in
+      let who = agent_there w j (is_agent team is_team publics of_team w at j is_j) in
       let few = one_is_due e.stage i j (is_going who.0.ending) in
-      let same = ap length (e.is.mail i j who.0 (is_agent value limit publics tasks agree limits most team w at i is_i) who.1) in
+      let same = ap length (e.is.mail i j who.0 (is_agent team is_team publics of_team w at i is_i) who.1) in
       omega arith
 
   -- what goes out in an event fits
@@ -87,24 +84,24 @@ module _ (value : AgentTask → Numbers → Numbers → Option ℕ) (limit publi
     room =
         let k = is_known w at in
         let sound = k.in_runs.sound in
-        let seen : Sound (length tasks) (view publics w) = to_view publics tasks team w (team_numbers publics tasks team w k.team) sound in
+        let seen : Sound (length tasks) (view publics w) = to_view publics tasks of_team w (team_numbers publics tasks of_team w k.team) sound in
         let small : (note_at w 1).number < 2 ^ 60 =
         subst (λ s. s.number < 2 ^ 60) (sym (note_of w 1 sound.first sound.first_there)) (k.in_runs.room 1 sound.first sound.first_there).number in
-        (event_roomy value publics tasks team w k.team seen small event next step (k.in_runs.room (agent_of event) step.agent step.there)).sends.fits
+        (event_roomy value publics tasks of_team w k.team seen small event next step (k.in_runs.room (agent_of event) step.agent step.there)).sends.fits
 
     fits : AllFit (length tasks) publics step.step.out
     fits =
-        let e = ends value limit publics tasks agree limits most team w at in
-        let later = ends value limit publics tasks agree limits most team next at_next in
-        (event_comes value publics tasks agree limits team w next (is_known w at) (is_known next at_next) later.goals event step room e.stage e.is).fits
+        let e = ends team is_team publics of_team w at in
+        let later = ends team is_team publics of_team next at_next in
+        (event_comes value publics tasks is_team.tasks of_team w next (is_known w at) (is_known next at_next) later.goals event step room e.stage e.is).fits
 
     -- what is left of the messages from one agent to another
     abbrev pub left_of : ℕ → ℕ → List Message
-    left_of i j = filter is_of_end (left value publics tasks team w (is_known w at).team event next step i j)
+    left_of i j = filter is_of_end (left value publics tasks of_team w (is_known w at).team event next step i j)
 
     pub ends_after : (i j : ℕ) → IsOf n i → IsOf n j
         → end_messages publics next i j ≡ left_of i j ++ (if i == agent_of event then ends_to j step.step.out else [])
-    ends_after = ends_next value publics tasks team w (is_known w at).team event next step fits
+    ends_after = ends_next value publics tasks of_team w (is_known w at).team event next step fits
 
     -- the event's agent takes a message of the end from another one
     pub record TakesEnd (i j : ℕ) : Type 0 where
@@ -117,9 +114,9 @@ module _ (value : AgentTask → Numbers → Numbers → Option ℕ) (limit publi
   pub left_or_taken : (w next : World) (event : Event) (at : At w) (at_next : At next) (step : IsStepOf value w event next) (i j : ℕ) → IsOf n i → IsOf n j
       → (left_of w next event at at_next step i j ≡ end_messages publics w i j) ⊎ TakesEnd w next event at at_next step i j
   left_or_taken w next (Expand agent) at at_next step i j is_i is_j =
-      inl (ap (filter is_of_end) (sym (messages_before value publics tasks team w (is_known w at).team (Expand agent) next step i j)))
+      inl (ap (filter is_of_end) (sym (messages_before value publics tasks of_team w (is_known w at).team (Expand agent) next step i j)))
   left_or_taken w next Start at at_next step i j is_i is_j =
-      inl (ap (filter is_of_end) (sym (messages_before value publics tasks team w (is_known w at).team Start next step i j)))
+      inl (ap (filter is_of_end) (sym (messages_before value publics tasks of_team w (is_known w at).team Start next step i j)))
   left_or_taken w next (Take b a) at at_next step i j is_i is_j = by (is_of_end t.message) refl (pair i j a b)
     where
       t : IsTaking (value step.agent.task) step.agent a (taken w (Take b a)) step.step
@@ -127,8 +124,8 @@ module _ (value : AgentTask → Numbers → Numbers → Option ℕ) (limit publi
 
       by : (end : Bool) → is_of_end t.message ≡ end → ((i ≡ a) × (j ≡ b)) ⊎ ((i ≢ a) ⊎ (j ≢ b))
           → (left_of w next (Take b a) at at_next step i j ≡ end_messages publics w i j) ⊎ TakesEnd w next (Take b a) at at_next step i j
-      by false other p = inl (ends_left value publics tasks team w (is_known w at).team b a next step t.message t.reads other i j is_i is_j)
-      by true is_end (inr apart) = inl (end_others value publics tasks team w (is_known w at).team b a next step t.message t.reads i j is_i is_j apart)
+      by false other p = inl (ends_left value publics tasks of_team w (is_known w at).team b a next step t.message t.reads other i j is_i is_j)
+      by true is_end (inr apart) = inl (end_others value publics tasks of_team w (is_known w at).team b a next step t.message t.reads i j is_i is_j apart)
       by true is_end (inl same) = inr (record {
         agent_is = same.1;
         message = t.message;
@@ -136,7 +133,7 @@ module _ (value : AgentTask → Numbers → Numbers → Option ℕ) (limit publi
         first =
             subst (λ (k : ℕ). end_messages publics w k j ≡ t.message ∷ left_of w next (Take b a) at at_next step k j) (sym same.0)
             (subst (λ (k : ℕ). end_messages publics w a k ≡ t.message ∷ left_of w next (Take b a) at at_next step a k) (sym same.1)
-            (end_taken value publics tasks team w (is_known w at).team b a next step t.message t.reads is_end));
+            (end_taken value publics tasks of_team w (is_known w at).team b a next step t.message t.reads is_end));
       })
 
   -- a message that is not taken is still the only one

@@ -1,13 +1,10 @@
 -- An agent walks the plan back: the walk goes on over a trace, or it is over.
-use Rattle.std.proofs.Common.{◌≡◌, ◌≢◌, ℕ, ◌+◌, ◌≤◌, ◌<◌, ◌^◌, Bool, true, false, ◌&&◌, List, [], ◌∷◌, ◌++◌, length, Option, Some, All, refl, sym, ap, subst, ◌∙◌, append_assoc, arith, inl, inr}
+use Rattle.std.proofs.Common.{◌≡◌, ◌≢◌, ℕ, ◌+◌, ◌≤◌, ◌<◌, ◌^◌, Bool, true, false, ◌&&◌, List, [], ◌∷◌, ◌++◌, length, Some, All, refl, sym, ap, subst, ◌∙◌, append_assoc, arith, inl, inr}
 use Rattle.std.specs.Prelude.{◌==◌, filter, if◌then◌else◌, not}
 use Rattle.std.proofs.lemmas.Bool.{eq-eqb, eqb-true, false_from_ne_true}
 use Rattle.std.proofs.lemmas.List.{length-append}
 use Rattle.std.proofs.lemmas.List.Elements.{All-contains, All-weaker}
-use Rattle.mp_sets.specs.Numbers.{Numbers}
-use Rattle.mp_task.specs.Agree.{Agree}
 use Rattle.mp_task.specs.AgentTask.{AgentTask}
-use Rattle.mp_task.specs.Limits.{IsWithinLimits}
 use Rattle.mp_task.specs.Plan.{TaskStep}
 use Rattle.mp_messages.specs.declared.history.Event.{Event}
 use Rattle.mp_messages.specs.declared.message.Message.{Message}
@@ -24,6 +21,8 @@ use Rattle.mp_machine.specs.Outgoing.{Outgoing, Step, after_sending, others, to_
 use Rattle.mp_machine.specs.WalkingBack.{arrived, solved, walked}
 use Rattle.mp_world.specs.Events.{agent_of}
 use Rattle.mp_world.specs.Steps.{IsStepOf}
+use Rattle.mp_world.specs.Team.{AreTeamTasks}
+use Rattle.mp_world.specs.Values.{Values}
 use Rattle.mp_world.specs.World.{World, agent_at}
 use Rattle.mp_world.proofs.Agents.{member_of}
 use Rattle.mp_world.proofs.LocalCases.{both_such, each_such}
@@ -55,7 +54,7 @@ pub record ComesTo (publics : ℕ) (tasks : List AgentTask) (out : List Outgoing
   pub is : IsAt publics next stage
   pub fits : AllFit (length tasks) publics out
 
-module _ (value : AgentTask → Numbers → Numbers → Option ℕ) (publics : ℕ) (tasks : List AgentTask) (agree : Agree tasks) (limits : All IsWithinLimits tasks)
+module _ (value : Values) (publics : ℕ) (tasks : List AgentTask) (are : AreTeamTasks tasks)
     (team : IsTeamOf publics tasks) (w next : World) (known : IsKnownWorld publics tasks w) (known_next : IsKnownWorld publics tasks next) (event : Event)
     (step : IsStepOf value w event next) (room : All (λ x. HasRoom x.message) step.step.out) where
   abbrev b : ℕ
@@ -69,7 +68,7 @@ module _ (value : AgentTask → Numbers → Numbers → Option ℕ) (publics : �
       let agents = of.agents in
       subst (λ (n : ℕ). AllFit n publics step.step.out) agents
       (subst (λ (n : ℕ). AllFit step.agent.task.agents n step.step.out) alike
-      (step_fits tasks agree limits w known.team known.so_far.sound value next event step room end))
+      (step_fits tasks are w known.team known.so_far.sound value next event step room end))
 
   -- a step after which messages of the end have gone out alone, where none was left
   pub ends_are : AllFit (length tasks) publics step.step.out
@@ -141,7 +140,7 @@ module _ (value : AgentTask → Numbers → Numbers → Option ℕ) (publics : �
     short : length (earlier ++ later) < 2 ^ 60
     short =
         let few = known_next.so_far.short proved.agent proved.number (earlier ++ later) proved.path in
-        let most = few_expansions tasks agree limits next known_next.team known_next.so_far.sound in
+        let most = few_expansions tasks are next known_next.team known_next.so_far.sound in
         omega arith
 
     -- the walk of the agent, as it is after the step
@@ -154,7 +153,7 @@ module _ (value : AgentTask → Numbers → Numbers → Option ℕ) (publics : �
         let keeps = walked_keeps r entry (length later) in
         let search : step.step.after.search ≡ r.search = ap (λ (s : Step). s.after.search) (sym is) ∙ keeps.search in
         subst (λ (x : SearchRecord). WalksAlong next b (length later) earlier (walk x.kept entry (length later))) search
-        (walk_along next (records_sound tasks agree limits next known_next.team known_next.so_far.sound) b step.step.after step.after entry (length later) earlier path)
+        (walk_along next (records_sound tasks are next known_next.team known_next.so_far.sound) b step.step.after step.after entry (length later) earlier path)
 
     module _ (noted : List Noted) (end : Walked) (x : WalksAlong next b (length later) earlier (record { noted = noted; end = end }))
         (now : after_sending first (arrived (record r { trail = r.trail ++ noted }) end) ≡ step.step) where
@@ -234,7 +233,7 @@ module _ (value : AgentTask → Numbers → Numbers → Option ℕ) (publics : �
             let parts_long = length-append x.earlier x.own in
             let all_long = length-append earlier later in
             let most = short in
-            let small = sent_small tasks agree limits next known_next.team known_next.so_far.sound known_next.so_far.reached b step.step.after step.after sender sent number given in
+            let small = sent_small tasks are next known_next.team known_next.so_far.sound known_next.so_far.reached b step.step.after step.after sender sent number given in
             let few = small.1 in
             let small_sent : sent < 2 ^ 60 = omega arith in
             let small_later : length (x.own ++ later) < 2 ^ 60 = omega arith in

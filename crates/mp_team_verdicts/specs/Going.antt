@@ -1,12 +1,11 @@
 -- Rounds of round robin of a team that is not over.
-use Rattle.std.specs.Prelude.{◌≡◌, ◌<◌, ◌^◌, ℕ, zero, suc, false, List, Option}
-use Rattle.mp_sets.specs.Numbers.{Numbers}
-use Rattle.mp_task.specs.AgentTask.{AgentTask}
+use Rattle.std.specs.Prelude.{◌≡◌, ◌<◌, ◌^◌, ℕ, zero, suc, false, List}
 use Rattle.mp_messages.specs.declared.history.Event.{Event}
 use Rattle.mp_world.specs.RoundRobin.{Round, is_over}
+use Rattle.mp_world.specs.Values.{Values}
 use Rattle.mp_world.specs.World.{World}
 
-module _ (value : AgentTask → Numbers → Numbers → Option ℕ) (agents : ℕ) where
+module _ (value : Values) (agents : ℕ) where
   -- a round, before which not all agents have ended
   pub record IsGoingRound (w next : World) : Type 0 where
     pub on : is_over w ≡ false

@@ -1,13 +1,12 @@
 -- Rounds of round robin while the search of the team goes on, and those among them in which no agent expands.
-use Rattle.std.specs.Prelude.{◌≡◌, ℕ, zero, suc, Bool, true, false, List, Option, IfSome}
+use Rattle.std.specs.Prelude.{◌≡◌, ℕ, zero, suc, Bool, true, false, List, IfSome}
 use Rattle.std.specs.List.{list_all}
-use Rattle.mp_sets.specs.Numbers.{Numbers}
-use Rattle.mp_task.specs.AgentTask.{AgentTask}
 use Rattle.mp_messages.specs.declared.history.Event.{Event}
 use Rattle.mp_messages.specs.declared.history.Event.TheVariants.{Expand, Take, Start}
 use Rattle.mp_machine.specs.AgentRecord.{given_verdict}
 use Rattle.mp_machine.specs.Verdicts.{is_deciding}
 use Rattle.mp_world.specs.RoundRobin.{Round}
+use Rattle.mp_world.specs.Values.{Values}
 use Rattle.mp_world.specs.World.{World, agent_at}
 
 -- whether an event is no expansion
@@ -24,7 +23,7 @@ are_quiet events = list_all is_quiet events
 abbrev pub IsUndecided : World → Type 0
 IsUndecided w = IfSome (agent_at w 1) (λ first. is_deciding (given_verdict first) ≡ false)
 
-module _ (value : AgentTask → Numbers → Numbers → Option ℕ) (agents : ℕ) where
+module _ (value : Values) (agents : ℕ) where
   -- a round in which no agent expands, and after which the search goes on
   pub record IsQuietRound (w next : World) : Type 0 where
     pub events : List Event

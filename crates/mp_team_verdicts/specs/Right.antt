@@ -1,7 +1,6 @@
 -- When a verdict and an answer are right (MAD-A*, Nissim and Brafman 2014; A*, Hart, Nilsson and
 -- Raphael 1968).
-use Rattle.std.specs.Prelude.{◌≡◌, ℕ, ◌+◌, ◌≤◌, ◌<◌, true, List, length, Option, Some, Contains}
-use Rattle.mp_sets.specs.Numbers.{Numbers}
+use Rattle.std.specs.Prelude.{◌≡◌, ℕ, ◌+◌, ◌≤◌, ◌<◌, true, List, length, Some, Contains}
 use Rattle.mp_task.specs.AgentTask.{AgentTask}
 use Rattle.mp_task.specs.Plan.{TaskSolves, TaskStep, task_cost}
 use Rattle.mp_messages.specs.declared.history.Event.{Event}
@@ -16,6 +15,7 @@ use Rattle.mp_snapshot.specs.declared.verdict.Verdict.TheVariants.{Proved, NoPla
 use Rattle.mp_machine.specs.AgentRecord.{AgentRecord}
 use Rattle.mp_world.specs.declared.answer.Answer.{Answer}
 use Rattle.mp_world.specs.declared.answer.Answer.TheVariants as answers
+use Rattle.mp_world.specs.Team.{Team}
 use Rattle.mp_world.specs.World.{IsAgent, World, agent_at}
 use Rattle.mp_team_snapshots.specs.CutWorlds.{HasCut}
 use Rattle.mp_team_snapshots.specs.Messages.{messages}
@@ -82,16 +82,16 @@ pub record IsAtLimit (limit : ℕ) (w : World) (agent : ℕ) : Type 0 where
   pub is_least : IsLeast w least
 
 module _
-    (value : AgentTask → Numbers → Numbers → Option ℕ)
-    (limit : ℕ)
-    (tasks : List AgentTask)
+    (team : Team)
     (schedule : List Event)
     (w : World)
   where
+    open team use {tasks, limit}
+
     -- A search is left undecided: in the world after the cut at a snapshot an agent is at its limit, it
     -- has expanded as many entries still, and a plan costs at least what the least entry there does.
     pub record IsUndecided (k agent : ℕ) : Type 0 where
-      pub cut : HasCut value limit tasks k schedule w
+      pub cut : HasCut team k schedule w
       pub at_limit : IsAtLimit limit cut.world agent
       pub spent : HasExpanded w agent limit
       pub least : CostsAtLeast tasks at_limit.least

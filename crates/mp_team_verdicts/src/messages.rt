@@ -11,10 +11,9 @@ ghost use Rattle.mp_messages.specs.declared.history.Event.{Event};
 ghost use Rattle.mp_messages.specs.History.{part};
 ghost use Rattle.mp_sets.specs.Numbers.{Numbers};
 ghost use Rattle.mp_task.specs.AgentTask.{AgentTask};
-ghost use Rattle.mp_task.specs.Agree.{Agree};
-ghost use Rattle.mp_task.specs.Limits.{IsWithinLimits};
 ghost use Rattle.mp_world.specs.Events.{agent_of, local_of};
 ghost use Rattle.mp_world.specs.Logs.{HasDone, IsLog};
+ghost use Rattle.mp_world.specs.Team.{IsTeam, Team};
 ghost use Rattle.mp_world.specs.World.{AreNumbered};
 ghost use Rattle.mp_team_verdicts.specs.Others.{IsAnother, IsOfAgent};
 
@@ -31,21 +30,17 @@ pub fn messages_go_to_others()
         (log : List Entry) (last : AgentRecord)
         → 1 ≤ t.agents → HasDone value (new_record t value limit) log last
         → All (IsOfAgent t) log }
-    ensures logs { (value : AgentTask → Numbers → Numbers → Option ℕ) (limit : ℕ)
-        (tasks : List AgentTask) (log : List Entry) (t : AgentTask)
-        → AreNumbered tasks → IsLog value limit tasks log → Contains tasks t
+    ensures logs { (team : Team) (log : List Entry) (t : AgentTask)
+        → AreNumbered team.tasks → IsLog team log → Contains team.tasks t
         → All (IsOfAgent t) (part log t.me) }
 {}
 
 /// In a legal history of the agents of a team no agent has taken a message that it found to be a bad one: neither where
 /// some agents have done more than they have signed, nor where several are said to have taken one.
 pub fn no_receipt_is_bad()
-    ensures { (value : AgentTask → Numbers → Numbers → Option ℕ) (limit : ℕ) (tasks : List AgentTask)
-        (log : List Entry) (served : AgentTask → Served) (t : AgentTask)
-        → Agree tasks → All IsWithinLimits tasks → limit ≤ 10000000
-        → IsTeamHistory tasks log
-        → ((u : AgentTask) → Contains tasks u
-        → HasServed value limit u (part log u.me) (served u))
-        → Contains tasks t
-        → (served t).bad ≡ None }
+    ensures { (team : Team) (log : List Entry) (served : AgentTask → Served) (t : AgentTask)
+        → IsTeam team → IsTeamHistory team.tasks log
+        → ((u : AgentTask) → Contains team.tasks u
+        → HasServed team.value team.limit u (part log u.me) (served u))
+        → Contains team.tasks t → (served t).bad ≡ None }
 {}

@@ -15,6 +15,7 @@ use Rattle.mp_machine.specs.AgentRecord.{AgentRecord, new_record}
 use Rattle.mp_world.specs.Events.{agent_of, sent_in}
 use Rattle.mp_world.specs.Logs.{HasDone, IsLog, entries_of, entry_of, put_by}
 use Rattle.mp_world.specs.Logs.HasDone.{nothing, onward}
+use Rattle.mp_world.specs.Team.{Team}
 use Rattle.mp_world.proofs.Entries.{own_entry, own_owner}
 use Rattle.mp_text.proofs.ToldLemmas.{IsOwnEvent}
 
@@ -37,14 +38,13 @@ done_own value _ last _ (onward first _ event bytes s later mine allowed did res
     (puts_are (agent_of event) (sent_in s)))
     (done_own value s.after last later rest)
 
-pub log_own : (value : AgentTask → Numbers → Numbers → Option ℕ) (limit : ℕ) (tasks : List AgentTask) (log : List Entry)
-    → IsLog value limit tasks log → All IsOwnEvent log
-log_own value limit tasks log is =
+pub log_own : (team : Team) (log : List Entry) → IsLog team log → All IsOwnEvent log
+log_own team log is =
     All-weaker (Contains log) IsOwnEvent (λ e here. own e here (is.of_team e here)) log (All-contains_itself log)
   where
-    own : (e : Entry) → Contains log e → (t : AgentTask) × Contains tasks t × (owner_of e ≡ t.me) → IsOwnEvent e
+    own : (e : Entry) → Contains log e → (t : AgentTask) × Contains team.tasks t × (owner_of e ≡ t.me) → IsOwnEvent e
     own e here (t, in_team, mine) =
         let p = is.parts t in_team in
         All-contains IsOwnEvent (part log t.me) e
-        (done_own (value t) (new_record t (value t) limit) p.last (part log t.me) p.done)
+        (done_own (team.value t) (new_record t (team.value t) team.limit) p.last (part log t.me) p.done)
         (member_kept (λ x. owner_of x == t.me) log e here (eq-eqb (owner_of e) t.me mine))

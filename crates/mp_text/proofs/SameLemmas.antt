@@ -1,16 +1,15 @@
 -- Logs of one schedule have the same texts.
 use Rattle.std.proofs.Common.{◌≡◌, ◌≤◌, ℕ, List, [], ◌∷◌, ◌++◌, length, codes, refl, ap}
-use Rattle.std.specs.Prelude.{All, Contains, Option}
+use Rattle.std.specs.Prelude.{All, Contains}
 use Rattle.std.proofs.lemmas.List.Elements.{All-contains_itself, All-weaker}
 use Rattle.mp_joint.specs.declared.plan.PlanStep.{PlanStep}
 use Rattle.mp_messages.specs.declared.history.Entry.{Entry}
 use Rattle.mp_messages.specs.History.{agent_of, part, schedule}
-use Rattle.mp_sets.specs.Numbers.{Numbers}
-use Rattle.mp_task.specs.AgentTask.{AgentTask}
 use Rattle.mp_trail.specs.declared.steps.Timed.{Timed}
 use Rattle.mp_world.specs.declared.answer.Answer.{Answer}
 use Rattle.mp_world.specs.declared.answer.Answer.TheVariants.{Nothing, Solved, Unsolvable, Undecided}
 use Rattle.mp_world.specs.Logs.{IsLog}
+use Rattle.mp_world.specs.Team.{Team}
 use Rattle.mp_world.specs.World.{AreNumbered}
 use Rattle.mp_logs.proofs.Made.{log_owned}
 use Rattle.mp_logs.proofs.OneSchedule.{logs_alike}
@@ -31,17 +30,17 @@ lines_are (Solved cost steps) shares names log other same =
 lines_are Unsolvable shares names log other same = ap (λ line. codes "unsolvable" ∷ line ∷ []) same
 lines_are Undecided shares names log other same = ap (λ line. codes "undecided" ∷ line ∷ []) same
 
-module _ (value : AgentTask → Numbers → Numbers → Option ℕ) (limit : ℕ) (tasks : List AgentTask)
-    (numbered : AreNumbered tasks) (log other : List Entry)
-    (is : IsLog value limit tasks log) (also : IsLog value limit tasks other)
-    (same : schedule other ≡ schedule log) where
-  parts : (agent : ℕ) → part other agent ≡ part log agent
-  parts = (logs_alike value limit tasks numbered log other is also same).parts
+module _ (team : Team) (numbered : AreNumbered team.tasks) (log other : List Entry) (is : IsLog team log)
+    (also : IsLog team other) (same : schedule other ≡ schedule log) where
+  open team use {tasks}
 
-  low : (l : List Entry) → IsLog value limit tasks l → All (λ e. agent_of e ≤ length tasks) l
+  parts : (agent : ℕ) → part other agent ≡ part log agent
+  parts = (logs_alike team numbered log other is also same).parts
+
+  low : (l : List Entry) → IsLog team l → All (λ e. agent_of e ≤ length tasks) l
   low l one =
       All-weaker (Contains l) (λ e. agent_of e ≤ length tasks)
-      (λ e here. (log_owned value limit tasks numbered l one e here).1) l (All-contains_itself l)
+      (λ e here. (log_owned team numbered l one e here).1) l (All-contains_itself l)
 
   many : length (messages other) ≡ length (messages log)
   many = same_messages (length tasks) log other (low log is) (low other also) parts
@@ -57,7 +56,7 @@ module _ (value : AgentTask → Numbers → Numbers → Option ℕ) (limit : ℕ
   pub tell_the_same : TellTheSame log other
   tell_the_same = record {
     traces = ap text_of_lines
-        (same_lines log other (log_own value limit tasks log is) (log_own value limit tasks other also) same parts);
+        (same_lines log other (log_own team log is) (log_own team other also) same parts);
     events = ap length same;
     messages = many;
     bytes = large;

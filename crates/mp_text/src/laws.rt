@@ -1,15 +1,14 @@
 //! What holds of every trace.
 
-ghost use Rattle.std.specs.Prelude.{◌≡◌, ℕ, ◌≤◌, ◌++◌, ◌∷◌, true, List, Option, Ok, All, map};
+ghost use Rattle.std.specs.Prelude.{◌≡◌, ℕ, ◌≤◌, ◌++◌, ◌∷◌, true, List, Ok, All, map};
 ghost use Rattle.mp_messages.specs.History.{schedule};
 ghost use Rattle.mp_messages.specs.declared.history.Entry.{Entry};
-ghost use Rattle.mp_sets.specs.Numbers.{Numbers};
-ghost use Rattle.mp_task.specs.AgentTask.{AgentTask};
 ghost use Rattle.mp_text.specs.Again.{IsOfTeam, numbered_events};
 ghost use Rattle.mp_text.specs.Alike.{TellTheSame};
 ghost use Rattle.mp_text.specs.Schedule.{is_end, schedule_in};
 ghost use Rattle.mp_text.specs.Trace.{trace_text};
 ghost use Rattle.mp_world.specs.Logs.{IsLog};
+ghost use Rattle.mp_world.specs.Team.{Team};
 ghost use Rattle.mp_world.specs.World.{AreNumbered};
 
 /// Where the agents of a log are those of a team, each message goes from one agent to another, and
@@ -30,9 +29,7 @@ pub fn traces_are_read_again()
 /// of each outcome, wherever the messages that the agents put stand between entries of other
 /// agents.
 pub fn logs_of_one_schedule_tell_the_same()
-    ensures { (value : AgentTask → Numbers → Numbers → Option ℕ) (limit : ℕ)
-        (tasks : List AgentTask) (log other : List Entry)
-        → AreNumbered tasks → IsLog value limit tasks log → IsLog value limit tasks other
-        → schedule other ≡ schedule log
-        → TellTheSame log other }
+    ensures { (team : Team) (log other : List Entry)
+        → AreNumbered team.tasks → IsLog team log → IsLog team other
+        → schedule other ≡ schedule log → TellTheSame log other }
 {}

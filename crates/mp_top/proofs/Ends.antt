@@ -9,15 +9,14 @@ use Rattle.mp_messages.specs.declared.history.Event.{Event}
 use Rattle.mp_optimality.specs.Told.{is_valid}
 use Rattle.mp_outside.specs.Source.{Files as Held}
 use Rattle.mp_plan_verdict.specs.Verdict.{verdict}
-use Rattle.mp_sets.specs.Numbers.{Numbers}
 use Rattle.mp_solutions.specs.Right.{IsRight}
 use Rattle.mp_solutions.specs.Solution.{IsFound, IsFoundOn, IsReplayed}
 use Rattle.mp_solutions.specs.declared.solution.Solution.{Solution}
 use Rattle.mp_solutions.proofs.ToEnd.{found_to_end}
-use Rattle.mp_task.specs.AgentTask.{AgentTask}
 use Rattle.mp_words.specs.Requests.{Searching, Wanted, request_of}
 use Rattle.mp_words.specs.Requests.Wanted.{audits, certifies, checks, makes, replays, solves}
 use Rattle.mp_world.specs.RoundRobin.{is_over}
+use Rattle.mp_world.specs.Values.{Values}
 use Rattle.mp_world.specs.World.{World}
 use Rattle.mp_world.specs.declared.answer.Answer.{Answer}
 use Rattle.mp_world.specs.declared.answer.Answer.TheVariants as answer
@@ -65,7 +64,7 @@ right_status limit team last answer.Unsolvable plan h = inr (inl refl)
 right_status limit team last answer.Undecided plan h = inr (inr refl)
 
 -- what was found has the status of an answer, or of a schedule that ended before there was one
-module _ (value : AgentTask → Numbers → Numbers → Option ℕ) (limit : ℕ) (team : List Factor) (schedule : List Event) (s : Solution) (found : IsFound value limit team schedule s) where
+module _ (value : Values) (limit : ℕ) (team : List Factor) (schedule : List Event) (s : Solution) (found : IsFound value limit team schedule s) where
   over_status : is_over found.last ≡ true → IsSolved (answer_status s.answer)
   over_status over = let right = found.right over in right_status limit team found.last s.answer right.plan right.right
 

@@ -14,13 +14,11 @@ use Rattle.mp_stands.specs.Renaming.{Renaming}
 use Rattle.mp_stands.specs.Team.{IsRenamedTeam}
 use Rattle.mp_replays.specs.Same.{AreSameSearches, IsFoundAgain}
 use Rattle.mp_replays.specs.Traces.{IsTraceOf}
-use Rattle.mp_sets.specs.Numbers.{Numbers}
 use Rattle.mp_solutions.specs.Solution.{IsFound, IsFoundInTurn, IsFoundOn, IsRefusedLine, IsReplayed, IsSolution}
 use Rattle.mp_solutions.proofs.ToEnd.{found_to_end}
 use Rattle.mp_solutions.specs.declared.solution.Solution.{Solution}
 use Rattle.mp_split.specs.Team.{AreTasksOf}
 use Rattle.mp_split.specs.declared.team.Tasks.{Tasks}
-use Rattle.mp_task.specs.AgentTask.{AgentTask}
 use Rattle.mp_text.specs.Alike.{TellTheSame}
 use Rattle.mp_text.specs.Schedule.{is_end}
 use Rattle.mp_text.specs.Trace.{trace_text}
@@ -28,6 +26,8 @@ use Rattle.mp_words.specs.Requests.{Searching, ToReplay, Wanted}
 use Rattle.mp_words.specs.Requests.Wanted.{audits, certifies, checks, makes, replays, solves}
 use Rattle.mp_solve.specs.Refused.{AreWithin}
 use Rattle.mp_world.specs.Logs.{IsLog}
+use Rattle.mp_world.specs.Team.{team_with}
+use Rattle.mp_world.specs.Values.{Values}
 use Rattle.mp_world.specs.declared.answer.Answer.{Answer}
 use Rattle.mp_world.specs.declared.answer.Answer.TheVariants as answer
 use Rattle.mp_top.specs.Asked.Work.{searched}
@@ -199,7 +199,7 @@ is_trace report text outcome printed = record {
 -- the law of mp_replays: no line of a trace is refused
 abbrev pub NoLineRefused : Type 0
 NoLineRefused =
-    (value : AgentTask → Numbers → Numbers → Option ℕ) (limit : ℕ) (team : List Factor) (schedule : List Event)
+    (value : Values) (limit : ℕ) (team : List Factor) (schedule : List Event)
     (found : Solution) (text : Text) (n : ℕ)
     → All IsChecked team → length team ≤ 16
     → IsFound value limit team schedule found → IsTraceOf found.log text
@@ -262,7 +262,7 @@ trace_accepted accepted law none held files request replay first r keeps is trac
 -- and it is replayed as it was
 abbrev pub Replays : Type 0
 Replays =
-    (value : AgentTask → Numbers → Numbers → Option ℕ) (limit : ℕ) (team : List Factor) (schedule : List Event)
+    (value : Values) (limit : ℕ) (team : List Factor) (schedule : List Event)
     (found again : Solution) (text : Text)
     → All IsChecked team → length team ≤ 16
     → IsFound value limit team schedule found → IsTraceOf found.log text
@@ -272,7 +272,7 @@ Replays =
 -- with an equal log where the events of both happened one after another
 abbrev pub ReplaysInTurn : Type 0
 ReplaysInTurn =
-    (value : AgentTask → Numbers → Numbers → Option ℕ) (limit : ℕ) (team : List Factor) (schedule : List Event)
+    (value : Values) (limit : ℕ) (team : List Factor) (schedule : List Event)
     (found again : Solution) (text : Text)
     → All IsChecked team → length team ≤ 16
     → IsFoundInTurn value limit team schedule found → IsTraceOf found.log text
@@ -343,21 +343,21 @@ printed_again law turn files held other request replay first second keeps is tra
 
 abbrev pub KeepsViews : Type 0
 KeepsViews =
-    (value : AgentTask → Numbers → Numbers → Option ℕ) (limit place : ℕ) (r : Renaming)
+    (value : Values) (limit place : ℕ) (r : Renaming)
     (team other : List Factor) (schedule : List Event) (found : Solution) (u : Tasks)
     → All IsChecked team → All IsChecked other → IsRenamedTeam place r team other
     → IsFound value limit team schedule found → AreTasksOf other u → u.views ≡ found.views
 
 abbrev pub KeepsLog : Type 0
 KeepsLog =
-    (value : AgentTask → Numbers → Numbers → Option ℕ) (limit place : ℕ) (r : Renaming)
+    (value : Values) (limit place : ℕ) (r : Renaming)
     (team other : List Factor) (schedule : List Event) (found : Solution) (u : Tasks)
     → All IsChecked team → All IsChecked other → IsRenamedTeam place r team other
-    → IsFound value limit team schedule found → AreTasksOf other u → IsLog value limit u.tasks found.log
+    → IsFound value limit team schedule found → AreTasksOf other u → IsLog (team_with value limit u.tasks) found.log
 
 abbrev pub KeepsMessages : Type 0
 KeepsMessages =
-    (value : AgentTask → Numbers → Numbers → Option ℕ) (limit place : ℕ) (r : Renaming)
+    (value : Values) (limit place : ℕ) (r : Renaming)
     (team other : List Factor) (schedule : List Event) (found its : Solution)
     → All IsChecked team → All IsChecked other → IsRenamedTeam place r team other
     → IsFound value limit team schedule found → IsFound value limit other schedule its
@@ -365,7 +365,7 @@ KeepsMessages =
 
 abbrev pub KeepsLogs : Type 0
 KeepsLogs =
-    (value : AgentTask → Numbers → Numbers → Option ℕ) (limit place : ℕ) (r : Renaming)
+    (value : Values) (limit place : ℕ) (r : Renaming)
     (team other : List Factor) (schedule : List Event) (found its : Solution)
     → All IsChecked team → All IsChecked other → IsRenamedTeam place r team other
     → IsFoundInTurn value limit team schedule found → IsFoundInTurn value limit other schedule its
@@ -400,7 +400,7 @@ module _ (law : TeamLaw) (files others : Files) (request : Wanted) (s : Searchin
         keeps (values_of s.heuristic) s.limit place r own other own_found.0 (reported first.report own_text) tasks
         own_checked (checked_team others texts other of_others) own_renames own_found.1 are
 
-    pub log_kept : KeepsLog → IsLog (values_of s.heuristic) s.limit tasks.tasks first.report.log
+    pub log_kept : KeepsLog → IsLog (team_with (values_of s.heuristic) s.limit tasks.tasks) first.report.log
     log_kept keeps =
         keeps (values_of s.heuristic) s.limit place r own other own_found.0 (reported first.report own_text) tasks
         own_checked (checked_team others texts other of_others) own_renames own_found.1 are

@@ -15,11 +15,10 @@ use Rattle.mp_split.specs.Team.{IsFirstRefusal, known_at}
 use Rattle.mp_files.specs.declared.refusal.Refusal.{Refusal as FilesRefusal}
 use Rattle.mp_grounder.specs.Checked.{IsChecked}
 use Rattle.mp_joint.specs.Fact.{Text}
+use Rattle.mp_world.specs.Values.{Values}
 use Rattle.mp_optimality.specs.Audits.{HasCertificate, IsAuditAccepted, IsCertificateRefused}
-use Rattle.mp_sets.specs.Numbers.{Numbers}
 use Rattle.mp_solutions.specs.Solution.{IsRefusedLine, IsReplayed}
 use Rattle.mp_solutions.specs.declared.solution.Solution.{Solution}
-use Rattle.mp_task.specs.AgentTask.{AgentTask}
 use Rattle.mp_plans.specs.Plan.{plan_in}
 use Rattle.mp_plans.specs.declared.plan.PlanText.{PlanText}
 use Rattle.mp_top.specs.Asked.{TeamRequest, Texts, Work, values_of}
@@ -187,11 +186,11 @@ none_and (Some x) P is h = absurd (cc)
 -- the laws of mp_replays: a text has one refused line, and none where it is replayed
 pub record LineLaws : Type 0 where
   pub one :
-      (value : AgentTask → Numbers → Numbers → Option ℕ) (limit : ℕ) (team : List Factor) (text : Text) (m n : ℕ)
+      (value : Values) (limit : ℕ) (team : List Factor) (text : Text) (m n : ℕ)
       → All IsChecked team
       → IsRefusedLine value limit team text m → IsRefusedLine value limit team text n → m ≡ n
   pub none :
-      (value : AgentTask → Numbers → Numbers → Option ℕ) (limit : ℕ) (team : List Factor) (text : Text) (found : Solution) (n : ℕ)
+      (value : Values) (limit : ℕ) (team : List Factor) (text : Text) (found : Solution) (n : ℕ)
       → All IsChecked team
       → IsReplayed value limit team text found → IsRefusedLine value limit team text n → ⊥
 

@@ -16,7 +16,6 @@ use Rattle.mp_messages.specs.declared.history.Event.{Event}
 use Rattle.mp_messages.specs.declared.history.Kind.TheVariants.{Expand, Start}
 use Rattle.mp_optimality.proofs.Tasks.{agreeing, as_many_tasks, within}
 use Rattle.mp_outside.specs.Source.{Files}
-use Rattle.mp_sets.specs.Numbers.{Numbers}
 use Rattle.mp_snapshot.specs.declared.verdict.Verdict.{Verdict}
 use Rattle.mp_snapshot.specs.declared.verdict.Verdict.TheVariants.{Continue, NoPlan, Proved, Spent}
 use Rattle.mp_solutions.specs.Right.{IsRight}
@@ -24,7 +23,6 @@ use Rattle.mp_solutions.specs.Solution.{IsFound}
 use Rattle.mp_solutions.specs.declared.solution.Solution.{Solution}
 use Rattle.mp_split.specs.Team.{AreTasksOf}
 use Rattle.mp_split.specs.declared.team.Tasks.{Tasks}
-use Rattle.mp_task.specs.Agree.{Agree}
 use Rattle.mp_task.specs.AgentTask.{AgentTask}
 use Rattle.mp_task.specs.Limits.{IsWithinLimits}
 use Rattle.mp_team_states.specs.Expansions.{nothing_known}
@@ -40,6 +38,8 @@ use Rattle.mp_world.proofs.Runs.{run_of_team}
 use Rattle.mp_world.proofs.Stepping.{team_size}
 use Rattle.mp_world.specs.Answers.{answer_by, answer_of}
 use Rattle.mp_world.specs.RoundRobin.{is_over}
+use Rattle.mp_world.specs.Team.{IsTeam, most_expansions, team_with}
+use Rattle.mp_world.specs.Values.{Values}
 use Rattle.mp_world.specs.World.{World, agent_at}
 use Rattle.mp_world.specs.declared.answer.Answer.{Answer}
 use Rattle.mp_world.specs.declared.answer.Answer.TheVariants as answer
@@ -102,9 +102,9 @@ spent_verdict w = by (is_over w)
 
 -- ---- what was found without a decision
 
-module _ (value : AgentTask → Numbers → Numbers → Option ℕ) (limit : ℕ) (team : List Factor) (events : List Event) (found : Solution)
+module _ (value : Values) (limit : ℕ) (team : List Factor) (events : List Event) (found : Solution)
     (is : IsFound value limit team events found) (undecided : found.answer ≡ answer.Undecided)
-    (agree : Agree is.tasks.tasks) (limits : All IsWithinLimits is.tasks.tasks) (most : limit ≤ 10000000)
+    (is_team : IsTeam (team_with value limit is.tasks.tasks))
   where
     over : is_over is.last ≡ true
     over = by (is_over is.last) refl
@@ -123,9 +123,9 @@ module _ (value : AgentTask → Numbers → Numbers → Option ℕ) (limit : ℕ
         let agent = expanded.0 in
         let end = expanded.1 in
         let one = agent_of_team is.last agent end.who end.there in
-        let size = team_size is.tasks.tasks is.last (run_of_team value limit is.tasks.tasks events is.last is.leads) in
+        let size = team_size is.tasks.tasks is.last (run_of_team (team_with value limit is.tasks.tasks) events is.last is.leads) in
         let high = one.at_most in
-        let counted = counted_in_runs value limit is.tasks.tasks agree limits most events is.last is.leads agent end.who end.there in
+        let counted = counted_in_runs (team_with value limit is.tasks.tasks) is_team events is.last is.leads agent end.who end.there in
         record {
           agent = agent;
           from_1 = one.from_1;
@@ -144,24 +144,24 @@ only_agent (x ∷ xs) r t at is =
 -- an agent that is alone and searches without a heuristic
 module _ (limit : ℕ) (team : List Factor) (events : List Event) (found : Solution)
     (is : IsFound nothing_known limit team events found) (undecided : found.answer ≡ answer.Undecided)
-    (agree : Agree is.tasks.tasks) (limits : All IsWithinLimits is.tasks.tasks) (most : limit ≤ 10000000)
+    (is_team : IsTeam (team_with nothing_known limit is.tasks.tasks))
   where
     pub few_expanded : (t : AgentTask) → is.tasks.tasks ≡ t ∷ [] → limit < 2 ^ (t.publics + t.privates)
     few_expanded t alone =
         let end = spent_verdict is.last (sym is.answer ∙ undecided) in
-        let few = few_if_spent is.tasks.tasks agree limits limit most (ap length alone) events is.last is.leads end.first end.agent end.there end.given in
-        let members = run_of_team nothing_known limit is.tasks.tasks events is.last is.leads in
+        let few = few_if_spent is.tasks.tasks is_team.tasks limit is_team (ap length alone) events is.last is.leads end.first end.agent end.there end.given in
+        let members = run_of_team (team_with nothing_known limit is.tasks.tasks) events is.last is.leads in
         subst (λ (u : AgentTask). limit < 2 ^ (u.publics + u.privates)) (only_agent is.last.agents end.first t end.there (members.team ∙ alone)) few
 
 -- ---- a request
 
-few_entries : (request : Wanted) (s : Searching) → Searches request s → KeepsLimits request → s.limit ≤ 10000000
-few_entries (solves w) s is keeps = subst (λ (x : Searching). x.limit ≤ 10000000) is keeps.work.limit
-few_entries (replays w) s is keeps = subst (λ (x : Searching). x.limit ≤ 10000000) is keeps.work.limit
+few_entries : (request : Wanted) (s : Searching) → Searches request s → KeepsLimits request → s.limit ≤ most_expansions
+few_entries (solves w) s is keeps = subst (λ (x : Searching). x.limit ≤ most_expansions) is keeps.work.limit
+few_entries (replays w) s is keeps = subst (λ (x : Searching). x.limit ≤ most_expansions) is keeps.work.limit
 few_entries (checks w) s is keeps = absurd is
-few_entries (certifies w) s is keeps = subst (λ (x : Searching). x.limit ≤ 10000000) is keeps.work.limit
+few_entries (certifies w) s is keeps = subst (λ (x : Searching). x.limit ≤ most_expansions) is keeps.work.limit
 few_entries (audits w) s is keeps = absurd is
-few_entries (makes w) s is keeps = subst (λ (x : Searching). x.limit ≤ 10000000) is keeps.work.limit
+few_entries (makes w) s is keeps = subst (λ (x : Searching). x.limit ≤ most_expansions) is keeps.work.limit
 
 undecided_answer : (a : Answer) → status.Undecided ≡ answer_status a → a ≡ answer.Undecided
 undecided_answer answer.Nothing is = absurd (cc)
@@ -207,8 +207,10 @@ module _ (law : TeamLaw) (one_tasks : OneTasks) (held : Option Files) (request :
         let alone : found.tasks.tasks ≡ all.task ∷ [] = sym (one_tasks outcome.team found.tasks all.tasks checked found.are_tasks their) ∙ all.alone in
         not_both s.limit (2 ^ (all.task.publics + all.task.privates))
         (few_expanded s.limit outcome.team by_team.0 (reported report told) found nothing
-        (agreeing outcome.team found.tasks checked found.are_tasks) (keep_limits found.tasks found.are_tasks)
-        (few_entries request s is keeps) all.task alone)
+        (record {
+          tasks = record { agree = agreeing outcome.team found.tasks checked found.are_tasks; within = keep_limits found.tasks found.are_tasks };
+          most = few_entries request s is keeps;
+        }) all.task alone)
         all.room
 
     is_spent : IsSpent held (texts_of request) s report.log
@@ -219,7 +221,10 @@ module _ (law : TeamLaw) (one_tasks : OneTasks) (held : Option Files) (request :
           agent =
               subst (λ n. HasSpent n s.limit report.log) (of_each held request report status.Undecided text outcome)
               (has_spent (values_of s.heuristic) s.limit outcome.team by_team.0 (reported report told) by_team.1 nothing
-              (agreeing outcome.team t checked are) (keep_limits t are) (few_entries request s is keeps) (as_many_tasks outcome.team t checked are));
+              (record {
+                tasks = record { agree = agreeing outcome.team t checked are; within = keep_limits t are };
+                most = few_entries request s is keeps;
+              }) (as_many_tasks outcome.team t checked are));
           few = few;
         }
 

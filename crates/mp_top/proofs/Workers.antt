@@ -1,8 +1,7 @@
 -- What workers have found was found by a schedule at the end of which all agents had ended.
-use Rattle.std.proofs.Common.{◌≡◌, ◌≤◌, ℕ, true, false, List, length, map, All, Option, Some, sym, ap, subst, ◌∙◌}
+use Rattle.std.proofs.Common.{◌≡◌, ◌≤◌, ℕ, true, false, List, length, map, All, Some, sym, ap, subst, ◌∙◌}
 use Rattle.std.specs.Prelude.{IfErr, IfOk, OnOk, Result, Ok, Err}
 use Rattle.mp_factor.specs.declared.factor.Factor.{Factor}
-use Rattle.mp_sets.specs.Numbers.{Numbers}
 use Rattle.mp_task.specs.Agree.{Agree}
 use Rattle.mp_task.specs.AgentTask.{AgentTask}
 use Rattle.mp_task.specs.Limits.{IsWithinLimits}
@@ -26,6 +25,8 @@ use Rattle.mp_world.specs.Answers.{answer_of, outcome_of}
 use Rattle.mp_world.specs.Events.{run}
 use Rattle.mp_world.specs.Logs.{IsLog}
 use Rattle.mp_world.specs.RoundRobin.{is_over}
+use Rattle.mp_world.specs.Team.{most_expansions, team_with}
+use Rattle.mp_world.specs.Values.{Values}
 use Rattle.mp_world.specs.World.{World}
 use Rattle.mp_top.specs.Asked.{values_of}
 use Rattle.mp_top.specs.Finding.{ComesOfSearch}
@@ -38,10 +39,10 @@ pub by_given : (ms : List AgentMachine) (limit : ℕ) (ts : List AgentTask) → 
     → (P : ℕ → List AgentTask → Type 0) → P (limit_of ms) (tasks_of ms) → P limit ts
 by_given ms limit ts limits tasks P h = subst (λ n. P n ts) limits (subst (λ us. P (limit_of ms) us) tasks h)
 
-module _ (value : AgentTask → Numbers → Numbers → Option ℕ) (limit : ℕ) (ts : List AgentTask)
-    (within : All IsWithinLimits ts) (few_entries : limit ≤ 10000000)
+module _ (value : Values) (limit : ℕ) (ts : List AgentTask)
+    (within : All IsWithinLimits ts) (few_entries : limit ≤ most_expansions)
     (ms : List AgentMachine) (log : List Entry) (last : World)
-    (leads : run value limit ts (schedule_of log) ≡ Some last)
+    (leads : run (team_with value limit ts) (schedule_of log) ≡ Some last)
     (agents : last.agents ≡ map (λ m. m.done) ms)
   where
     pub are_of_run : Agree ts → AreOfRun value ms
@@ -50,20 +51,17 @@ module _ (value : AgentTask → Numbers → Numbers → Option ℕ) (limit : ℕ
       tasks = ts;
       schedule = schedule_of log;
       last = last;
-      agree = agree;
-      within = within;
-      few_entries = few_entries;
-      leads = leads;
+      run = record { is_team = record { tasks = record { agree = agree; within = within }; most = few_entries }; leads = leads };
       agents = agents;
     }
 
 -- what such machines are told to have found
-pub if_to_end : (value : AgentTask → Numbers → Numbers → Option ℕ) (limit : ℕ) (team : List Factor) (tasks : Tasks)
+pub if_to_end : (value : Values) (limit : ℕ) (team : List Factor) (tasks : Tasks)
     → AnswersAreRight value → All IsChecked team → 1 ≤ length team → AreTasksOf team tasks
-    → All IsWithinLimits tasks.tasks → limit ≤ 10000000
+    → All IsWithinLimits tasks.tasks → limit ≤ most_expansions
     → (ms : List AgentMachine) (log : List Entry) (last : World)
-    → run value limit tasks.tasks (schedule_of log) ≡ Some last → last.agents ≡ map (λ m. m.done) ms
-    → IsLog value limit tasks.tasks log → is_over last ≡ true
+    → run (team_with value limit tasks.tasks) (schedule_of log) ≡ Some last → last.agents ≡ map (λ m. m.done) ms
+    → IsLog (team_with value limit tasks.tasks) log → is_over last ≡ true
     → {E : Type 0} (found : Result Solution E) → IfOk found (λ s. s.views ≡ tasks.views) → IfOk found (λ s. s.log ≡ log)
     → IfOk found (λ s. (w : World) → w.agents ≡ map (λ m. m.done) ms → s.answer ≡ answer_of w)
     → IfOk found (λ s. (w : World) → w.agents ≡ map (λ m. m.done) ms
@@ -76,7 +74,7 @@ if_to_end value limit team tasks law checked some are within few ms log last lea
       is_found =
           is_found value limit team tasks (schedule_of log) last law checked some are within few leads s (answer last agents)
           (text last agents ∙ ap (λ l. outcome_text (outcome_of last) (names_of team tasks.steps) l) (sym same)) views
-          (subst (IsLog value limit tasks.tasks) (sym same) is_log) (ap schedule_of same);
+          (subst (IsLog (team_with value limit tasks.tasks)) (sym same) is_log) (ap schedule_of same);
       over = over;
     }
 if_to_end value limit team tasks law checked some are within few ms log last leads agents is_log over (Err e) views same answer text = tt

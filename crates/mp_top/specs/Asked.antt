@@ -1,8 +1,6 @@
 -- What a request asks of a team: where its texts are, and what is done with it; and that it keeps the limits.
-use Rattle.std.specs.Prelude.{ℕ, ◌≤◌, List, [], ◌∷◌, ◌++◌, length, map, codes, decimal, Option}
+use Rattle.std.specs.Prelude.{ℕ, ◌≤◌, List, [], ◌∷◌, ◌++◌, length, map, codes, decimal}
 use Rattle.std.specs.List.{range_with_len}
-use Rattle.mp_sets.specs.Numbers.{Numbers}
-use Rattle.mp_task.specs.AgentTask.{AgentTask}
 use Rattle.mp_hmax.specs.Hmax.{hmax}
 use Rattle.mp_lmcut.specs.Cut.{lmcut}
 use Rattle.mp_pdb.specs.Pattern.{pattern_value}
@@ -16,6 +14,8 @@ use Rattle.mp_words.specs.declared.asked.Choice.{Choice}
 use Rattle.mp_words.specs.declared.asked.Choice.TheVariants.{Blind, Max, Cut, Pdb}
 use Rattle.mp_words.specs.Requests.{Searching, ToMake, Wanted}
 use Rattle.mp_words.specs.Requests.Wanted.{audits, certifies, checks, makes, replays, solves}
+use Rattle.mp_world.specs.Team.{most_expansions}
+use Rattle.mp_world.specs.Values.{Values}
 
 -- two of each: an agent's domain and then its problem, one agent after another
 abbrev pub agents_of : List Text → List Two
@@ -24,7 +24,7 @@ agents_of (domain ∷ []) = []
 agents_of (domain ∷ problem ∷ others) = record { domain = domain; problem = problem } ∷ agents_of others
 
 -- the values of a heuristic: for each task, and for each set of public and of private facts
-abbrev pub values_of : Choice → AgentTask → Numbers → Numbers → Option ℕ
+abbrev pub values_of : Choice → Values
 values_of Blind = nothing_known
 values_of Max = hmax
 values_of Cut = lmcut
@@ -117,7 +117,7 @@ files_asked request = request.first ++ texts_asked request.texts
 -- an agent may expand 1 to 10,000,000 entries
 pub record KeepsLimit (s : Searching) : Type 0 where
   pub from_1 : 1 ≤ s.limit
-  pub limit : s.limit ≤ 10000000
+  pub limit : s.limit ≤ most_expansions
 
 abbrev pub WorkKeepsLimits : Work → Type 0
 WorkKeepsLimits (searched s) = KeepsLimit s

@@ -13,6 +13,7 @@ ghost use Rattle.mp_text.specs.Outcome.{outcome_text};
 ghost use Rattle.mp_top.specs.Asked.{values_of};
 ghost use Rattle.mp_top.specs.Finding.{ComesOfSearch};
 ghost use Rattle.mp_world.specs.Answers.{answer_of, outcome_of};
+ghost use Rattle.mp_world.specs.Team.{most_expansions};
 ghost use Rattle.mp_world.specs.World.{World};
 
 use crate::decision::Search;
@@ -59,7 +60,7 @@ fn new_team<H: Heuristic>(
     limit: u64,
 ) -> Result<Vec<Machine<H>>, OutOfMemory>
     requires from_1 { 1 ≤ limit }
-    requires limit { limit ≤ 10000000 }
+    requires limit { limit ≤ most_expansions }
     requires agree { Agree tasks }
     requires some { 1 ≤ length tasks }
     requires at_most { length tasks ≤ 16 }
@@ -111,7 +112,7 @@ fn found<R: Threads + Wait + Sync, H: Heuristic + Send, G: Gate + Sync>(
     workers: u16,
 ) -> Result<Solution, OutOfMemory>
     requires from_1 { 1 ≤ limit }
-    requires limit { limit ≤ 10000000 }
+    requires limit { limit ≤ most_expansions }
     requires some { 1 ≤ length team.now }
     requires at_most { length team.now ≤ 16 }
     requires tasks { AreTasksOf team.now given }
@@ -142,7 +143,7 @@ fn found_by<R: Threads + Wait + Sync, H: Heuristic + Send, G: Gate + Sync>(
     workers: u16,
 ) -> Result<Solution, GroundRefusal>
     requires from_1 { 1 ≤ limit }
-    requires limit { limit ≤ 10000000 }
+    requires limit { limit ≤ most_expansions }
     requires some { 1 ≤ length team.now }
     requires at_most { length team.now ≤ 16 }
     requires workers { (1 ≤ workers) × (workers ≤ 16) }
@@ -164,7 +165,7 @@ fn served<R: Threads + Wait + Sync, G: Gate + Sync>(
     workers: u16,
 ) -> Result<Solution, GroundRefusal>
     requires from_1 { 1 ≤ search.limit }
-    requires limit { search.limit ≤ 10000000 }
+    requires limit { search.limit ≤ most_expansions }
     requires some { 1 ≤ length team.now }
     requires at_most { length team.now ≤ 16 }
     requires workers { (1 ≤ workers) × (workers ≤ 16) }
@@ -190,7 +191,7 @@ fn by_several<R: Threads + Wait + Sync, G: Gate + Sync>(
     workers: Workers,
 ) -> Result<Solution, GroundRefusal>
     requires from_1 { 1 ≤ search.limit }
-    requires limit { search.limit ≤ 10000000 }
+    requires limit { search.limit ≤ most_expansions }
     requires some { 1 ≤ length team.now }
     requires at_most { length team.now ≤ 16 }
     requires several { workers.one ≡ false }
@@ -211,7 +212,7 @@ pub(crate) fn by_workers<R: Threads + Wait + Sync, G: Gate + Sync>(
     workers: Workers,
 ) -> Result<Solution, GroundRefusal>
     requires from_1 { 1 ≤ search.limit }
-    requires limit { search.limit ≤ 10000000 }
+    requires limit { search.limit ≤ most_expansions }
     requires some { 1 ≤ length team.now }
     requires at_most { length team.now ≤ 16 }
     ensures { ComesOfSearch team.now search workers result }

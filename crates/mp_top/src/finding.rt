@@ -6,6 +6,7 @@ ghost use Rattle.mp_solve.specs.Refused.{AreWithin};
 ghost use Rattle.mp_split.specs.Team.{IsFirstRefusal};
 ghost use Rattle.mp_top.specs.Asked.{values_of};
 ghost use Rattle.mp_top.specs.Finding.{ComesOfSearch, WhereItMaySearch};
+ghost use Rattle.mp_world.specs.Team.{most_expansions};
 
 use crate::decision::Search;
 use crate::searching::searched;
@@ -31,7 +32,7 @@ pub(crate) fn in_turn(
     workers: Workers,
 ) -> Result<Solution, GroundRefusal>
     requires from_1 { 1 ≤ search.limit }
-    requires limit { search.limit ≤ 10000000 }
+    requires limit { search.limit ≤ most_expansions }
     requires some { 1 ≤ length team.now }
     requires at_most { length team.now ≤ 16 }
     ensures { ComesOfSearch team.now search workers result }
@@ -48,7 +49,7 @@ pub(crate) fn found<F: Fn(&[CheckedFactor], Search, Workers) -> Result<Solution,
     workers: Workers,
 ) -> Result<Solution, GroundRefusal>
     requires from_1 { 1 ≤ search.limit }
-    requires limit { search.limit ≤ 10000000 }
+    requires limit { search.limit ≤ most_expansions }
     requires some { 1 ≤ length team.now }
     requires at_most { length team.now ≤ 16 }
     requires callable { (t : _) (s : _) (w : _) → WhereItMaySearch t.now s (F.pre find.now t s w) }

@@ -21,6 +21,7 @@ ghost use Rattle.mp_top.specs.declared.refusal.Refusal.{Refusal};
 ghost use Rattle.mp_words.specs.Requests.{Searching, ToCheck, ToReplay, Wanted, request_of};
 ghost use Rattle.mp_words.specs.Requests.Wanted.{checks, replays};
 ghost use Rattle.mp_world.specs.Logs.{IsLog};
+ghost use Rattle.mp_world.specs.Team.{team_with};
 
 use crate::first::one_first;
 use crate::status::Status;
@@ -68,7 +69,7 @@ pub fn renaming_changes_no_outcome()
         → Searches request s
         → IsTeam (Some files) (texts_of request) team → IsTeam (Some others) texts other
         → IsRenamedTeam place r team other → AreTasksOf other tasks
-        → IsLog (values_of s.heuristic) s.limit tasks.tasks first.report.log }
+        → IsLog (team_with (values_of s.heuristic) s.limit tasks.tasks) first.report.log }
     ensures messages { (files others : Files) (request its : Wanted) (s : Searching)
         (first : Printed (Some files) request) (second : Printed (Some others) its)
         (team other : List Factor) (place : ℕ) (r : Renaming)

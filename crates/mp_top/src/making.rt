@@ -11,6 +11,7 @@ ghost use Rattle.mp_top.specs.Asked.{agents_of, made_name};
 ghost use Rattle.mp_top.specs.Decided.{IsTold, MakesFor, searching_by};
 ghost use Rattle.mp_top.specs.Finding.{ComesOfSearch, WhereItMaySearch};
 ghost use Rattle.mp_top.specs.Outcome.{told_made};
+ghost use Rattle.mp_world.specs.Team.{most_expansions};
 
 use crate::decision::{Decision, Search, status_of_answer};
 use crate::finding::{Workers, found};
@@ -169,7 +170,7 @@ pub(crate) fn make_for<F: Fn(&[CheckedFactor], Search, Workers) -> Result<Soluti
     size: u16,
 ) -> Result<Decision, GroundRefusal>
     requires from_1 { 1 ≤ search.limit }
-    requires limit { search.limit ≤ 10000000 }
+    requires limit { search.limit ≤ most_expansions }
     requires some { 1 ≤ length team.now }
     requires at_most { length team.now ≤ 16 }
     requires callable { (t : _) (s : _) (w : _) → WhereItMaySearch t.now s (F.pre find.now t s w) }

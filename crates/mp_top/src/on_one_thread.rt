@@ -7,6 +7,7 @@ ghost use Rattle.mp_top.specs.Finding.{ComesOfSearch};
 ghost use Rattle.mp_top.specs.Keeps.{Keeps};
 ghost use Rattle.mp_top.specs.Report.{IsEmptyReport};
 ghost use Rattle.mp_words.specs.Requests.{is_alone};
+ghost use Rattle.mp_world.specs.Team.{most_expansions};
 
 use crate::answering::answer;
 use crate::decision::Search;
@@ -52,7 +53,7 @@ pub fn run_alone<S: Source, K: Sink, E: Sink>(
             Solution,
             GroundRefusal,
         >
-            requires { (1 ≤ search.limit) × (search.limit ≤ 10000000) × (1 ≤ length team.now) × (length team.now ≤ 16) }
+            requires { (1 ≤ search.limit) × (search.limit ≤ most_expansions) × (1 ≤ length team.now) × (length team.now ≤ 16) }
             ensures { ComesOfSearch team.entry.now search workers result }
         { in_turn(alloc, team, search, workers) },
         source,

@@ -6,6 +6,7 @@ ghost use Rattle.mp_top.specs.Call.{Call, seen_acts, seen_sink};
 ghost use Rattle.mp_top.specs.Finding.{ComesOfSearch};
 ghost use Rattle.mp_top.specs.Keeps.{Keeps};
 ghost use Rattle.mp_top.specs.Report.{IsEmptyReport};
+ghost use Rattle.mp_world.specs.Team.{most_expansions};
 
 use crate::answering::answer;
 use crate::by_workers::by_workers;
@@ -59,7 +60,7 @@ pub fn run<R: Threads + Wait + Sync, S: Source, K: Sink, E: Sink, G: Gate + Sync
             Solution,
             GroundRefusal,
         >
-            requires { (1 ≤ search.limit) × (search.limit ≤ 10000000) × (1 ≤ length team.now) × (length team.now ≤ 16) }
+            requires { (1 ≤ search.limit) × (search.limit ≤ most_expansions) × (1 ≤ length team.now) × (length team.now ≤ 16) }
             ensures { ComesOfSearch team.entry.now search workers result }
         { by_workers(rt, gate, alloc, team, search, workers) },
         source,

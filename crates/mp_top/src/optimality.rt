@@ -4,6 +4,7 @@ ghost use Rattle.std.specs.Prelude.{◌≡◌, ◌≤◌, ◌∷◌, [], length,
 ghost use Rattle.mp_split.specs.Team.{IsFirstRefusal};
 ghost use Rattle.mp_top.specs.Asked.Work.{audited as audited_work};
 ghost use Rattle.mp_top.specs.Decided.{AuditsFor, CertifiesFor, IsRefusedTeam, IsToldByAudit, IsToldByCertificate, refusal_of_audit};
+ghost use Rattle.mp_world.specs.Team.{most_expansions};
 
 use crate::decision::{Decision, status_of_answer};
 use crate::refusal::{FirstRefusal, Refusal};
@@ -44,7 +45,7 @@ pub(crate) fn certify_for(
     limit: u64,
 ) -> Result<Decision, GroundRefusal>
     requires from_1 { 1 ≤ limit }
-    requires limit { limit ≤ 10000000 }
+    requires limit { limit ≤ most_expansions }
     requires some { 1 ≤ length team.now }
     requires at_most { length team.now ≤ 16 }
     ensures outcome { IfOk result (CertifiesFor limit team.now) }

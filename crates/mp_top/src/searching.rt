@@ -9,6 +9,7 @@ ghost use Rattle.mp_top.specs.Asked.Work.{replayed as replayed_work};
 ghost use Rattle.mp_top.specs.Decided.{IsRefusedTeam, IsTold, ReplaysBy, SolvesFor, refusal_of, searching_by};
 ghost use Rattle.mp_top.specs.Finding.{ComesOfSearch, WhereItMaySearch};
 ghost use Rattle.mp_top.specs.Outcome.{printed_text};
+ghost use Rattle.mp_world.specs.Team.{most_expansions};
 
 use crate::decision::{Decision, Search, status_of_answer, trace_before};
 use crate::finding::{Workers, found};
@@ -31,7 +32,7 @@ pub(crate) fn searched(
     search: Search,
 ) -> Result<Solution, GroundRefusal>
     requires from_1 { 1 ≤ search.limit }
-    requires limit { search.limit ≤ 10000000 }
+    requires limit { search.limit ≤ most_expansions }
     requires some { 1 ≤ length team.now }
     requires at_most { length team.now ≤ 16 }
     ensures solution { IfOk result (IsSolution (values_of search.heuristic) search.limit team.now) }
@@ -54,7 +55,7 @@ fn replayed(
     text: &[u8],
 ) -> Result<Solution, ReplayRefusal>
     requires from_1 { 1 ≤ search.limit }
-    requires limit { search.limit ≤ 10000000 }
+    requires limit { search.limit ≤ most_expansions }
     requires some { 1 ≤ length team.now }
     requires at_most { length team.now ≤ 16 }
     ensures replayed { IfOk result (IsReplayed (values_of search.heuristic) search.limit team.now text.now) }
@@ -103,7 +104,7 @@ pub(crate) fn solve_for<
     trace: bool,
 ) -> Result<Decision, GroundRefusal>
     requires from_1 { 1 ≤ search.limit }
-    requires limit { search.limit ≤ 10000000 }
+    requires limit { search.limit ≤ most_expansions }
     requires some { 1 ≤ length team.now }
     requires at_most { length team.now ≤ 16 }
     requires callable { (t : _) (s : _) (w : _) → WhereItMaySearch t.now s (F.pre find.now t s w) }
@@ -133,7 +134,7 @@ pub(crate) fn replay_by(
     text: &[u8],
 ) -> Result<Decision, Refusal>
     requires from_1 { 1 ≤ search.limit }
-    requires limit { search.limit ≤ 10000000 }
+    requires limit { search.limit ≤ most_expansions }
     requires some { 1 ≤ length team.now }
     requires at_most { length team.now ≤ 16 }
     ensures outcome { IfOk result (ReplaysBy (searching_by search) text.now team.now) }

@@ -1,5 +1,5 @@
 -- The log of a run: its schedule, what is under way after it, and that it is a log of its team.
-use Rattle.std.proofs.Common.{◌≡◌, ◌≢◌, ℕ, zero, suc, ◌+◌, ◌-◌, ◌<◌, ◌≤◌, Bool, true, false, ◌&&◌, List, [], ◌∷◌, ◌++◌, length, map, drop, replicate, Option, Some, refl, sym, ap, subst, ◌∙◌, append_assoc, append-nil, arith, length-append, length-drop, ◌⊎◌, inl, inr}
+use Rattle.std.proofs.Common.{◌≡◌, ◌≢◌, ℕ, zero, suc, ◌+◌, ◌-◌, ◌<◌, ◌≤◌, Bool, true, false, ◌&&◌, List, [], ◌∷◌, ◌++◌, length, map, drop, replicate, Some, refl, sym, ap, subst, ◌∙◌, append_assoc, append-nil, arith, length-append, length-drop, ◌⊎◌, inl, inr}
 use Rattle.std.specs.Prelude.{◌==◌, All, Contains, if◌then◌else◌, not, slice_get, slice_index_or}
 use Rattle.std.specs.Option.{option_map_or}
 use Rattle.std.proofs.lemmas.Bool.{eqb-false, eqb-true}
@@ -8,7 +8,6 @@ use Rattle.std.proofs.lemmas.List.Elements.{All-append, All-contains, All-nil, A
 use Rattle.std.proofs.lemmas.Option.{none-some, same_Some, slice_get-get_or}
 use Rattle.mp_runs.specs.Run.{run as run_of}
 use Rattle.mp_runs.proofs.Runs.{run-none, run_parts}
-use Rattle.mp_sets.specs.Numbers.{Numbers}
 use Rattle.mp_task.specs.AgentTask.{AgentTask}
 use Rattle.mp_messages.specs.declared.history.Event.{Event}
 use Rattle.mp_messages.specs.declared.history.Event.TheVariants.{Expand, Take, Start}
@@ -22,6 +21,8 @@ use Rattle.mp_world.specs.Events.{after_event, agent_of, has_message, local_of, 
 use Rattle.mp_world.specs.Logs.{HasDone, IsLocalLog, IsLog, entries_if_good, entries_of, entry_of, log_after, log_from, log_of_run, put_by}
 use Rattle.mp_world.specs.Logs.HasDone.{nothing, onward}
 use Rattle.mp_world.specs.Steps.{IsStepOf}
+use Rattle.mp_world.specs.Team.{Team, team_with}
+use Rattle.mp_world.specs.Values.{Values}
 use Rattle.mp_world.specs.World.{AreNumbered, IsAgent, IsTeamWorld, World, agent_at, start_world, under_way}
 use Rattle.mp_world.proofs.Agents.{member_of, sender_of, task_there}
 use Rattle.mp_world.proofs.Entries.{entries_owners, entries_received, entries_schedule, entries_sent, part_others, part_own, taken_from}
@@ -48,11 +49,13 @@ drop_twice (suc n) m (x ∷ xs) = ap (λ k. drop k (x ∷ xs)) one_first ∙ dro
 
 -- ---- agents of the world at the start are new
 
-pub new_at : (value : AgentTask → Numbers → Numbers → Option ℕ) (limit : ℕ) (tasks : List AgentTask) (agent : ℕ) (r : AgentRecord)
-    → agent_at (start_world value limit tasks) agent ≡ Some r → r ≡ new_record r.task (value r.task) limit
-new_at value limit tasks zero r here = absurd (none-some r here)
-new_at value limit tasks (suc k) r here = new_in tasks k r here
+pub new_at : (team : Team) (agent : ℕ) (r : AgentRecord)
+    → agent_at (start_world team) agent ≡ Some r → r ≡ new_record r.task (team.value r.task) team.limit
+new_at team zero r here = absurd (none-some r here)
+new_at team (suc k) r here = new_in team.tasks k r here
   where
+    open team use {value, limit}
+
     new_in : (ts : List AgentTask) (k : ℕ) (x : AgentRecord) → slice_get (map (λ t. new_record t (value t) limit) ts) k ≡ Some x → x ≡ new_record x.task (value x.task) limit
     new_in [] k x here = absurd (none-some x here)
     new_in (t ∷ ts) zero x here = subst (λ y. y ≡ new_record y.task (value y.task) limit) (same_Some (new_record t (value t) limit) x here) refl
@@ -73,7 +76,7 @@ not_empty : (xs : List (List ℕ)) → not (length xs == 0) ≡ true → 0 < len
 not_empty [] test = absurd (let impossible : ⊥ = cc in impossible)
 not_empty (x ∷ xs) test = omega arith
 
-module _ (value : AgentTask → Numbers → Numbers → Option ℕ) (tasks : List AgentTask) (numbered : AreNumbered tasks) where
+module _ (value : Values) (tasks : List AgentTask) (numbered : AreNumbered tasks) where
   -- one event more
   module _ (past : List Entry) (w : World) (event : Event) (next : World) (team : IsTeamWorld tasks w) (is : IsStepOf value w event next) where
     abbrev pub new : List Entry
@@ -336,10 +339,10 @@ module _ (value : AgentTask → Numbers → Numbers → Option ℕ) (tasks : Lis
           }
 
   -- nothing is under way at the start
-  pub start_matches : (limit : ℕ) → Matches [] (start_world value limit tasks)
+  pub start_matches : (limit : ℕ) → Matches [] (start_world (team_with value limit tasks))
   start_matches limit from to is_from is_to =
       let n = length tasks in
-      let size = team_size tasks (start_world value limit tasks) (start_is_team value limit tasks) in
+      let size = team_size tasks (start_world (team_with value limit tasks)) (start_is_team (team_with value limit tasks)) in
       let low_from = is_from.from_1 in
       let low_to = is_to.from_1 in
       let high_from = is_from.at_most in
@@ -351,35 +354,35 @@ module _ (value : AgentTask → Numbers → Numbers → Option ℕ) (tasks : Lis
         within = omega arith;
       }
 
-  module _ (limit : ℕ) (events : List Event) (last : World) (ran : run_of (after_event value) (start_world value limit tasks) events ≡ Some last) where
+  module _ (limit : ℕ) (events : List Event) (last : World) (ran : run_of (after_event value) (start_world (team_with value limit tasks)) events ≡ Some last) where
     abbrev start : World
-    start = start_world value limit tasks
+    start = start_world (team_with value limit tasks)
 
     team : IsTeamWorld tasks start
-    team = start_is_team value limit tasks
+    team = start_is_team (team_with value limit tasks)
 
-    sound : IsSound (log_of_run value limit tasks events) last
+    sound : IsSound (log_of_run (team_with value limit tasks) events) last
     sound = log_sound events [] start last team (start_matches limit) history_empty ran
 
-    pub run_log_schedule : schedule (log_of_run value limit tasks events) ≡ events
+    pub run_log_schedule : schedule (log_of_run (team_with value limit tasks) events) ≡ events
     run_log_schedule = log_schedule events start last team ran
 
-    pub run_log_mail : (from to : ℕ) → IsAgent last from → IsAgent last to → under_way last from to ≡ under_way_in from to (log_of_run value limit tasks events)
+    pub run_log_mail : (from to : ℕ) → IsAgent last from → IsAgent last to → under_way last from to ≡ under_way_in from to (log_of_run (team_with value limit tasks) events)
     run_log_mail from to is_from is_to = (sound.matches from to is_from is_to).same
 
-    pub run_log_is_log : IsLog value limit tasks (log_of_run value limit tasks events)
+    pub run_log_is_log : IsLog (team_with value limit tasks) (log_of_run (team_with value limit tasks) events)
     run_log_is_log = record {
       history = sound.legal;
-      of_team = λ e there. All-contains IsOfTeam (log_of_run value limit tasks events) e (log_owners events start last team ran) there;
+      of_team = λ e there. All-contains IsOfTeam (log_of_run (team_with value limit tasks) events) e (log_owners events start last team ran) there;
       parts = λ t there. part_of t there;
     }
       where
-        part_of : (t : AgentTask) → Contains tasks t → IsLocalLog value limit t (part (log_of_run value limit tasks events) t.me)
+        part_of : (t : AgentTask) → Contains tasks t → IsLocalLog value limit t (part (log_of_run (team_with value limit tasks) events) t.me)
         part_of t there =
             let found = task_there tasks numbered start team t there in
             let p = log_part events start last team ran t.me found.0 found.1 in
-            let fresh : found.0 ≡ new_record t (value t) limit = new_at value limit tasks t.me found.0 found.1 ∙ ap (λ u. new_record u (value u) limit) found.2 in
+            let fresh : found.0 ≡ new_record t (value t) limit = new_at (team_with value limit tasks) t.me found.0 found.1 ∙ ap (λ u. new_record u (value u) limit) found.2 in
             record {
               last = p.final;
-              done = subst (λ (r : AgentRecord). HasDone (value r.task) r (part (log_of_run value limit tasks events) t.me) p.final) fresh p.done;
+              done = subst (λ (r : AgentRecord). HasDone (value r.task) r (part (log_of_run (team_with value limit tasks) events) t.me) p.final) fresh p.done;
             }

@@ -27,6 +27,8 @@ use Rattle.mp_world.specs.Events.{after_event, after_local, agent_may, agent_of,
 use Rattle.mp_world.specs.Logs.{HasDone, HasRun, IsLog, entries_if_good, entries_of, entry_of, log_after, log_from, log_of_run, put_by}
 use Rattle.mp_world.specs.Logs.HasDone.{nothing, onward}
 use Rattle.mp_world.specs.Steps.{IsStepOf, sent_between, sent_to}
+use Rattle.mp_world.specs.Team.{Team}
+use Rattle.mp_world.specs.Values.{Values}
 use Rattle.mp_world.specs.World.{AreNumbered, IsAgent, IsTeamWorld, World, agent_at, start_world, under_way}
 use Rattle.mp_world.proofs.Agents.{agent_there, member_of, sender_of, task_there}
 use Rattle.mp_world.proofs.Entries.{eqb-turned, entries_owners, entries_received, part_others, part_own, put_sent, taken_from}
@@ -128,7 +130,7 @@ part_other e es agent apart = by (owner_of e == agent) refl
 
 -- ---- an event that may happen leads to a world
 
-module _ (value : AgentTask → Numbers → Numbers → Option ℕ) (w : World) (event : Event) (r : AgentRecord) (s : Step) where
+module _ (value : Values) (w : World) (event : Event) (r : AgentRecord) (s : Step) where
   pub event_leads : agent_at w (agent_of event) ≡ Some r → may r (local_of event) ≡ true → has_message w event ≡ true → local_step value w event r ≡ Ok s
       → after_event value w event ≡ Some (after_local w event s)
   unfolding after_event
@@ -176,7 +178,7 @@ none_put : (agent : ℕ) (outs : List Out) (later more : List Entry) → [] ≡ 
 none_put agent [] later more is none = sym none
 none_put agent (x ∷ xs) later more is none = absurd (not_longer (put_by agent x) (map (put_by agent) xs ++ later) is)
 
-module _ (value : AgentTask → Numbers → Numbers → Option ℕ) (tasks : List AgentTask) (numbered : AreNumbered tasks) (log : List Entry) where
+module _ (value : Values) (tasks : List AgentTask) (numbered : AreNumbered tasks) (log : List Entry) where
   -- What an agent has still to do from a place of the log on: it has put some messages in the world and not yet in the log, and
   -- behind them stands what its next steps leave.
   record Doing (w : World) (rest : List Entry) (outs : List Out) (agent : ℕ) : Type 0 where
@@ -590,17 +592,19 @@ received_part from to (e ∷ es) = by (owner_of e == to) refl (received_part fro
 
 -- ---- a log has the run of its schedule
 
-module _ (value : AgentTask → Numbers → Numbers → Option ℕ) (limit : ℕ) (tasks : List AgentTask) (numbered : AreNumbered tasks) (log : List Entry) (is : IsLog value limit tasks log) where
-  abbrev start : World
-  start = start_world value limit tasks
+module _ (team : Team) (numbered : AreNumbered team.tasks) (log : List Entry) (is : IsLog team log) where
+  open team use {tasks, value, limit}
 
-  team : IsTeamWorld tasks start
-  team = start_is_team value limit tasks
+  abbrev start : World
+  start = start_world team
+
+  of_team : IsTeamWorld tasks start
+  of_team = start_is_team team
 
   start_doing : (agent : ℕ) → IsAgent start agent → Doing value tasks numbered log start log [] agent
   start_doing agent is_agent =
       let found = agent_there start agent is_agent in
-      let of = member_of tasks numbered start team agent found.0 found.1 in
+      let of = member_of tasks numbered start of_team agent found.0 found.1 in
       let p = is.parts found.0.task of.task in
       record {
         r = found.0;
@@ -608,13 +612,13 @@ module _ (value : AgentTask → Numbers → Numbers → Option ℕ) (limit : ℕ
         later = part log agent;
         final = p.last;
         is = refl;
-        done = subst (λ r. HasDone (value found.0.task) r (part log agent) p.last) (sym (new_at value limit tasks agent found.0 found.1))
+        done = subst (λ r. HasDone (value found.0.task) r (part log agent) p.last) (sym (new_at team agent found.0 found.1))
             (subst (λ i. HasDone (value found.0.task) (new_record found.0.task (value found.0.task) limit) (part log i) p.last) of.me p.done);
       }
 
   start_state : State value tasks numbered log [] log start (λ agent. [])
   start_state = record {
-    team = team;
+    team = of_team;
     whole = refl;
     doing = start_doing;
     mail = λ from to is_from is_to. (start_matches value tasks numbered limit from to is_from is_to).same;
@@ -624,13 +628,13 @@ module _ (value : AgentTask → Numbers → Numbers → Option ℕ) (limit : ℕ
   ran = run_rest value tasks numbered log is.history is.of_team log [] start (λ agent. []) start_state
 
   abbrev run_log : List Entry
-  run_log = log_of_run value limit tasks (schedule log)
+  run_log = log_of_run team (schedule log)
 
   team_last : IsTeamWorld tasks ran.last
-  team_last = run_of_team value limit tasks (schedule log) ran.last ran.ran
+  team_last = run_of_team team (schedule log) ran.last ran.ran
 
   at_start : (agent : ℕ) → IsAgent ran.last agent → IsAgent start agent
-  at_start agent = IsAgent-agents start ran.last agent (team_size tasks start team ∙ sym (team_size tasks ran.last team_last))
+  at_start agent = IsAgent-agents start ran.last agent (team_size tasks start of_team ∙ sym (team_size tasks ran.last team_last))
 
   parts_are : (agent : ℕ) → IsAgent ran.last agent → part run_log agent ≡ part log agent
   parts_are agent is_agent = sym (ran.parts agent (at_start agent is_agent))
@@ -643,16 +647,16 @@ module _ (value : AgentTask → Numbers → Numbers → Option ℕ) (limit : ℕ
 
   final_is : (t : AgentTask) (here : Contains tasks t) → agent_at ran.last t.me ≡ Some (is.parts t here).last
   final_is t here =
-      let found = task_there tasks numbered start team t here in
-      let p = log_part value tasks numbered (schedule log) start ran.last team ran.ran t.me found.0 found.1 in
-      let fresh : found.0 ≡ new_record t (value t) limit = new_at value limit tasks t.me found.0 found.1 ∙ ap (λ u. new_record u (value u) limit) found.2 in
+      let found = task_there tasks numbered start of_team t here in
+      let p = log_part value tasks numbered (schedule log) start ran.last of_team ran.ran t.me found.0 found.1 in
+      let fresh : found.0 ≡ new_record t (value t) limit = new_at team t.me found.0 found.1 ∙ ap (λ u. new_record u (value u) limit) found.2 in
       let mine : IsAgent ran.last t.me = agent_of_team ran.last t.me p.final p.there in
       let done : HasDone (value t) (new_record t (value t) limit) (part log t.me) p.final =
       subst (λ (r : AgentRecord). HasDone (value r.task) r (part log t.me) p.final) fresh
       (subst (λ es. HasDone (value found.0.task) found.0 es p.final) (parts_are t.me mine) p.done) in
       p.there ∙ ap Some (done_same (value t) (new_record t (value t) limit) p.final (is.parts t here).last (part log t.me) done (is.parts t here).done)
 
-  pub log_has_run : HasRun value limit tasks log is
+  pub log_has_run : HasRun team log is
   log_has_run = record {
     last = ran.last;
     runs = ran.ran;

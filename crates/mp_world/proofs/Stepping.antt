@@ -1,12 +1,11 @@
 -- What an event changes in a world, and that the world stays one of its team.
-use Rattle.std.proofs.Common.{◌≡◌, ℕ, zero, suc, ◌-◌, Bool, true, false, List, [], ◌∷◌, length, map, drop, Option, Some, None, refl, sym, ap, subst, ◌∙◌}
+use Rattle.std.proofs.Common.{◌≡◌, ℕ, zero, suc, ◌-◌, Bool, true, false, List, [], ◌∷◌, length, map, drop, Some, None, refl, sym, ap, subst, ◌∙◌}
 use Rattle.std.specs.Prelude.{Result, Ok, Err, if◌then◌else◌, All, replicate, slice_get, slice_set}
 use Rattle.std.specs.Option.{option_and_then, option_map_or}
 use Rattle.std.proofs.lemmas.Bool.{and_parts}
 use Rattle.std.proofs.lemmas.List.{length-map, length-replicate, length-set, map-set}
 use Rattle.std.proofs.lemmas.List.Elements.{All-replicate}
 use Rattle.std.proofs.lemmas.Option.{none-some, option_and_then_some, same_Some}
-use Rattle.mp_sets.specs.Numbers.{Numbers}
 use Rattle.mp_task.specs.AgentTask.{AgentTask}
 use Rattle.mp_messages.specs.declared.history.Event.{Event}
 use Rattle.mp_messages.specs.declared.history.Event.TheVariants.{Expand, Take, Start}
@@ -16,6 +15,8 @@ use Rattle.mp_machine.specs.LocalStep.{local, may}
 use Rattle.mp_machine.specs.Outgoing.{Step}
 use Rattle.mp_world.specs.Events.{after_event, after_local, agent_may, agent_of, has_message, if_good, is_legal, local_of, local_step, sent_in, taken, without_taken}
 use Rattle.mp_world.specs.Steps.{IsStepOf}
+use Rattle.mp_world.specs.Team.{Team}
+use Rattle.mp_world.specs.Values.{Values}
 use Rattle.mp_world.specs.World.{World, IsAgent, IsTeamWorld, agent_at, start_world, under_way, with_agent}
 use Rattle.mp_world.proofs.Mail.{HasLists, one_before, IsAgent-agents, agent_at-agents, agent_at-other, agent_at-same, agent_of_team, all_sent-agents, all_sent-lists, under_way-all_sent, under_way-lists}
 use Rattle.mp_world.proofs.Tasks.{local_keeps_task}
@@ -45,7 +46,7 @@ team_of tasks w team lists =
 -- ---- an event
 
 -- what it means that an event leads to a world
-pub record Stepped (value : AgentTask → Numbers → Numbers → Option ℕ) (w : World) (event : Event) (next : World) : Type 0 where
+pub record Stepped (value : Values) (w : World) (event : Event) (next : World) : Type 0 where
   pub agent : AgentRecord
   pub there : agent_at w (agent_of event) ≡ Some agent
   pub may : may agent (local_of event) ≡ true
@@ -54,7 +55,7 @@ pub record Stepped (value : AgentTask → Numbers → Numbers → Option ℕ) (w
   pub local : local_step value w event agent ≡ Ok step
   pub is : after_local w event step ≡ next
 
-module _ (value : AgentTask → Numbers → Numbers → Option ℕ) (w : World) (event : Event) (next : World) where
+module _ (value : Values) (w : World) (event : Event) (next : World) where
   pub stepped : after_event value w event ≡ Some next → Stepped value w event next
   unfolding after_event
   stepped = by (is_legal w event) refl
@@ -134,7 +135,7 @@ module _ (w : World) (event : Event) (r s : AgentRecord) (there : agent_at w (ag
       task_again v (suc k) x here = subst (λ i. slice_set (map (λ (y : AgentRecord). y.task) v.agents) i x.task ≡ map (λ (y : AgentRecord). y.task) v.agents) (sym (one_before k)) (item_again v.agents k x here)
 
 -- an event changes its agent and what goes to it and from it, and nothing else
-module _ (value : AgentTask → Numbers → Numbers → Option ℕ) (w : World) (lists : HasLists w) (event : Event) where
+module _ (value : Values) (w : World) (lists : HasLists w) (event : Event) where
   step_made : (next : World) → Stepped value w event next → IsStepOf value w event next
   step_made next s = subst (IsStepOf value w event) s.is (record {
     agent = s.agent;
@@ -173,7 +174,7 @@ module _ (value : AgentTask → Numbers → Numbers → Option ℕ) (w : World) 
   event_is_step next leads = step_made next (stepped value w event next leads)
 
 -- the world is one of the team still
-pub event_keeps_team : (value : AgentTask → Numbers → Numbers → Option ℕ) (tasks : List AgentTask) (w : World) (event : Event) (next : World)
+pub event_keeps_team : (value : Values) (tasks : List AgentTask) (w : World) (event : Event) (next : World)
     → IsTeamWorld tasks w → after_event value w event ≡ Some next → IsTeamWorld tasks next
 event_keeps_team value tasks w event next is leads = subst (IsTeamWorld tasks) s.is (team_of tasks after team (lists))
   where
@@ -199,13 +200,15 @@ event_keeps_team value tasks w event next is leads = subst (IsTeamWorld tasks) s
     lists = all_sent-lists (agent_of event) before (sent_in s.step) (changed-lists w event s.agent s.step.after s.there (team_lists tasks w is))
 
 -- so is the world at the start
-pub start_is_team : (value : AgentTask → Numbers → Numbers → Option ℕ) (limit : ℕ) (tasks : List AgentTask) → IsTeamWorld tasks (start_world value limit tasks)
-start_is_team value limit tasks = record {
+pub start_is_team : (team : Team) → IsTeamWorld team.tasks (start_world team)
+start_is_team team = record {
   team = tasks_again tasks;
   senders = length-replicate (length tasks) (replicate (length tasks) []);
   receivers = All-replicate (λ row. length row ≡ length tasks) (length tasks) (replicate (length tasks) []) (length-replicate (length tasks) []);
 }
   where
+    open team use {tasks, value, limit}
+
     tasks_again : (ts : List AgentTask) → map (λ r. r.task) (map (λ t. new_record t (value t) limit) ts) ≡ ts
     tasks_again [] = refl
     tasks_again (t ∷ ts) = ap (λ us. t ∷ us) (tasks_again ts)

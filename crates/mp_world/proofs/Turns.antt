@@ -1,5 +1,5 @@
 -- What round robin makes is a run up to a world that is over, and it makes one schedule alone.
-use Rattle.std.proofs.Common.{◌≡◌, ℕ, true, false, List, [], ◌∷◌, ◌++◌, length, Option, Some, None, refl, sym, ap, subst, ◌∙◌}
+use Rattle.std.proofs.Common.{◌≡◌, ℕ, true, false, List, [], ◌∷◌, ◌++◌, length, Some, None, refl, sym, ap, subst, ◌∙◌}
 use Rattle.std.specs.Prelude.{if◌then◌else◌}
 use Rattle.std.specs.List.{range_with_len}
 use Rattle.std.specs.Option.{option_and_then}
@@ -7,8 +7,6 @@ use Rattle.std.proofs.lemmas.Bool.{false≢true}
 use Rattle.std.proofs.lemmas.Option.{none-some, same_Some}
 use Rattle.mp_runs.specs.Run.{run as run_of}
 use Rattle.mp_runs.proofs.Runs.{run-after, run-first, run-none, run-one}
-use Rattle.mp_sets.specs.Numbers.{Numbers}
-use Rattle.mp_task.specs.AgentTask.{AgentTask}
 use Rattle.mp_messages.specs.declared.history.Event.{Event}
 use Rattle.mp_messages.specs.declared.history.Event.TheVariants.{Expand, Take, Start}
 use Rattle.mp_machine.specs.Outgoing.{others}
@@ -18,6 +16,7 @@ use Rattle.mp_world.specs.RoundRobin.AsLongAsItMay.{no_more, once_more}
 use Rattle.mp_world.specs.RoundRobin.IfItMay.{not_now, now}
 use Rattle.mp_world.specs.RoundRobin.Rounds.{over, round}
 use Rattle.mp_world.specs.RoundRobin.StartsIfFirst.{first, another}
+use Rattle.mp_world.specs.Values.{Values}
 use Rattle.mp_world.specs.World.{World, agent_at}
 
 -- a part of a schedule
@@ -41,7 +40,7 @@ each_one : (P : ℕ → Part) → ((agent : ℕ) → IsOne (P agent)) → (agent
 each_one P one [] = nothing_one
 each_one P one (agent ∷ agents) = then_one (P agent) (ForEach P agents) (one agent) (each_one P one agents)
 
-module _ (value : AgentTask → Numbers → Numbers → Option ℕ) where
+module _ (value : Values) where
   -- a part is a run
   abbrev pub IsRun : Part → Type 0
   IsRun P = (w last : World) (events : List Event) → P w events last → run_of (after_event value) w events ≡ Some last

@@ -3,8 +3,6 @@ use Rattle.std.specs.Prelude.{ℕ, ◌==◌, ◌&&◌, not, nat_le, Bool, true, 
 use Rattle.std.specs.List.{fold}
 use Rattle.std.specs.Option.{option_map_or}
 use Rattle.mp_runs.specs.Run.{run as run_of, IsLegal as IsLegal_for}
-use Rattle.mp_sets.specs.Numbers.{Numbers}
-use Rattle.mp_task.specs.AgentTask.{AgentTask}
 use Rattle.mp_messages.specs.declared.history.Event.{Event}
 use Rattle.mp_messages.specs.declared.history.Event.TheVariants.{Expand, Take, Start}
 use Rattle.mp_machine.specs.declared.event.Local.{Local}
@@ -14,6 +12,8 @@ use Rattle.mp_machine.specs.declared.refusal.BadKind.{BadKind}
 use Rattle.mp_machine.specs.AgentRecord.{AgentRecord}
 use Rattle.mp_machine.specs.LocalStep.{local, may}
 use Rattle.mp_machine.specs.Outgoing.{Step, in_bytes}
+use Rattle.mp_world.specs.Team.{Team}
+use Rattle.mp_world.specs.Values.{Values}
 use Rattle.mp_world.specs.World.{World, agent_at, start_world, under_way, with_agent, with_under_way}
 
 -- the agent whose event it is
@@ -78,7 +78,7 @@ abbrev pub if_good : World → Event → Result Step BadKind → Option World
 if_good w event (Ok s) = Some (after_local w event s)
 if_good w event (Err kind) = None
 
-module _ (value : AgentTask → Numbers → Numbers → Option ℕ) where
+module _ (value : Values) where
   -- what the agent of an event does
   abbrev pub local_step : World → Event → AgentRecord → Result Step BadKind
   local_step w event r = local (value r.task) r (local_of event) (taken w event)
@@ -90,10 +90,10 @@ module _ (value : AgentTask → Numbers → Numbers → Option ℕ) where
       then option_and_then (λ r. if_good w event (local_step w event r)) (agent_at w (agent_of event))
       else None
 
-  -- the world after a schedule: none where one of its events may not happen in its turn
-  abbrev pub run : ℕ → List AgentTask → List Event → Option World
-  run limit tasks schedule = run_of after_event (start_world value limit tasks) schedule
+-- the world after a schedule: none where one of its events may not happen in its turn
+abbrev pub run : Team → List Event → Option World
+run team schedule = run_of (after_event team.value) (start_world team) schedule
 
-  -- a schedule is legal where each of its events may happen in its turn
-  abbrev pub IsLegal : ℕ → List AgentTask → List Event → Type 0
-  IsLegal limit tasks schedule = IsLegal_for after_event (start_world value limit tasks) schedule
+-- a schedule is legal where each of its events may happen in its turn
+abbrev pub IsLegal : Team → List Event → Type 0
+IsLegal team schedule = IsLegal_for (after_event team.value) (start_world team) schedule

@@ -15,6 +15,8 @@ use Rattle.mp_machine.specs.AgentRecord.{AgentRecord, new_record}
 use Rattle.mp_machine.specs.LocalStep.{local, may}
 use Rattle.mp_machine.specs.Outgoing.{Step}
 use Rattle.mp_world.specs.Events.{after_event, agent_of, local_of, local_step, run, sent_in, taken}
+use Rattle.mp_world.specs.Team.{Team}
+use Rattle.mp_world.specs.Values.{Values}
 use Rattle.mp_world.specs.World.{IsAgent, World, agent_at, start_world, under_way}
 
 -- an event with the bytes that it takes
@@ -31,7 +33,7 @@ put_by from x = Put from x.to x.bytes
 abbrev pub entries_of : Event → List ℕ → List Out → List Entry
 entries_of event bytes out = entry_of event bytes ∷ map (put_by (agent_of event)) out
 
-module _ (value : AgentTask → Numbers → Numbers → Option ℕ) where
+module _ (value : Values) where
   abbrev pub entries_if_good : World → Event → Result Step BadKind → List Entry
   entries_if_good w event (Ok s) = entries_of event (taken w event) (sent_in s)
   entries_if_good w event (Err kind) = []
@@ -47,9 +49,9 @@ module _ (value : AgentTask → Numbers → Numbers → Option ℕ) where
   log_from w (event ∷ events) =
       log_after w event ++ option_map_or (λ next. log_from next events) (after_event value w event) []
 
-  -- the log of a run
-  abbrev pub log_of_run : ℕ → List AgentTask → List Event → List Entry
-  log_of_run limit tasks schedule = log_from (start_world value limit tasks) schedule
+-- the log of a run
+abbrev pub log_of_run : Team → List Event → List Entry
+log_of_run team schedule = log_from team.value (start_world team) schedule
 
 module _ (value : Numbers → Numbers → Option ℕ) where
   -- What an agent does, one step after another, from one record to another: each event may happen at it, its message is
@@ -66,7 +68,7 @@ module _ (value : Numbers → Numbers → Option ℕ) where
 
 -- What an agent does from the start.
 pub record IsLocalLog
-    (value : AgentTask → Numbers → Numbers → Option ℕ)
+    (value : Values)
     (limit : ℕ)
     (t : AgentTask)
     (log : List Entry)
@@ -76,32 +78,21 @@ pub record IsLocalLog
 
 -- A log of a team: a legal history of a network in which each agent has done what its task leads it to, and no one else
 -- has done anything.
-pub record IsLog
-    (value : AgentTask → Numbers → Numbers → Option ℕ)
-    (limit : ℕ)
-    (tasks : List AgentTask)
-    (log : List Entry)
-    : Type 0 where
+pub record IsLog (team : Team) (log : List Entry) : Type 0 where
   pub history : IsHistory log
   pub of_team : (e : Entry) → Contains log e
-      → (t : AgentTask) × Contains tasks t × (owner_of e ≡ t.me)
-  pub parts : (t : AgentTask) → Contains tasks t → IsLocalLog value limit t (part log t.me)
+      → (t : AgentTask) × Contains team.tasks t × (owner_of e ≡ t.me)
+  pub parts : (t : AgentTask) → Contains team.tasks t → IsLocalLog team.value team.limit t (part log t.me)
 
 -- A log has the run of its schedule: the schedule is legal, each agent has done in it what its part of the log says, and
 -- the same messages are under way at the end. The log of that run has the same parts, and the same messages put between
 -- each two agents; only entries of different agents may stand in another order.
-pub record HasRun
-    (value : AgentTask → Numbers → Numbers → Option ℕ)
-    (limit : ℕ)
-    (tasks : List AgentTask)
-    (log : List Entry)
-    (is : IsLog value limit tasks log)
-    : Type 0 where
+pub record HasRun (team : Team) (log : List Entry) (is : IsLog team log) : Type 0 where
   pub last : World
-  pub runs : run value limit tasks (schedule log) ≡ Some last
-  pub agents : (t : AgentTask) (here : Contains tasks t) → agent_at last t.me ≡ Some (is.parts t here).last
+  pub runs : run team (schedule log) ≡ Some last
+  pub agents : (t : AgentTask) (here : Contains team.tasks t) → agent_at last t.me ≡ Some (is.parts t here).last
   pub mail : (from to : ℕ) → IsAgent last from → IsAgent last to → under_way last from to ≡ under_way_in from to log
   pub same_parts : (agent : ℕ) → IsAgent last agent
-      → part (log_of_run value limit tasks (schedule log)) agent ≡ part log agent
+      → part (log_of_run team (schedule log)) agent ≡ part log agent
   pub same_puts : (from to : ℕ) → IsAgent last from
-      → sent from to (log_of_run value limit tasks (schedule log)) ≡ sent from to log
+      → sent from to (log_of_run team (schedule log)) ≡ sent from to log

@@ -1,13 +1,12 @@
 -- Round robin: the agents of a team take turns by rising number, until all have ended.
-use Rattle.std.specs.Prelude.{◌≡◌, ◌≢◌, ℕ, not, Bool, true, false, List, [], ◌∷◌, ◌++◌, length, Option, Some}
+use Rattle.std.specs.Prelude.{◌≡◌, ◌≢◌, ℕ, not, Bool, true, false, List, [], ◌∷◌, ◌++◌, length, Some}
 use Rattle.std.specs.List.{list_all, range_with_len}
-use Rattle.mp_sets.specs.Numbers.{Numbers}
-use Rattle.mp_task.specs.AgentTask.{AgentTask}
 use Rattle.mp_messages.specs.declared.history.Event.{Event}
 use Rattle.mp_messages.specs.declared.history.Event.TheVariants.{Expand, Take, Start}
 use Rattle.mp_machine.specs.AgentRecord.{is_going}
 use Rattle.mp_machine.specs.Outgoing.{others}
 use Rattle.mp_world.specs.Events.{after_event, is_legal}
+use Rattle.mp_world.specs.Values.{Values}
 use Rattle.mp_world.specs.World.{World}
 
 -- all agents have ended
@@ -38,7 +37,7 @@ abbrev pub ForEach : (ℕ → World → List Event → World → Type 0) → Lis
 ForEach Part [] = Nothing
 ForEach Part (agent ∷ agents) = Then (Part agent) (ForEach Part agents)
 
-module _ (value : AgentTask → Numbers → Numbers → Option ℕ) where
+module _ (value : Values) where
   -- an event happens as long as it may
   pub data AsLongAsItMay (event : Event) : World → List Event → World → Type 0 where
     no_more : (w : World) → is_legal w event ≡ false → AsLongAsItMay event w [] w

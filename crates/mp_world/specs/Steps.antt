@@ -1,12 +1,11 @@
 -- What an event changes in a world.
-use Rattle.std.specs.Prelude.{◌≡◌, ◌≢◌, ℕ, ◌==◌, true, List, [], ◌++◌, map, filter, Option, Some, Ok, if◌then◌else◌}
-use Rattle.mp_sets.specs.Numbers.{Numbers}
-use Rattle.mp_task.specs.AgentTask.{AgentTask}
+use Rattle.std.specs.Prelude.{◌≡◌, ◌≢◌, ℕ, ◌==◌, true, List, [], ◌++◌, map, filter, Some, Ok, if◌then◌else◌}
 use Rattle.mp_messages.specs.declared.history.Event.{Event}
 use Rattle.mp_machine.specs.declared.outgoing.Out.{Out}
 use Rattle.mp_machine.specs.AgentRecord.{AgentRecord}
 use Rattle.mp_machine.specs.LocalStep.{may}
 use Rattle.mp_machine.specs.Outgoing.{Step}
+use Rattle.mp_world.specs.Values.{Values}
 use Rattle.mp_world.specs.World.{World, IsAgent, agent_at, under_way}
 use Rattle.mp_world.specs.Events.{agent_of, has_message, local_of, local_step, sent_in, without_taken}
 
@@ -21,7 +20,7 @@ sent_between event s from to = if from == agent_of event then sent_to to (sent_i
 -- An event takes a world to another one: its agent may do it, there is the message that it takes, the agent takes that
 -- step, and messages go out behind those that are under way. Nothing else changes.
 pub record IsStepOf
-    (value : AgentTask → Numbers → Numbers → Option ℕ)
+    (value : Values)
     (w : World)
     (event : Event)
     (next : World)

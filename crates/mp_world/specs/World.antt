@@ -2,9 +2,9 @@
 -- 2014).
 use Rattle.std.specs.Prelude.{◌≡◌, ◌≤◌, ℕ, zero, suc, ◌-◌, List, [], length, map, replicate, Option, None, slice_get, slice_index_or, slice_set, All}
 use Rattle.std.specs.List.{range_with_len}
-use Rattle.mp_sets.specs.Numbers.{Numbers}
 use Rattle.mp_task.specs.AgentTask.{AgentTask}
 use Rattle.mp_machine.specs.AgentRecord.{AgentRecord, new_record}
+use Rattle.mp_world.specs.Team.{Team}
 
 pub record World : Type 0 where
   -- the agents, agent 1 first
@@ -38,16 +38,11 @@ with_under_way w from to messages =
 abbrev pub with_agent : World → ℕ → AgentRecord → World
 with_agent w agent r = record w { agents = slice_set w.agents (agent - 1) r }
 
--- The world at the start, where each agent may expand so many entries. A heuristic's values are a parameter: for each
--- task, and for each set of public and of private facts.
-abbrev pub start_world
-    : (AgentTask → Numbers → Numbers → Option ℕ)
-    → ℕ
-    → List AgentTask
-    → World
-start_world value limit tasks = record {
-  agents = map (λ t. new_record t (value t) limit) tasks;
-  mail = replicate (length tasks) (replicate (length tasks) []);
+-- The world of a team at the start.
+abbrev pub start_world : Team → World
+start_world team = record {
+  agents = map (λ t. new_record t (team.value t) team.limit) team.tasks;
+  mail = replicate (length team.tasks) (replicate (length team.tasks) []);
 }
 
 -- tasks of a team's agents, from agent 1 on, each of which knows how many there are

@@ -7,5 +7,5 @@ pub returns-clause-front : goal.returns-clause-front
 returns-clause-front c = λ value w event later. run-cons (after_event value) w event later
 
 pub returns-clause-back : goal.returns-clause-back
-returns-clause-back c = λ value limit tasks before event.
-    run-more (after_event value) (start_world value limit tasks) before event
+returns-clause-back c = λ team before event.
+    run-more (after_event team.value) (start_world team) before event

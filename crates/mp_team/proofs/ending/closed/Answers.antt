@@ -3,6 +3,7 @@ use Rattle.std.specs.Prelude.{Contains}
 use Rattle.std.proofs.lemmas.Bool.{false≢true}
 use Rattle.mp_schedule.specs.Machines.{limit_of, tasks_of}
 use Rattle.mp_task.specs.AgentTask.{AgentTask}
+use Rattle.mp_world.specs.Team.{team_with}
 use Rattle.mp_team.proofs.Ended.{done_all, has_finished, history, numbered, record_of}
 use Rattle.mp_team.proofs.NoneBad.{all_ended, ended, has_served, holds, same, served_of}
 use Rattle.mp_team.proofs.ending.closed.Goals as goal
@@ -24,8 +25,8 @@ unreachable-requires g c =
     let log = c.in_ok-log.log in
     let none_bad : (t : AgentTask) → Contains (tasks_of ms) t
     → (served_of value shared.table_id shared.key ms a all enough t).bad ≡ None =
-    λ t contains. c.no_receipt_is_bad.ensures value (limit_of ms) (tasks_of ms) log
-    (served_of value shared.table_id shared.key ms a all enough) t all.new.agree all.new.within all.new.few_entries
+    λ t contains. c.no_receipt_is_bad.ensures (team_with value (limit_of ms) (tasks_of ms)) log
+    (served_of value shared.table_id shared.key ms a all enough) t (record { tasks = all.new.tasks; most = all.new.most })
     (history value ms all.new a.work.nodes shared.key all.count
     (same value shared.table_id shared.key ms a all enough) log closed.legal closed.agents)
     (has_served value shared.table_id shared.key ms a all enough log closed.parts) contains in
@@ -45,11 +46,11 @@ returns g c = λ ms all.
     let past = history value ms all.new nodes shared.key all.count same_agents log closed.legal closed.agents in
     let none_bad : (t : AgentTask) → Contains (tasks_of ms) t
     → (served_of value shared.table_id shared.key ms a all enough t).bad ≡ None =
-    λ t contains. c.no_receipt_is_bad.ensures value (limit_of ms) (tasks_of ms) log
-    (served_of value shared.table_id shared.key ms a all enough) t all.new.agree all.new.within all.new.few_entries past
+    λ t contains. c.no_receipt_is_bad.ensures (team_with value (limit_of ms) (tasks_of ms)) log
+    (served_of value shared.table_id shared.key ms a all enough) t (record { tasks = all.new.tasks; most = all.new.most }) past
     (has_served value shared.table_id shared.key ms a all enough log closed.parts) contains in
     let over = all_ended value shared.table_id shared.key ms a all enough none_bad in
-    let made = c.parts_make_a_log.ensures value (limit_of ms) (tasks_of ms) log
+    let made = c.parts_make_a_log.ensures (team_with value (limit_of ms) (tasks_of ms)) log
     (record_of value ms all.new nodes shared.key all.count same_agents view over log closed.legal closed.parts closed.agents)
     (numbered value ms all.new nodes shared.key all.count same_agents view over log closed.legal closed.parts closed.agents)
     past

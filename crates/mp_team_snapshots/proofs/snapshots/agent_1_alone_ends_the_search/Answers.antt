@@ -6,7 +6,7 @@ use Rattle.mp_team_snapshots.proofs.Ends.{end_is_good, ends_kept, ends_new}
 use Rattle.mp_team_snapshots.proofs.snapshots.agent_1_alone_ends_the_search.Goals as goal
 
 pub returns-clause-start : goal.returns-clause-start
-returns-clause-start c = λ value limit publics tasks team. ends_new value limit publics tasks team
+returns-clause-start c = λ team publics of_team. ends_new team publics of_team
 
 pub returns-clause-step : goal.returns-clause-step
 returns-clause-step c = λ value publics tasks w event next team is step fits sound. ends_kept value publics tasks team w event next is step fits sound

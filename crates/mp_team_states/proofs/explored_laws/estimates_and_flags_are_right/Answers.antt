@@ -1,21 +1,21 @@
 use Rattle.mp_team_states.proofs.Flags.{flags_of_joint}
-use Rattle.mp_team_states.proofs.Heuristics.{heuristic_of}
+use Rattle.mp_team_states.proofs.Heuristics.{heuristic_in, heuristic_of}
 use Rattle.mp_team_states.proofs.Runs.{run_invariant, start_invariant, step_keeps}
 use Rattle.mp_team_states.proofs.explored_laws.estimates_and_flags_are_right.Goals as goal
 
 pub returns : goal.returns
 returns g c = record {
-  start = λ limit tasks agree limits most.
-      let heuristic = heuristic_of _ g.met.H.Heuristic.small g.met.H.Heuristic.dead g.met.H.Heuristic.admissible tasks agree limits in
-      (start_invariant _ tasks agree limits heuristic limit most).bounds;
-  events = λ tasks w next event agree limits team sound small leads bounds.
-      let heuristic = heuristic_of _ g.met.H.Heuristic.small g.met.H.Heuristic.dead g.met.H.Heuristic.admissible tasks agree limits in
-      (step_keeps _ tasks agree limits heuristic w next event team sound small bounds leads).0;
-  runs = λ limit tasks schedule w agree limits most ran.
-      let heuristic = heuristic_of _ g.met.H.Heuristic.small g.met.H.Heuristic.dead g.met.H.Heuristic.admissible tasks agree limits in
-      (run_invariant _ tasks agree limits heuristic limit most schedule w ran).bounds;
-  flags = λ limit tasks schedule w agree limits most ran.
-      let heuristic = heuristic_of _ g.met.H.Heuristic.small g.met.H.Heuristic.dead g.met.H.Heuristic.admissible tasks agree limits in
-      let all = run_invariant _ tasks agree limits heuristic limit most schedule w ran in
-      flags_of_joint tasks agree limits w all.team all.sound all.flags;
+  start = λ team same is_team.
+      let heuristic = heuristic_in _ g.met.H.Heuristic.small g.met.H.Heuristic.dead g.met.H.Heuristic.admissible team same is_team.tasks in
+      (start_invariant team is_team heuristic).bounds;
+  events = λ tasks w next event are team sound small leads bounds.
+      let heuristic = heuristic_of _ g.met.H.Heuristic.small g.met.H.Heuristic.dead g.met.H.Heuristic.admissible tasks are in
+      (step_keeps _ tasks are heuristic w next event team sound small bounds leads).0;
+  runs = λ team schedule w same run.
+      let heuristic = heuristic_in _ g.met.H.Heuristic.small g.met.H.Heuristic.dead g.met.H.Heuristic.admissible team same run.is_team.tasks in
+      (run_invariant team run.is_team heuristic schedule w run.leads).bounds;
+  flags = λ team schedule w same run.
+      let heuristic = heuristic_in _ g.met.H.Heuristic.small g.met.H.Heuristic.dead g.met.H.Heuristic.admissible team same run.is_team.tasks in
+      let all = run_invariant team run.is_team heuristic schedule w run.leads in
+      flags_of_joint team.tasks run.is_team.tasks w all.team all.sound all.flags;
 }

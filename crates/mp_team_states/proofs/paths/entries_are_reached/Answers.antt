@@ -9,23 +9,25 @@ use Rattle.mp_team_states.proofs.StepsSound.{states_stay_sound}
 use Rattle.mp_team_states.proofs.paths.entries_are_reached.Goals as goal
 
 pub returns-clause-start : goal.returns-clause-start
-returns-clause-start c = λ value limit tasks agree limits most. start_reaches value limit tasks agree limits most
+returns-clause-start c = λ team is_team. start_reaches team is_team
 
 pub returns-clause-events : goal.returns-clause-events
-returns-clause-events c = λ value tasks w next event agree limits team sound is reached.
-    event_reaches tasks agree limits w team sound reached value next event is
+returns-clause-events c = λ value tasks w next event are team sound is reached.
+    event_reaches tasks are w team sound reached value next event is
 
 pub returns-clause-runs : goal.returns-clause-runs
-returns-clause-runs c = λ value limit tasks schedule w agree limits most ran.
-    (run_has value limit tasks (λ (w : World). AreStatesSound tasks w × AreReached tasks w)
-    (start_states_sound value limit tasks agree limits most, start_reaches value limit tasks agree limits most)
-    (λ v event next team both is.
-    (states_stay_sound tasks agree limits v team both.0 value next event is, event_reaches tasks agree limits v team both.0 both.1 value next event is))
-    schedule w ran).1
+returns-clause-runs c = λ team schedule w run.
+    (run_has team (λ (w : World). AreStatesSound team.tasks w × AreReached team.tasks w)
+    (start_states_sound team run.is_team, start_reaches team run.is_team)
+    (λ v event next of_team both is. (
+      states_stay_sound team.tasks run.is_team.tasks v of_team both.0 team.value next event is,
+      event_reaches team.tasks run.is_team.tasks v of_team both.0 both.1 team.value next event is,
+    ))
+    schedule w run.leads).1
 
 pub returns-clause-messages : goal.returns-clause-messages
-returns-clause-messages c = λ tasks w sender u m agree limits team sound reached at state.
-    told_rightly tasks agree limits w team sound reached sender u m at state
+returns-clause-messages c = λ tasks w sender u m are team sound reached at state.
+    told_rightly tasks are w team sound reached sender u m at state
 
 pub returns-clause-one : goal.returns-clause-one
 returns-clause-one c = λ w agent number steps others path path_too. one_path w agent number steps others path path_too

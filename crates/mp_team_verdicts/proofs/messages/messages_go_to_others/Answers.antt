@@ -9,5 +9,5 @@ pub returns-clause-done : goal.returns-clause-done
 returns-clause-done c = λ value limit t log last some done. entries_of_agent value limit t some log last done
 
 pub returns-clause-logs : goal.returns-clause-logs
-returns-clause-logs c = λ value limit tasks log t numbered is here.
-    parts_of_agents value limit tasks log t numbered is here
+returns-clause-logs c = λ team log t numbered is here.
+    parts_of_agents team log t numbered is here

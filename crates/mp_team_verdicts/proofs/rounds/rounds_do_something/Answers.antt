@@ -1,20 +1,18 @@
 use Rattle.std.proofs.Common.{sym, subst, ◌+◌, ◌<◌, ◌^◌, ◌∙◌, length}
-use Rattle.std.proofs.lemmas.List.Elements.{All-contains}
 use Rattle.std.proofs.lemmas.Option.{same_Some}
-use Rattle.mp_task.specs.Limits.{IsWithinLimits}
 use Rattle.mp_machine.specs.AgentRecord.{AgentRecord}
 use Rattle.mp_world.specs.RoundRobin.{Round}
 use Rattle.mp_world.proofs.Agents.{agree_numbered, member_of}
 use Rattle.mp_world.proofs.Runs.{run_of_team}
-use Rattle.mp_team_snapshots.proofs.Agreeing.{agreeing_team}
+use Rattle.mp_team_snapshots.proofs.Agreeing.{are_of_team}
 use Rattle.mp_team_verdicts.proofs.Doing.{does_something}
 use Rattle.mp_team_verdicts.proofs.rounds.rounds_do_something.Goals as goal
 
 pub returns : goal.returns
-returns c = λ value limit tasks schedule events w next first agree limits most ran on there room round none.
-    let of = member_of tasks (agree_numbered tasks agree) w (run_of_team value limit tasks schedule w ran) 1 first there in
-    let team = agreeing_team tasks first.task agree of.task (All-contains IsWithinLimits tasks first.task limits of.task) in
-    does_something value limit first.task.publics tasks agree limits most team w next (record { schedule = schedule; ran = ran })
-    (subst (λ es. Round value (length tasks) w es next) none round) on
+returns c = λ team schedule events w next first run on there room round none.
+    let of = member_of team.tasks (agree_numbered team.tasks run.is_team.tasks.agree) w (run_of_team team schedule w run.leads) 1 first there in
+    let of_team = are_of_team team.tasks first.task run.is_team.tasks of.task in
+    does_something team run.is_team first.task.publics of_team w next (record { schedule = schedule; ran = run.leads })
+    (subst (λ es. Round team.value (length team.tasks) w es next) none round) on
     (λ other there_too.
     subst (λ (r : AgentRecord). r.snapshot.number + 1 < 2 ^ 60) (same_Some first other (sym there ∙ there_too)) room)

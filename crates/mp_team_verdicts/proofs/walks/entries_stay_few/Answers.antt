@@ -4,14 +4,14 @@ use Rattle.mp_team_verdicts.proofs.Few.{few_kept, holds_so_far, keeps_few}
 use Rattle.mp_team_verdicts.proofs.walks.entries_stay_few.Goals as goal
 
 pub returns-clause-each : goal.returns-clause-each
-returns-clause-each c = λ value limit tasks schedule w agree limits most ran.
-    keeps_few tasks agree limits w (run_of_team value limit tasks schedule w ran) (holds_so_far tasks agree limits value limit most schedule w ran)
+returns-clause-each c = λ team schedule w run.
+    keeps_few team.tasks run.is_team.tasks w (run_of_team team schedule w run.leads) (holds_so_far team run.is_team schedule w run.leads)
 
 pub returns-clause-all : goal.returns-clause-all
-returns-clause-all c = λ value limit tasks schedule w agree limits most ran.
-    few_kept tasks agree limits w (run_of_team value limit tasks schedule w ran) (holds_so_far tasks agree limits value limit most schedule w ran)
+returns-clause-all c = λ team schedule w run.
+    few_kept team.tasks run.is_team.tasks w (run_of_team team schedule w run.leads) (holds_so_far team run.is_team schedule w run.leads)
 
 pub returns-clause-paths : goal.returns-clause-paths
-returns-clause-paths c = λ value limit tasks schedule w agree limits most ran.
-    let holds = holds_so_far tasks agree limits value limit most schedule w ran in
-    (holds.short, few_expansions tasks agree limits w (run_of_team value limit tasks schedule w ran) holds.sound)
+returns-clause-paths c = λ team schedule w run.
+    let holds = holds_so_far team run.is_team schedule w run.leads in
+    (holds.short, few_expansions team.tasks run.is_team.tasks w (run_of_team team schedule w run.leads) holds.sound)

@@ -8,4 +8,4 @@ pub returns-clause-team : goal.returns-clause-team
 returns-clause-team c = λ value tasks w event next is leads. event_keeps_team value tasks w event next is leads
 
 pub returns-clause-start : goal.returns-clause-start
-returns-clause-start c = λ value limit tasks. start_is_team value limit tasks
+returns-clause-start c = λ team. start_is_team team

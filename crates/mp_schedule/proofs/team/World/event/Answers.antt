@@ -1,11 +1,11 @@
-use Rattle.std.proofs.Common.{◌≡◌, ap, sym, subst, ◌∙◌}
+use Rattle.std.proofs.Common.{◌≡◌, ap, false, sym, subst, ◌∙◌}
 use Rattle.std.specs.Prelude.{None, Ok}
 use Rattle.std.proofs.lemmas.Option.{none-some}
 use Rattle.mp_messages.specs.History.{schedule as schedule_of}
 use Rattle.mp_schedule.specs.Happening.{IsAnswer, refusal_of}
 use Rattle.mp_schedule.specs.Laws.{KeepsLaws}
-use Rattle.mp_schedule.specs.Machines.{limit_of, tasks_of, team_run, world_of}
-use Rattle.mp_schedule.specs.TeamRun.{TeamRun}
+use Rattle.mp_schedule.specs.Machines.{team_run, world_of}
+use Rattle.mp_schedule.specs.TeamRun.{TeamRun, team_in}
 use Rattle.mp_team_states.specs.Expansions.{ExpandsOne}
 use Rattle.mp_schedule.proofs.Answering.{answer_ok, fails, goes_on, nothing_against}
 use Rattle.mp_schedule.proofs.Keeping.{expanded, kept}
@@ -80,10 +80,10 @@ unreachable-requires g c =
     let none : refusal_of w c.args.event ≡ None =
     ap (λ ms. refusal_of (world_of ms s.mail) c.args.event) (sym c.deref.ensures.value)
     ∙ sym c.refusal_of.ensures ∙ c.in_default.is in
+    let now = team_run s.machines.items s.mail s.log false in
     let team = c.self.invariant.team in
     let run = (c.self.invariant.going c.if-self.false).run in
     let clauses = rw c.in-Err-Bad.field-0-is at c.in-Err-Bad.ensures in
-    let next = c.no_message_is_bad.ensures.events g.H.Heuristic.value (limit_of s.machines.items)
-    (tasks_of s.machines.items) (schedule_of s.log) w c.args.event
-    team.agree team.within team.few_entries run.leads (nothing_against w c.args.event none) in
+    let next = c.no_message_is_bad.ensures.events (team_in g.H.Heuristic.value now) (schedule_of s.log) w c.args.event
+    (record { is_team = record { tasks = team.tasks; most = team.most }; leads = run.leads }) (nothing_against w c.args.event none) in
     none-some next.0 (sym clauses.done ∙ next.1)

@@ -1,7 +1,8 @@
 use Rattle.std.proofs.Common.{sym, ◌∙◌}
 use Rattle.mp_schedule.proofs.FewRounds.{few_rounds, same_back}
 use Rattle.mp_schedule.proofs.Goes.{team_again}
-use Rattle.mp_schedule.proofs.Keeping.{a_task}
+use Rattle.mp_schedule.proofs.Keeping.{a_task, is_run_of}
+use Rattle.mp_schedule.specs.TeamRun.{team_in}
 use Rattle.mp_schedule.proofs.team.World.round_robin.Goals as goal
 
 pub rounds-requires-clause-works : goal.rounds-requires-clause-works
@@ -24,7 +25,6 @@ returns-clause-few g c =
     let old = team_again b a (same_back a b done.same) team in
     let some = a_task a.tasks old.from_1 in
     few_rounds value c.agents-count.result a b c.agents-count.ensures.tasks team run c.has_few_events.ensures done
-    (λ first there. c.snapshots_are_events.ensures value b.limit b.tasks b.schedule b.world first
-    team.agree team.within team.few_entries run.leads there)
-    (λ rounds first goes there room. c.round_robin_takes_few_rounds.ensures value a.limit a.tasks some.0 a.schedule rounds a.world b.world first
-    old.agree old.within old.few_entries some.1 c.has_run.ensures.leads goes there room)
+    (λ first there. c.snapshots_are_events.ensures (team_in value b) b.schedule b.world first (is_run_of value b team run) there)
+    (λ rounds first goes there room. c.round_robin_takes_few_rounds.ensures (team_in value a) some.0 a.schedule rounds a.world b.world first
+    some.1 (is_run_of value a old c.has_run.ensures) goes there room)

@@ -1,7 +1,8 @@
 use Rattle.std.proofs.Common.{◌≡◌, ap, length, sym, subst, ◌∙◌}
+use Rattle.mp_schedule.proofs.Keeping.{is_run_of}
 use Rattle.mp_schedule.proofs.MoreEvents.{less_room}
 use Rattle.mp_schedule.proofs.Onward.{leads_itself, round_on, rounds_over}
-use Rattle.mp_schedule.specs.TeamRun.{HasDone}
+use Rattle.mp_schedule.specs.TeamRun.{HasDone, team_in}
 use Rattle.mp_world.specs.RoundRobin.{Round, Rounds}
 use Rattle.mp_schedule.proofs.team.World.rounds.Goals as goal
 
@@ -29,7 +30,6 @@ rounds-smaller g c =
     let many : c.args.agents ≡ length r.tasks = c.requires.agents ∙ ap length (sym c.rounds.invariant.same.tasks) in
     let done = subst (λ n. HasDone (Round value n) r s) many c.in_ok-round.ensures.done in
     less_room value r s team run c.has_few_events.ensures done
-    (λ first there. c.snapshots_are_events.ensures value r.limit r.tasks r.schedule r.world first
-    team.agree team.within team.few_entries run.leads there)
-    (λ first there room. c.rounds_do_something.ensures value r.limit r.tasks r.schedule done.events r.world s.world first
-    team.agree team.within team.few_entries run.leads (sym c.over.ensures ∙ c.if-over.false) there room done.done)
+    (λ first there. c.snapshots_are_events.ensures (team_in value r) r.schedule r.world first (is_run_of value r team run) there)
+    (λ first there room. c.rounds_do_something.ensures (team_in value r) r.schedule done.events r.world s.world first
+    (is_run_of value r team run) (sym c.over.ensures ∙ c.if-over.false) there room done.done)

@@ -24,7 +24,7 @@ messages-smaller g c =
     c.if-not-branch.false c.in_ok-happens.ensures.did in
     fewer g.H.Heuristic.value c.messages.self.tasks
     (subst AreNumbered (sym c.messages.invariant.same.tasks)
-    (agree_numbered c.args.self.now.tasks c.comes_from_a_run.ensures.team.agree))
+    (agree_numbered c.args.self.now.tasks c.comes_from_a_run.ensures.team.tasks.agree))
     c.messages.self.world did.team c.args.by c.args.from c.happens.new.self.world did.happened.leads
 
 pub returns-then-not-branch-clause-done : goal.returns-then-not-branch-clause-done
