@@ -2,5 +2,4 @@ pub mod Cut
 pub mod Laws
 pub mod Marked
 pub mod Marks
-pub mod Memo
 pub mod Sides

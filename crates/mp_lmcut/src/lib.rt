@@ -5,7 +5,6 @@ mod costs;
 mod laws;
 mod lmcut;
 mod marks;
-mod memo;
 mod near;
 mod rounds;
 mod sides;

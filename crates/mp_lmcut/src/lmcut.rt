@@ -1,16 +1,16 @@
 //! The heuristic.
 
-ghost use Rattle.std.specs.Prelude.{◌≡◌, ◌+◌, ◌≤◌, All, IfOk, length, vec_len};
+ghost use Rattle.std.specs.Prelude.{◌≡◌, ◌+◌, ◌≤◌, All, IfOk, length};
 ghost use Rattle.std.proofs.Props.{props};
+ghost use Rattle.mp_relaxed.specs.Memo.{IsRight, value_in};
 ghost use Rattle.mp_relaxed.specs.Relaxed.{RelaxedProblem};
-ghost use Rattle.mp_lmcut.specs.Memo.{IsRight, lmcut_in};
+ghost use Rattle.mp_lmcut.specs.Cut.{lmcut_of};
 ghost use Rattle.mp_lmcut.specs.Sides.{AreAdders, costless, repriced};
 
-use crate::memo::{Memo, place_of, recall, remember};
 use crate::rounds::value_of;
 use crate::sides::Sides;
 use mp_list::{List, OutOfMemory};
-use mp_relaxed::{Relaxed, Search};
+use mp_relaxed::{Memo, Relaxed, Search};
 use mp_sets::Bits;
 use mp_task::{Heuristic, Task};
 use std::alloc::Global;
@@ -30,8 +30,9 @@ pub struct Cut {
     ghost added: { AreAdders problem.operators problem.facts adders.items },
     ghost counted: { search.operators ≡ length problem.operators },
     ghost sized: { length search.numbers ≡ problem.facts },
-    ghost roomy: { length memo.places.items ≡ 16384 },
-    ghost right: { All (IsRight (lmcut_in (repriced costs.items problem))) memo.slots.items } by { Prim.hlevel props },
+    ghost public_sized: { memo.publics ≡ problem.publics },
+    ghost private_sized: { problem.publics + memo.privates ≡ problem.facts },
+    ghost right: { All (IsRight (value_in lmcut_of (repriced costs.items problem))) memo.entries } by { Prim.hlevel props },
 }
 
 impl Drop for Cut {
@@ -74,7 +75,7 @@ fn estimate(
     requires publics { publics.now.size ≡ problem.old.publics }
     requires privates { problem.old.publics + privates.now.size ≡ problem.old.facts }
     ensures found { IfOk result (λ found. found
-        ≡ lmcut_in (repriced costs.now problem.old) publics.now.members privates.now.members) }
+        ≡ value_in lmcut_of (repriced costs.now problem.old) publics.now.members privates.now.members) }
     ensures kept { costless problem.new ≡ costless problem.old }
     ensures counted { search.new.operators ≡ search.old.operators }
     ensures sized { length search.new.numbers ≡ length search.old.numbers }
@@ -102,33 +103,26 @@ fn recall_or_estimate(
     requires adders { AreAdders problem.old.operators problem.old.facts adders.now }
     requires publics { publics.now.size ≡ problem.old.publics }
     requires privates { problem.old.publics + privates.now.size ≡ problem.old.facts }
-    requires roomy { vec_len memo.old.places ≡ 16384 }
-    requires right { All (IsRight (lmcut_in (repriced costs.now problem.old))) memo.old.slots.items }
+    requires public_sized { memo.old.publics ≡ problem.old.publics }
+    requires private_sized { problem.old.publics + memo.old.privates ≡ problem.old.facts }
+    requires right { All (IsRight (value_in lmcut_of (repriced costs.now problem.old))) memo.old.entries }
     ensures found { IfOk result (λ found. found
-        ≡ lmcut_in (repriced costs.now problem.old) publics.now.members privates.now.members) }
+        ≡ value_in lmcut_of (repriced costs.now problem.old) publics.now.members privates.now.members) }
     ensures kept { costless problem.new ≡ costless problem.old }
     ensures counted { search.new.operators ≡ search.old.operators }
     ensures sized { length search.new.numbers ≡ length search.old.numbers }
-    ensures roomy { vec_len memo.new.places ≡ 16384 }
-    ensures right { All (IsRight (lmcut_in (repriced costs.now problem.old))) memo.new.slots.items }
+    ensures publics { memo.new.publics ≡ memo.old.publics }
+    ensures privates { memo.new.privates ≡ memo.old.privates }
+    ensures right { All (IsRight (value_in lmcut_of (repriced costs.now problem.old))) memo.new.entries }
 {
     if problem.goals().is_empty() {
         return Ok(Some(0));
     }
-    let place = place_of(publics, privates, memo.places.len());
-    let number = memo.places[place];
-    if let Some(found) = recall(memo.slots.as_slice(), number, publics, privates) {
+    if let Some(found) = memo.recall(publics, privates) {
         return Ok(found);
     }
     let found = estimate(problem, costs, adders, search, sides, publics, privates)?;
-    remember(
-        &mut memo.places,
-        &mut memo.slots,
-        place,
-        publics,
-        privates,
-        found,
-    )?;
+    memo.remember(publics, privates, found)?;
     Ok(found)
 }
 
@@ -148,7 +142,7 @@ impl Heuristic for Cut {
         let costs = problem.costs(alloc)?;
         let adders = problem.adders(alloc)?;
         let search = Search::new(alloc, &problem)?;
-        let memo = Memo::new(alloc)?;
+        let memo = Memo::new(alloc, problem.publics(), task.privates);
         let _ = problem.operators();
         Ok(Cut {
             problem,

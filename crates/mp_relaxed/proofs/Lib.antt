@@ -1,6 +1,6 @@
 -- rows, users and operators in arrays; the projected problem; entries of the queue; numbers and the queue; counts of open
 -- preconditions, and of those that are not settled; what is found, and found again; operators that others dominate, and those
--- that are kept
+-- that are kept; values of states that are kept
 pub mod RowLemmas
 pub mod TimesLemmas
 pub mod UserLemmas
@@ -15,3 +15,4 @@ pub mod Found
 pub mod AgainLemmas
 pub mod DominatedLemmas
 pub mod KeptLemmas
+pub mod MemoLemmas

@@ -88,3 +88,19 @@ module _ (pres adds : List (List ℕ)) (costs : List ℕ) (a : length adds ≡ l
 
   pub zipped_below : (xs : List ℕ) → All (λ k. k < length pres) xs → All (λ k. k < length (zipped pres adds costs)) xs
   zipped_below xs h = subst (λ n. All (λ k. k < n) xs) (sym (length-zipped pres adds costs a c)) h
+
+  -- of some operators
+  pub zipped_pres : (ks : List ℕ) → All (λ k. k < length pres) ks → map (λ k. get_or pres k []) ks ≡ map (λ k. (operator_at (zipped pres adds costs) k).pre) ks
+  zipped_pres [] h = refl
+  zipped_pres (k ∷ ks) h =
+      (λ i. (sym (zipped_at pres adds costs k a c (All-head (λ j. j < length pres) k ks h)) i).pre ∷ zipped_pres ks (All-tail (λ j. j < length pres) k ks h) i)
+
+  pub zipped_adds : (ks : List ℕ) → All (λ k. k < length pres) ks → map (λ k. get_or adds k []) ks ≡ map (λ k. (operator_at (zipped pres adds costs) k).add) ks
+  zipped_adds [] h = refl
+  zipped_adds (k ∷ ks) h =
+      (λ i. (sym (zipped_at pres adds costs k a c (All-head (λ j. j < length pres) k ks h)) i).add ∷ zipped_adds ks (All-tail (λ j. j < length pres) k ks h) i)
+
+pub rows_all : (P : List ℕ → Type 0) (rows : List (List ℕ)) (ks : List ℕ) → All P rows → All (λ k. k < length rows) ks → All P (map (λ k. get_or rows k []) ks)
+rows_all P rows [] all inside = All-nil P
+rows_all P rows (k ∷ ks) all inside =
+    All-cons P (get_or rows k []) (map (λ j. get_or rows j []) ks) (all k [] (All-head (λ j. j < length rows) k ks inside)) (rows_all P rows ks all (All-tail (λ j. j < length rows) k ks inside))

@@ -1,5 +1,7 @@
 pub mod Dominated
 pub mod Laws
+pub mod Memo
+pub mod MemoFields
 pub mod Places
 pub mod Queue
 pub mod Relaxed

@@ -1,12 +1,12 @@
-//! Which operators of a problem are enough: those that add something, and of those with the same preconditions and the same adds
-//! one alone, of the least cost.
+//! Which operators of a problem are enough: those that add something, without those beside which another one that is kept has the
+//! same preconditions and the same adds and costs no more. Such a one is looked for at a few places of a table alone, so of
+//! operators that are alike several may be left.
 
 ghost use Rattle.std.specs.Prelude.{◌≡◌, ◌<◌, ◌+◌, All, IfOk, IfSome, OnOk, length, map, slice_index_or, true, vec_len};
 ghost use Rattle.mp_relaxed.specs.Dominated.{AreKept};
 ghost use Rattle.mp_relaxed.specs.Relaxed.{operator_at};
 
 use crate::relaxed::Relaxed;
-use crate::rows::Rows;
 use mp_list::{OutOfMemory, to_u32};
 use std::alloc::Global;
 use std::hash::{FoldHasher, Hash, Hasher};
@@ -136,7 +136,8 @@ fn keep(
     Ok(())
 }
 
-/// Keeps the operator with a number, unless it adds nothing or one like it is kept that costs no more.
+/// Keeps the operator with a number, unless it adds nothing or one like it is found that costs no more; one that is found and costs
+/// more is let go.
 fn take(
     problem: &Relaxed,
     k: u32,
@@ -179,40 +180,6 @@ pub(crate) fn kept_of(alloc: Global, problem: &Relaxed) -> Result<Vec<u32>, OutO
         take(problem, k, &mut places, &mut kept)?;
     }
     Ok(kept)
-}
-
-/// The preconditions of some operators.
-pub(crate) fn pres_at(
-    alloc: Global,
-    problem: &Relaxed,
-    numbers: &[u32],
-) -> Result<Rows, OutOfMemory>
-    requires { All (λ k. k < length problem.now.operators) numbers.now }
-    ensures rows { IfOk result (λ rows. rows ≡ map (λ k. (operator_at problem.now.operators k).pre) numbers.now) }
-    ensures below { IfOk result (λ rows. All (All (λ x. x < problem.now.facts)) rows) }
-{
-    let mut rows = Rows::with_capacity(alloc, numbers.len(), numbers.len())?;
-    for k in numbers {
-        rows.push(problem.pre(*k))?;
-    }
-    Ok(rows)
-}
-
-/// The facts that some operators add.
-pub(crate) fn adds_at(
-    alloc: Global,
-    problem: &Relaxed,
-    numbers: &[u32],
-) -> Result<Rows, OutOfMemory>
-    requires { All (λ k. k < length problem.now.operators) numbers.now }
-    ensures rows { IfOk result (λ rows. rows ≡ map (λ k. (operator_at problem.now.operators k).add) numbers.now) }
-    ensures below { IfOk result (λ rows. All (All (λ x. x < problem.now.facts)) rows) }
-{
-    let mut rows = Rows::with_capacity(alloc, numbers.len(), numbers.len())?;
-    for k in numbers {
-        rows.push(problem.add(*k))?;
-    }
-    Ok(rows)
 }
 
 /// What some operators cost.

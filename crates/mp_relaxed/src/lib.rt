@@ -1,9 +1,10 @@
 //! The delete relaxation of a projected problem, at costs that may change, and the values of its facts for a state
-//! (`specs/`): what the heuristics hmax and LM-cut share.
+//! (`specs/`), and values of states that are kept: what the heuristics hmax and LM-cut share.
 #![tactic(auto)]
 
 mod kept;
 mod laws;
+mod memo;
 mod places;
 mod queue;
 mod relaxed;
@@ -13,5 +14,6 @@ mod users;
 mod values;
 
 pub use laws::values_are_the_greatest;
+pub use memo::Memo;
 pub use relaxed::Relaxed;
 pub use values::Search;

@@ -7,7 +7,7 @@ ghost use Rattle.mp_relaxed.specs.Dominated.{IsEquivalent};
 ghost use Rattle.mp_relaxed.specs.Relaxed.{AreAllFree, HasAdders, HasFree, HasUsers, delete_relaxation, operator_at, priced, with_cheaper};
 ghost use Rattle.mp_relaxed.specs.Search.{count_at};
 
-use crate::kept::{adds_at, costs_at, kept_of, pres_at};
+use crate::kept::{costs_at, kept_of};
 use crate::rows::{Rows, gather};
 use crate::users::{counts_of, free_of, users_of};
 use mp_list::{List, OutOfMemory};
@@ -137,14 +137,14 @@ impl Relaxed {
         })
     }
 
-    /// The same problem with those of its operators that are enough.
+    /// The same problem with operators of it that are enough.
     fn fewer(&self, alloc: Global) -> Result<Relaxed, OutOfMemory>
         ensures { IfOk result (λ made. IsEquivalent made self.now) }
     {
         let kept = kept_of(alloc, self)?;
         let numbers = kept.as_slice();
-        let pres = pres_at(alloc, self, numbers)?;
-        let adds = adds_at(alloc, self, numbers)?;
+        let pres = self.pres.rows_at(alloc, numbers)?;
+        let adds = self.adds.rows_at(alloc, numbers)?;
         let costs = costs_at(alloc, self, numbers)?;
         let mut goals = Vec::with_capacity(alloc, self.goals.len())?;
         goals.extend_from_slice(self.goals.as_slice())?;
@@ -165,8 +165,8 @@ impl Relaxed {
         })
     }
 
-    /// The delete relaxation of a task's projected problem without operators that others dominate: values of facts and cuts
-    /// are the same, and take less time. Refuses only for want of memory.
+    /// The delete relaxation of a task's projected problem without operators beside which others were found that dominate them:
+    /// values of facts and cuts are the same, and take less time. Refuses only for want of memory.
     pub fn reduced(alloc: Global, task: &Task) -> Result<Relaxed, OutOfMemory>
         ensures made { IfOk result (λ made. IsEquivalent made (delete_relaxation task.now)) }
         ensures limits { IfOk result (λ _. IsWithinLimits task.now) }

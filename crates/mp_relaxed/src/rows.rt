@@ -1,6 +1,6 @@
 //! Rows of numbers in one array.
 
-ghost use Rattle.std.specs.Prelude.{◌≡◌, ◌<◌, ◌≤◌, ◌+◌, ◌^◌, ◌++◌, ◌∷◌, [], All, length, vec_len, slice_index_or, IfOk, OnOk};
+ghost use Rattle.std.specs.Prelude.{◌≡◌, ◌<◌, ◌≤◌, ◌+◌, ◌^◌, ◌++◌, ◌∷◌, [], All, length, map, vec_len, slice_index_or, IfOk, OnOk};
 ghost use Rattle.mp_task.specs.Projected.{facts_of};
 
 use mp_list::{OutOfMemory, to_u32};
@@ -70,6 +70,19 @@ impl Rows {
         ensures { result ≡ length (slice_index_or self.now k []) }
     {
         self.rows[k].len
+    }
+
+    /// The rows of some numbers, in their order. Refuses only for want of memory, and where a number does not fit 32 bits,
+    /// which is taken for it.
+    pub(crate) fn rows_at(&self, alloc: Global, numbers: &[u32]) -> Result<Rows, OutOfMemory>
+        requires { All (λ k. k < length self.now) numbers.now }
+        ensures { IfOk result (λ rows. rows ≡ map (λ k. slice_index_or self.now k []) numbers.now) }
+    {
+        let mut rows = Rows::with_capacity(alloc, numbers.len(), numbers.len())?;
+        for k in numbers {
+            rows.push(self.row(*k as usize))?;
+        }
+        Ok(rows)
     }
 
     /// One more row. Refuses only for want of memory, and where a number does not fit 32 bits, which is taken for it.

@@ -1,6 +1,7 @@
 use Rattle.std.proofs.Common.{ap, sym, ◌∙◌, arith}
 use Rattle.mp_relaxed.specs.Relaxed.{RelaxedProblem}
-use Rattle.mp_lmcut.specs.Memo.{lmcut_in}
+use Rattle.mp_relaxed.specs.Memo.{value_in}
+use Rattle.mp_lmcut.specs.Cut.{lmcut_of}
 use Rattle.mp_lmcut.specs.Sides.{costless}
 use Rattle.mp_lmcut.proofs.CostLemmas.{as_many, costless_repriced, same_adders}
 use Rattle.mp_lmcut.proofs.lmcut.estimate.Goals as goal
@@ -18,7 +19,7 @@ value_of-requires-clause-adders c =
 pub returns-clause-found : goal.returns-clause-found
 returns-clause-found c =
     c.in_ok-found.ensures.found
-    ∙ ap (λ (r : RelaxedProblem). lmcut_in r c.args.publics.now.members c.args.privates.now.members) c.set_back.ensures
+    ∙ ap (λ (r : RelaxedProblem). value_in lmcut_of r c.args.publics.now.members c.args.privates.now.members) c.set_back.ensures
 
 pub returns-clause-kept : goal.returns-clause-kept
 returns-clause-kept c =

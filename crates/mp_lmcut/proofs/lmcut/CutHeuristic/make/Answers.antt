@@ -1,9 +1,11 @@
-use Rattle.std.proofs.Common.{◌≤◌, All, sym, subst}
+use Rattle.std.proofs.Common.{◌≤◌, All, ap, sym, subst, arith}
 use Rattle.std.proofs.lemmas.List.Elements.{All-map, All-nil}
+use Rattle.mp_task.specs.AgentTask.{AgentTask}
 use Rattle.mp_task.specs.Strips.{Operator}
 use Rattle.mp_relaxed.specs.Dominated.{IsEquivalent}
 use Rattle.mp_relaxed.specs.Relaxed.{RelaxedProblem, delete_relaxation}
-use Rattle.mp_lmcut.specs.Memo.{IsRight, lmcut_in}
+use Rattle.mp_relaxed.specs.Memo.{IsRight, MemoTable, value_in}
+use Rattle.mp_lmcut.specs.Cut.{lmcut_of}
 use Rattle.mp_lmcut.specs.Sides.{repriced}
 use Rattle.mp_lmcut.proofs.CostLemmas.{repriced_own}
 use Rattle.mp_lmcut.proofs.lmcut.CutHeuristic.make.Goals as goal
@@ -28,4 +30,12 @@ returns c = (
 
 pub invariant_of-result-clause-right : goal.invariant_of-result-clause-right
 invariant_of-result-clause-right c =
-    subst (All (IsRight (lmcut_in (repriced c.in_ok-costs.costs.items c.in_ok-problem.problem)))) (sym c.in_ok-memo.ensures.none) (All-nil _)
+    subst (All (IsRight (value_in lmcut_of (repriced c.in_ok-costs.costs.items c.in_ok-problem.problem)))) (sym (ap (λ (m : MemoTable). m.entries) c.new-memo.ensures)) (All-nil _)
+
+pub invariant_of-result-clause-private_sized : goal.invariant_of-result-clause-private_sized
+invariant_of-result-clause-private_sized c =
+    let publics = ap (λ (r : RelaxedProblem). r.publics) c.in_ok-problem.ensures.made.same in
+    let facts = ap (λ (r : RelaxedProblem). r.facts) c.in_ok-problem.ensures.made.same in
+    let privates = ap (λ (m : MemoTable). m.privates) c.new-memo.ensures in
+    let own = ap (λ (t : AgentTask). t.privates) c.task.view_is in
+    omega arith
