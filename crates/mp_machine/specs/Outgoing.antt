@@ -28,6 +28,10 @@ others me agents = filter (λ agent. not (agent == me)) (range_with_len 1 agents
 abbrev pub to_each : List ℕ → Message → List Outgoing
 to_each agents m = map (λ agent. record { to = agent; message = m }) agents
 
+-- bytes that go to each of some agents
+abbrev pub copies : List ℕ → List ℕ → List Out
+copies agents bytes = map (λ agent. record { to = agent; bytes = bytes }) agents
+
 -- a message that goes to all other agents of the team
 abbrev pub to_others : AgentTask → Message → List Outgoing
 to_others t m = to_each (others t.me t.agents) m

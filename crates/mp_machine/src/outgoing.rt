@@ -3,9 +3,9 @@
 ghost use Rattle.std.specs.Prelude.{◌≡◌, ◌≤◌, ◌<◌, ◌==◌, ◌^◌, ◌-◌, ◌∷◌, ◌++◌, [], not, map, OnOk};
 ghost use Rattle.mp_messages.specs.Spelling.{spelling, AreNumbers, FactsBelow};
 ghost use Rattle.mp_search.specs.Concern.{one_if};
-ghost use Rattle.mp_machine.specs.Outgoing.{in_bytes, others, to_each};
+ghost use Rattle.mp_machine.specs.Outgoing.{copies, in_bytes, others, to_each};
 
-use mp_list::{List, OutOfMemory};
+use mp_list::{Copied, List, OutOfMemory};
 use mp_messages::{Bytes, Message, encode};
 use mp_sets::Agent;
 use std::alloc::Global;
@@ -38,19 +38,19 @@ pub(crate) fn send(
     outs.push(Out { to, bytes })
 }
 
-/// Adds a message for each of some agents.
-pub(crate) fn send_to_each(
-    alloc: Global,
+/// Adds a message, as bytes, for each of some agents.
+pub(crate) fn send_copies(
     outs: &mut Outs,
     agents: &[Agent],
-    message: &Message,
+    bytes: &Bytes,
 ) -> Result<(), OutOfMemory>
-    requires numbers { AreNumbers message.now }
-    requires facts { FactsBelow (2 ^ 32 - 1) message.now }
-    ensures { OnOk result (outs.new ≡ outs.old ++ map in_bytes (to_each agents.now message.now)) }
+    ensures { OnOk result (outs.new ≡ outs.old ++ copies agents.now bytes.now) }
 {
     for agent in agents {
-        send(alloc, outs, *agent, message)?;
+        outs.push(Out {
+            to: *agent,
+            bytes: bytes.copy()?,
+        })?;
     }
     Ok(())
 }

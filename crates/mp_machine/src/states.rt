@@ -13,10 +13,10 @@ ghost use Rattle.mp_machine.specs.MemberFields.{SendingFits, sent_state};
 ghost use Rattle.mp_machine.specs.Taking.{took_state};
 
 use crate::member::Member;
-use crate::outgoing::{Outs, send_to_each};
+use crate::outgoing::{Outs, send_copies};
 use crate::refusal::{BadKind, StepRefusal};
-use mp_list::{Copied, OutOfMemory};
-use mp_messages::{Message, State};
+use mp_list::OutOfMemory;
+use mp_messages::{State, encode_state};
 use mp_search::{ReceiveRefusal, Search, Sending};
 use mp_sets::Agent;
 use mp_task::Heuristic;
@@ -27,8 +27,8 @@ fn send_state(alloc: Global, sending: &Sending, outs: &mut Outs) -> Result<(), O
     requires { SendingFits sending.now }
     ensures { OnOk result (outs.new ≡ outs.old ++ sent_state sending.now) }
 {
-    let message = Message::State(sending.state.copy()?);
-    send_to_each(alloc, outs, sending.to.as_slice(), &message)
+    let bytes = encode_state(alloc, &sending.state)?;
+    send_copies(outs, sending.to.as_slice(), &bytes)
 }
 
 /// Sends states, each to the agents that it is for.

@@ -2,6 +2,7 @@
 
 ghost use Rattle.std.specs.Prelude.{◌≡◌, ℕ, ◌-◌, ◌<◌, ◌^◌, ◌++◌, ◌∷◌, [], All, IfOk, OnOk};
 ghost use Rattle.std.specs.List.Sorted.{IsStrictlyIncreasing};
+ghost use Rattle.mp_messages.specs.declared.message.Message.{Message};
 ghost use Rattle.mp_messages.specs.Spelling.{number, short_number, flag, optional, ending, tag, counted, state, findings, spelling, AreNumbers, FactsBelow, FactsRise, HasTags, IsSpelling};
 
 use crate::history::Bytes;
@@ -10,13 +11,11 @@ use mp_list::OutOfMemory;
 use mp_sets::{FactList, Tag};
 use std::alloc::Global;
 
+/// Adds bytes at the end.
 fn put_all(out: &mut Bytes, bytes: &[u8]) -> Result<(), OutOfMemory>
     ensures { OnOk result (out.new ≡ out.old ++ bytes.now) }
 {
-    for byte in bytes {
-        out.push(*byte)?;
-    }
-    Ok(())
+    out.extend_from_slice(bytes)
 }
 
 #[tactic(auto, unfolding(crate::specs::Spelling::number))]
@@ -91,6 +90,16 @@ fn put_state(out: &mut Bytes, s: &State) -> Result<(), OutOfMemory>
     Ok(())
 }
 
+#[tactic(auto, unfolding(crate::specs::Spelling::spelling))]
+fn put_whole_state(out: &mut Bytes, s: &State) -> Result<(), OutOfMemory>
+    requires { All (λ x. x < 2 ^ 32 - 1) s.now.facts }
+    ensures bytes { OnOk result (out.new ≡ out.old ++ spelling (Message.State s.now)) }
+    ensures rising { OnOk result (IsStrictlyIncreasing s.now.facts) }
+{
+    out.push(1)?;
+    put_state(out, s)
+}
+
 #[tactic(auto, unfolding(crate::specs::Spelling::findings))]
 fn put_findings(out: &mut Bytes, f: &Findings) -> Result<(), OutOfMemory>
     ensures { OnOk result (out.new ≡ out.old ++ findings f.now) }
@@ -119,10 +128,7 @@ fn put_message(out: &mut Bytes, message: &Message) -> Result<(), OutOfMemory>
     ensures rising { OnOk result (FactsRise message.now) }
 {
     match message {
-        Message::State(state) => {
-            out.push(1)?;
-            put_state(out, state)
-        }
+        Message::State(state) => put_whole_state(out, state),
         Message::Marker(number) => {
             out.push(2)?;
             put_number(out, *number)
@@ -151,6 +157,20 @@ fn put_message(out: &mut Bytes, message: &Message) -> Result<(), OutOfMemory>
     }
 }
 
+/// How many bytes a state takes at most: one for its kind, eight for each of its three numbers, four for the number of its
+/// facts and for each of them, nine for each tag.
+fn room_for_state(s: &State) -> usize {
+    29 + 4 * s.facts.as_slice().len() + 9 * s.tags.as_slice().len()
+}
+
+/// How many bytes a message takes at most, so that memory is taken once for all of them. A report takes most of the others.
+fn room_for(message: &Message) -> usize {
+    match message {
+        Message::State(state) => room_for_state(state),
+        _ => 37,
+    }
+}
+
 /// The bytes of a message. Every u64 in it has to be below 2^60, and so the sum of a state's cost and
 /// heuristic value; a state's facts have to be below 2^32 - 1. A state's bytes are its spelling for as many
 /// agents as it has tags and for every number of public facts above its own facts, and another message's are
@@ -162,7 +182,17 @@ pub fn encode(alloc: Global, message: &Message) -> Result<Bytes, OutOfMemory>
     ensures team { IfOk result (λ bytes. (agents publics : ℕ) → HasTags agents message.now
         → FactsBelow publics message.now → IsSpelling agents publics message.now bytes) }
 {
-    let mut out = Bytes::new(alloc);
+    let mut out = Bytes::with_capacity(alloc, room_for(message))?;
     put_message(&mut out, message)?;
+    Ok(out)
+}
+
+/// The bytes of a state's message, as `encode` gives them. Its facts have to be below 2^32 - 1. Refuses only for want of memory.
+pub fn encode_state(alloc: Global, state: &State) -> Result<Bytes, OutOfMemory>
+    requires { All (λ x. x < 2 ^ 32 - 1) state.now.facts }
+    ensures { IfOk result (λ bytes. bytes ≡ spelling (Message.State state.now)) }
+{
+    let mut out = Bytes::with_capacity(alloc, room_for_state(state))?;
+    put_whole_state(&mut out, state)?;
     Ok(out)
 }

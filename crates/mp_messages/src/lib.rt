@@ -8,7 +8,7 @@ mod laws;
 mod message;
 
 pub use decoding::{DecodeRefusal, decode};
-pub use encoding::encode;
+pub use encoding::{encode, encode_state};
 pub use history::{Bytes, Entry, Event, EventList, Kind, Log, Views};
 pub use laws::{
     equal_entries_are_one, equal_messages_are_one, fronts_of_histories_are_legal,

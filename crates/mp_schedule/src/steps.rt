@@ -177,14 +177,13 @@ fn deliver(mail: &mut Mail, agents: usize, from: Agent, out: &Out) -> Result<(),
 }
 
 /// Adds to the log that a message went out.
-fn note_sent(log: &mut Log, from: Agent, out: &Out) -> Result<(), OutOfMemory>
-    ensures { OnOk result (log.new ≡ log.old ++ put_by from out.now ∷ []) }
+fn note_sent(log: &mut Log, from: Agent, out: Out) -> Result<(), OutOfMemory>
+    ensures { OnOk result (log.new ≡ log.old ++ put_by from out ∷ []) }
 {
-    let bytes = out.bytes.copy()?;
     log.push(Entry::Put {
         from,
         to: out.to,
-        bytes,
+        bytes: out.bytes,
     })
 }
 
@@ -194,14 +193,14 @@ fn send(
     log: &mut Log,
     agents: usize,
     from: Agent,
-    out: &Out,
+    out: Out,
 ) -> Result<(), OutOfMemory>
-    ensures log { OnOk result (log.new ≡ log.old ++ put_by from out.now ∷ []) }
+    ensures log { OnOk result (log.new ≡ log.old ++ put_by from out ∷ []) }
     ensures mail { (records : List AgentRecord) → length records ≡ agents
-        → OnOk result (with_sent from (world_with records mail.old) out.now
+        → OnOk result (with_sent from (world_with records mail.old) out
         ≡ world_with records mail.new) }
 {
-    deliver(mail, agents, from, out)?;
+    deliver(mail, agents, from, &out)?;
     note_sent(log, from, out)
 }
 
@@ -211,14 +210,14 @@ fn send_all(
     log: &mut Log,
     agents: usize,
     from: Agent,
-    outs: &[Out],
+    outs: Outs,
 ) -> Result<(), OutOfMemory>
-    ensures log { OnOk result (log.new ≡ log.old ++ map (put_by from) outs.now) }
+    ensures log { OnOk result (log.new ≡ log.old ++ map (put_by from) outs) }
     ensures mail { (records : List AgentRecord) → length records ≡ agents
-        → OnOk result (fold (with_sent from) (world_with records mail.old) outs.now
+        → OnOk result (fold (with_sent from) (world_with records mail.old) outs
         ≡ world_with records mail.new) }
 {
-    for out in outs {
+    for out in outs.into_items() {
         send(mail, log, agents, from, out)?;
     }
     Ok(())
@@ -232,11 +231,11 @@ fn finish(
     agents: usize,
     event: &Event,
     bytes: Option<Bytes>,
-    outs: &[Out],
+    outs: Outs,
 ) -> Result<(), OutOfMemory>
-    ensures log { OnOk result (log.new ≡ log.old ++ entries_of event.now (given bytes) outs.now) }
+    ensures log { OnOk result (log.new ≡ log.old ++ entries_of event.now (given bytes) outs) }
     ensures mail { (records : List AgentRecord) → length records ≡ agents
-        → OnOk result (fold (with_sent (agent_of event.now)) (world_with records mail.old) outs.now
+        → OnOk result (fold (with_sent (agent_of event.now)) (world_with records mail.old) outs
         ≡ world_with records mail.new) }
 {
     note(alloc, log, event, bytes)?;
@@ -272,6 +271,6 @@ pub(crate) fn happen<H: Heuristic>(
         machines.len(),
         event,
         bytes,
-        outs.as_slice(),
+        outs,
     )?)
 }

@@ -1,11 +1,8 @@
-use Rattle.std.proofs.Common.{◌≡◌, ◌++◌, length, ap, map, subst, sym, ◌∙◌}
+use Rattle.std.proofs.Common.{◌≡◌, ◌++◌, length, ap, map, sym, ◌∙◌}
 use Rattle.std.specs.Prelude.{option_map}
-use Rattle.std.specs.List.{fold}
 use Rattle.std.proofs.lemmas.List.{length-map}
 use Rattle.mp_machine.specs.Machine.{AgentMachine, given}
-use Rattle.mp_world.specs.Events.{agent_of, with_sent}
 use Rattle.mp_world.specs.Logs.{entries_of}
-use Rattle.mp_schedule.specs.UnderWay.{world_with}
 use Rattle.mp_schedule.proofs.Happens.{all_done, keeps_limit, keeps_tasks, not_done}
 use Rattle.mp_schedule.proofs.steps.happen.Goals as goal
 
@@ -51,12 +48,8 @@ returns g c =
           (c.lent.ensures ∙ c.take-bytes.ensures.taken (map (λ (m : AgentMachine). m.done) ms))
           c.in-Ok.outs c.take-bytes.new.mail c.finish.new.mail c.finish.new.log c.in-Ok.ensures
           (c.take-bytes.ensures.left (map (λ (m : AgentMachine). m.done) ms))
-          (subst (λ xs. fold (with_sent (agent_of event))
-          (world_with records c.take-bytes.new.mail) xs ≡ world_with records c.finish.new.mail)
-          c.as_slice.ensures (c.in_ok-finish.ensures.mail records size))
-          (c.in_ok-finish.ensures.log ∙ ap (λ b. c.args.log.now ++ entries_of event b c.as_slice.result.now)
-          (sym c.lent.ensures)
-          ∙ ap (λ xs. c.args.log.now ++ entries_of event bytes xs) c.as_slice.ensures);
+          (c.in_ok-finish.ensures.mail records size)
+          (c.in_ok-finish.ensures.log ∙ ap (λ b. c.args.log.now ++ entries_of event b c.in-Ok.outs) (sym c.lent.ensures));
       tasks = keeps_tasks value ms new event bytes c.step.result c.step.ensures;
       limit = keeps_limit value ms new event bytes c.step.result c.step.ensures;
     }
