@@ -8,7 +8,7 @@ use Rattle.std.proofs.lemmas.Option.{get_or_from_slice_get, same_Some, slice_get
 use Rattle.mp_list.proofs.Members.{contains_head, no_member}
 use Rattle.mp_sets.specs.Numbers.{SizedSet}
 use Rattle.mp_task.specs.AgentTask.{AgentTask}
-use Rattle.mp_task.specs.Agree.{Agree, FitsTeam}
+use Rattle.mp_task.specs.Agreement.{FitsTeam, IsTeamMember}
 use Rattle.mp_task.specs.declared.act.Act.{Act}
 use Rattle.mp_task.specs.Plan.{after_act, private_of}
 use Rattle.mp_task.proofs.Agreeing.{number_at}
@@ -21,14 +21,15 @@ publics_are [] t here same = absurd (no_member t here)
 publics_are (u ∷ us) t here same = same u (contains_head u us)
 
 -- those of a team are those of each of its tasks
-pub sizes_of_task : (tasks : List AgentTask) (t : AgentTask) (x : JointSets) → Agree tasks → Contains tasks t → HasSizes tasks x → HasSizesOf t x
-sizes_of_task tasks t x agree here sizes =
+pub sizes_of_task : (tasks : List AgentTask) (t : AgentTask) (x : JointSets) → IsTeamMember tasks t → HasSizes tasks x → HasSizesOf t x
+sizes_of_task tasks t x member sizes =
+    let here = member.in_team in
     let size : SizedSet → ℕ = λ s. s.size in
-    let number : t.me ≡ suc here.0 = number_at tasks agree here.0 t here.1 here.2 in
+    let number : t.me ≡ suc here.0 = number_at tasks member.agree.numbered here.0 t here.1 here.2 in
     let place : t.me - 1 ≡ here.0 = omega arith in
     let task : slice_get tasks here.0 ≡ Some t = slice_get-get_or tasks here.0 t here.1 ∙ ap (λ (u : AgentTask). Some u) here.2 in
     record {
-      publics = sizes.publics ∙ publics_are tasks t here (λ u there. (agree.alike u t there here).publics);
+      publics = sizes.publics ∙ publics_are tasks t here (λ u there. (member.agree.alike u t there here).publics);
       mine =
           ap (λ (k : ℕ). option_map size (slice_get x.privates.items k)) place
           ∙ sym (slice_get-map size x.privates.items here.0)
@@ -113,9 +114,9 @@ module _ (t : AgentTask) (act : Act) (x y new : JointSets) where
       }
 
 -- each agent of a team is one of as many as a task says
-pub number_within : (tasks : List AgentTask) (t other : AgentTask) → Agree tasks → Contains tasks t → Contains tasks other → other.me ≤ t.agents
-number_within tasks t other agree here there =
-    let number : other.me ≡ suc there.0 = number_at tasks agree there.0 other there.1 there.2 in
+pub number_within : (tasks : List AgentTask) (t other : AgentTask) → IsTeamMember tasks t → Contains tasks other → other.me ≤ t.agents
+number_within tasks t other member there =
+    let number : other.me ≡ suc there.0 = number_at tasks member.agree.numbered there.0 other there.1 there.2 in
     let lt = there.1 in
-    let count : t.agents ≡ length tasks = (All-contains (FitsTeam tasks) tasks t agree.team here).agents in
+    let count : t.agents ≡ length tasks = (All-contains (FitsTeam tasks) tasks t member.agree.team member.in_team).agents in
     omega arith

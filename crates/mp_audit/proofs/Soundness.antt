@@ -1,10 +1,10 @@
 -- A certificate that shows that no plan is cheaper is right: each plan in order is a way through the searches of the agents, and
 -- along it the bounds fall by no more than is paid.
 use Rattle.std.proofs.Common.{◌≡◌, ℕ, ◌+◌, ◌≤◌, List, length, refl, sym, subst, arith, inl, inr}
-use Rattle.std.specs.List.{Contains}
 use Rattle.mp_task.specs.AgentTask.{AgentTask}
-use Rattle.mp_task.specs.Agree.{Agree}
+use Rattle.mp_task.specs.Agreement.{IsTeamMember}
 use Rattle.mp_task.specs.Plan.{TaskStep, TaskSolves, joint_start, task_cost}
+use Rattle.mp_task.proofs.Agreeing.{agree_numbered}
 use Rattle.mp_order.proofs.InOrder.{in_order}
 use Rattle.mp_reach.specs.LeadsOn.{Known, LeadsOn, IsGoal}
 use Rattle.mp_reach.proofs.TeamWays.{ordered_way}
@@ -35,10 +35,10 @@ module _ (tasks : List AgentTask) (certificate : Certificate) (audited : Audited
         | inr none ↦ none
       ]
 
-  pub none_is_cheaper : (t : AgentTask) (plan : List TaskStep) → Agree tasks → Contains tasks t → TaskSolves tasks plan → certificate.cost ≤ task_cost tasks plan
-  none_is_cheaper t plan agree here solves =
-      let it = in_order tasks agree (length plan) (joint_start tasks) plan (omega arith) solves in
-      let start = ordered_way tasks agree t (joint_start tasks) it.steps here it.ordered in
+  pub none_is_cheaper : (t : AgentTask) (plan : List TaskStep) → IsTeamMember tasks t → TaskSolves tasks plan → certificate.cost ≤ task_cost tasks plan
+  none_is_cheaper t plan member solves =
+      let it = in_order tasks (agree_numbered tasks member.agree) (length plan) (joint_start tasks) plan (omega arith) solves in
+      let start = ordered_way tasks t member (joint_start tasks) it.steps it.ordered in
       let first : Known = record { agent = start.task.me; state = joint_start tasks } in
       let at_start = audited.starts first (record { task = start.task; in_team = start.in_team; agent = refl; state = refl }) in
       let along = is_bound (LeadsOn tasks) (IsGoal tasks) left falls ends first (task_cost tasks it.steps) start.goes_on.end start.goes_on.way start.goes_on.goal in

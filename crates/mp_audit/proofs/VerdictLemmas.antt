@@ -9,7 +9,7 @@ use Rattle.mp_sets.specs.Numbers.{holds}
 use Rattle.mp_task.specs.declared.act.Act.{Act}
 use Rattle.mp_task.specs.declared.act.Far.{Far}
 use Rattle.mp_task.specs.AgentTask.{AgentTask}
-use Rattle.mp_task.specs.Agree.{Agree}
+use Rattle.mp_task.specs.Agreement.{AreNumbered}
 use Rattle.mp_task.specs.Met.{is_met}
 use Rattle.mp_task.specs.Plan.{JointState, TaskStep, after_act, applies, goals_hold, private_of, task_of}
 use Rattle.mp_task.specs.Public.{is_public}
@@ -99,11 +99,11 @@ concerns_from t other s c =
         or_right (list_any (λ (p : Far). eqb p.by other.me && holds s.publics p.pre) t.far) _
         (ap not (false_from_ne_true (is_met other (private_of s other.me)) unmet))
 
-module _ (tasks : List AgentTask) (agree : Agree tasks) (bounds : List Bound) where
+module _ (tasks : List AgentTask) (are : AreNumbered tasks) (bounds : List Bound) where
   -- the task of an agent
   task_at : (t : AgentTask) → Contains tasks t → task_of tasks t.me ≡ Some t
   task_at t here =
-      let number : t.me ≡ suc here.0 = number_at tasks agree here.0 t here.1 here.2 in
+      let number : t.me ≡ suc here.0 = number_at tasks are.numbered here.0 t here.1 here.2 in
       ap (task_of tasks) number ∙ slice_get-get_or tasks here.0 t here.1 ∙ ap (λ (u : AgentTask). Some u) here.2
 
   -- ---- from no failure: along each lead the bound falls by no more than is paid
@@ -207,7 +207,7 @@ module _ (tasks : List AgentTask) (agree : Agree tasks) (bounds : List Bound) wh
         found_task : (agent : ℕ) (u : AgentTask) → task_of tasks agent ≡ Some u → Contains tasks u × (u.me ≡ agent)
         found_task zero u e = absurd (none-some u e)
         found_task (suc k) u e =
-            (Contains-slice_get tasks k u e, number_at tasks agree k u (slice_get_within tasks k u e) (get_or_from_slice_get tasks k u u e))
+            (Contains-slice_get tasks k u e, number_at tasks are.numbered k u (slice_get_within tasks k u e) (get_or_from_slice_get tasks k u u e))
 
     pub no_entry_fails : all_entry_failures tasks bounds ≡ []
     no_entry_fails =

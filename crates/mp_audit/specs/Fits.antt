@@ -1,6 +1,7 @@
 -- Which certificates may be audited with the tasks of a team.
 use Rattle.std.specs.Prelude.{⊤, ℕ, ◌^◌, ◌≤◌, List, [], ◌∷◌, length, All}
 use Rattle.mp_task.specs.AgentTask.{AgentTask}
+use Rattle.mp_task.specs.Agreement.{Agree}
 use Rattle.mp_task.specs.Limits.{AllLess}
 use Rattle.mp_audit.specs.declared.certificate.Bound.{Bound}
 use Rattle.mp_audit.specs.declared.certificate.Certificate.{Certificate}
@@ -32,6 +33,16 @@ pub record BoundFits (tasks : List AgentTask) (b : Bound) : Type 0 where
 pub record CertificateFits (tasks : List AgentTask) (certificate : Certificate) : Type 0 where
   pub cost : certificate.cost ≤ most
   pub bounds : All (BoundFits tasks) certificate.bounds
+
+-- tasks that agree, and entries that fit them
+pub record AreBoundsFor (tasks : List AgentTask) (bounds : List Bound) : Type 0 where
+  pub agree : Agree tasks
+  pub fits : All (BoundFits tasks) bounds
+
+-- tasks that agree, and a certificate that fits them
+pub record IsCertificateFor (tasks : List AgentTask) (certificate : Certificate) : Type 0 where
+  pub agree : Agree tasks
+  pub fits : CertificateFits tasks certificate
 
 -- the agent of each entry is one of the team
 abbrev pub AgentsFit : List AgentTask → Certificate → Type 0

@@ -1,5 +1,5 @@
 -- Joint states as sets that have sizes.
-use Rattle.std.specs.Prelude.{◌≡◌, ℕ, ◌-◌, List, [], ◌∷◌, Some, map, slice_get, slice_set, option_map}
+use Rattle.std.specs.Prelude.{◌≡◌, ℕ, ◌-◌, List, [], ◌∷◌, Some, Contains, map, slice_get, slice_set, option_map}
 use Rattle.std.specs.FinSet as set
 use Rattle.mp_sets.specs.Numbers.{Numbers, SizedSet, after}
 use Rattle.mp_task.specs.AgentTask.{AgentTask}
@@ -36,6 +36,10 @@ pub record HasSizes (tasks : List AgentTask) (x : JointSets) : Type 0 where
 pub record HasSizesOf (t : AgentTask) (x : JointSets) : Type 0 where
   pub publics : x.publics.size ≡ t.publics
   pub mine : option_map (λ s. s.size) (slice_get x.privates.items (t.me - 1)) ≡ Some t.privates
+
+-- of each of the tasks
+abbrev pub HasSizesOfEach : List AgentTask → JointSets → Type 0
+HasSizesOfEach tasks x = (t : AgentTask) → Contains tasks t → HasSizesOf t x
 
 -- no private fact of a task's agent
 abbrev pub no_privates : AgentTask → SizedSet

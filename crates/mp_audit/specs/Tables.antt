@@ -1,8 +1,8 @@
 -- What is worked out of a certificate before its entries are audited one by one.
-use Rattle.std.specs.Prelude.{◌≡◌, ℕ, List, [], Some, All, IfSome, length, map, slice_get}
+use Rattle.std.specs.Prelude.{◌≡◌, ℕ, List, [], Some, All, Contains, IfSome, length, map, slice_get}
 use Rattle.mp_sets.specs.Numbers.{SizedSet}
 use Rattle.mp_task.specs.AgentTask.{AgentTask}
-use Rattle.mp_task.specs.Agree.{Agree}
+use Rattle.mp_task.specs.Agreement.{IsTeamMember}
 use Rattle.mp_applicable.specs.Far.{IsFarIndexOf}
 use Rattle.mp_applicable.specs.Index.{IsIndexOf}
 use Rattle.mp_audit.specs.declared.certificate.Bound.{Bound}
@@ -43,7 +43,7 @@ AreActionSets tasks sets = sizes_of sets ≡ map (λ t. length t.acts) tasks
 
 -- all that is needed to audit entries one by one
 pub record IsReady (known : AuditData) : Type 0 where
-  pub agree : Agree known.tasks.now
+  pub team : (t : AgentTask) → Contains known.tasks.now t → IsTeamMember known.tasks.now t
   pub fits : All (BoundFits known.tasks.now) known.bounds.now.entries
   pub all : AreAllChained known.tasks.now known.bounds.now.entries known.chains
   pub once : doubles known.bounds.now.entries ≡ []

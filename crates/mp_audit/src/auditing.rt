@@ -1,12 +1,11 @@
 //! The audit of a certificate.
 
-ghost use Rattle.std.specs.Prelude.{◌≡◌, ◌++◌, [], nat_lt, slice_get, All, IfOk};
+ghost use Rattle.std.specs.Prelude.{◌≡◌, ◌++◌, [], nat_lt, slice_get, IfOk};
 ghost use Rattle.std.specs.Option.{option_map_or};
-ghost use Rattle.mp_task.specs.Agree.{Agree};
 ghost use Rattle.mp_audit.specs.declared.verdict.AuditVerdict.TheVariants as verdicts;
 ghost use Rattle.mp_audit.specs.Audited.{bound_of};
 ghost use Rattle.mp_audit.specs.Failures.{all_entry_failures, doubles, failure_if, low_starts, verdict_on};
-ghost use Rattle.mp_audit.specs.Fits.{BoundFits, CertificateFits};
+ghost use Rattle.mp_audit.specs.Fits.{AreBoundsFor, IsCertificateFor};
 ghost use Rattle.mp_audit.specs.FlatCertificates.{certificate_of};
 ghost use Rattle.mp_audit.specs.States.{known_by, HasSizes};
 ghost use Rattle.mp_audit.specs.Tables.{AreAllChained, IsReady};
@@ -98,8 +97,7 @@ fn audit_once(
     cost: u64,
     chains: Chains,
 ) -> Result<AuditVerdict, OutOfMemory>
-    requires agree { Agree tasks.now }
-    requires fits { All (BoundFits tasks.now) bounds.now.entries }
+    requires bounds { AreBoundsFor tasks.now bounds.now.entries }
     requires all { AreAllChained tasks.now bounds.now.entries chains }
     requires once { doubles bounds.now.entries ≡ [] }
     ensures { IfOk result (λ v. v ≡ verdict_on tasks.now (record { cost = cost; bounds = bounds.now.entries })) }
@@ -122,8 +120,7 @@ fn audit_bounds(
     bounds: &FlatBounds,
     cost: u64,
 ) -> Result<AuditVerdict, OutOfMemory>
-    requires agree { Agree tasks.now }
-    requires fits { All (BoundFits tasks.now) bounds.now.entries }
+    requires { AreBoundsFor tasks.now bounds.now.entries }
     ensures { IfOk result (λ v. v ≡ verdict_on tasks.now (record { cost = cost; bounds = bounds.now.entries })) }
 {
     match table_of(alloc, tasks, bounds)? {
@@ -138,8 +135,7 @@ pub fn audit_flat(
     tasks: &[Task],
     certificate: &FlatCertificate,
 ) -> Result<AuditVerdict, OutOfMemory>
-    requires agree { Agree tasks.now }
-    requires fits { CertificateFits tasks.now (certificate_of certificate.now) }
+    requires { IsCertificateFor tasks.now (certificate_of certificate.now) }
     ensures { IfOk result (λ v. v ≡ verdict_on tasks.now (certificate_of certificate.now)) }
 {
     audit_bounds(alloc, tasks, &certificate.bounds, certificate.cost)
@@ -155,8 +151,7 @@ pub fn audit(
     tasks: &[Task],
     certificate: &Certificate,
 ) -> Result<AuditVerdict, OutOfMemory>
-    requires agree { Agree tasks.now }
-    requires fits { CertificateFits tasks.now certificate.now }
+    requires { IsCertificateFor tasks.now certificate.now }
     ensures { IfOk result (λ v. v ≡ verdict_on tasks.now certificate.now) }
 {
     let flat = flat_of(alloc, tasks, certificate)?;

@@ -2,13 +2,12 @@
 
 ghost use Rattle.std.specs.Prelude.{◌≡◌, ◌&&◌, ◌-◌, option_map, slice_get, slice_set, Some};
 ghost use Rattle.mp_sets.specs.Numbers.{holds};
-ghost use Rattle.mp_task.specs.Agree.{Agree};
 ghost use Rattle.mp_task.specs.Limits.{ActFits};
 ghost use Rattle.mp_task.specs.Met.{is_met};
 ghost use Rattle.mp_task.specs.Plan.{after_act, goals_hold, private_of};
 ghost use Rattle.mp_task.specs.Public.{is_public};
 ghost use Rattle.mp_audit.specs.Failures.{is_visible};
-ghost use Rattle.mp_audit.specs.States.{joint_of, mine_after, publics_after, HasSizes, HasSizesOf, IsBeside};
+ghost use Rattle.mp_audit.specs.States.{joint_of, mine_after, publics_after, HasSizesOf, HasSizesOfEach, IsBeside};
 
 use crate::state::JointSets;
 use mp_sets::Bits;
@@ -51,8 +50,7 @@ fn meets_goals(task: &Task, state: &JointSets) -> bool
 
 /// Whether all goals of a team hold.
 pub(crate) fn has_goals(tasks: &[Task], state: &JointSets) -> bool
-    requires agree { Agree tasks.now }
-    requires sizes { HasSizes tasks.now state.now }
+    requires { HasSizesOfEach tasks.now state.now }
     ensures { result ≡ goals_hold tasks.now (joint_of state.now) }
 {
     for task in tasks {

@@ -9,8 +9,9 @@ use Rattle.std.proofs.lemmas.Option.{none-some, same_Some, slice_get-map}
 use Rattle.mp_list.proofs.Members.{contains_head, no_member}
 use Rattle.mp_sets.specs.declared.tag.Tag.{Tag}
 use Rattle.mp_sets.specs.Numbers.{Numbers}
-use Rattle.mp_task.specs.Agree.{SayAlike}
+use Rattle.mp_task.specs.Agreement.{SayAlike}
 use Rattle.mp_task.specs.AgentTask.{AgentTask}
+use Rattle.mp_task.proofs.Agreeing.{agree_numbered}
 use Rattle.mp_tokens.specs.Order.{set_at}
 use Rattle.mp_store.specs.declared.entry.Entry.{Entry}
 use Rattle.mp_search.specs.AgentState.{AgentState}
@@ -191,7 +192,7 @@ module _ (machines : List AgentMachine) (r : TeamRun) (is_team : MayRun r) (is_r
       let fit = last_cut_fits r.limit r.tasks r.schedule r.world cost steps.0 certificate ran steps.1 refl are in
       record {
         certified = record { cost_is = solved; bounds_are = are };
-        holds = (holds_exactly r.tasks certificate (verdict_on r.tasks certificate) is_team.tasks.agree refl).1 audited;
+        holds = (holds_exactly r.tasks certificate (verdict_on r.tasks certificate) (agree_numbered r.tasks is_team.tasks.agree) refl).1 audited;
         fits = record {
           cost = fit.0;
           bounds = λ i d lt. record {

@@ -13,7 +13,7 @@ use Rattle.mp_sets.specs.Numbers.{Numbers}
 use Rattle.mp_sets.proofs.ListedLemmas.{passing_below}
 use Rattle.mp_task.specs.declared.act.Act.{Act}
 use Rattle.mp_task.specs.AgentTask.{AgentTask}
-use Rattle.mp_task.specs.Limits.{IsWithinLimits}
+use Rattle.mp_task.specs.Limits.{IsWithinLimits, most_expansions}
 use Rattle.mp_messages.specs.declared.message.State.{State}
 use Rattle.mp_messages.specs.Spelling.{AreStateNumbers}
 use Rattle.mp_tokens.specs.Order.{place, with_set, with_sets}
@@ -243,7 +243,7 @@ module _ (least : ℕ) where
             up = up_more (sent + 1 + length acts) _ _ (omega arith) rest.up;
           }
 
-    pub expanded_fits : (value : Numbers → Numbers → Option ℕ) (r : SearchRecord) → r.expansions < 10000000
+    pub expanded_fits : (value : Numbers → Numbers → Option ℕ) (r : SearchRecord) → r.expansions < most_expansions
         → FitsUpTo least (200000 * r.expansions) r.kept → HasExpanded r (expanded t value r)
     unfolding expanded expanded_entry
     expanded_fits value r few fits = by (least_open r.kept)

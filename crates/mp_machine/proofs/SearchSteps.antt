@@ -6,7 +6,7 @@ use Rattle.std.proofs.lemmas.Bool.{and_parts, eq-eqb, false≢true}
 use Rattle.std.proofs.lemmas.List.{append-nil, map-append}
 use Rattle.mp_sets.specs.Numbers.{Numbers}
 use Rattle.mp_task.specs.AgentTask.{AgentTask}
-use Rattle.mp_task.specs.Limits.{IsWithinLimits}
+use Rattle.mp_task.specs.Limits.{IsWithinLimits, most_expansions}
 use Rattle.mp_messages.specs.declared.message.State.{State}
 use Rattle.mp_search.specs.declared.answer.ExpandRefusal.{ExpandRefusal}
 use Rattle.mp_search.specs.declared.answer.ExpandRefusal.TheVariants.{AtLimit, Nothing}
@@ -98,7 +98,7 @@ module _ (s new : AgentSearch) (m : Member) (value : Numbers → Numbers → Opt
       record {
         works = works;
         task = subst (λ (t : AgentTask). IsWithinLimits t) (sym task) work.task;
-        limit = subst (λ (n : ℕ). n ≤ 10000000) (sym limit) work.limit;
+        limit = subst (λ (n : ℕ). n ≤ most_expansions) (sym limit) work.limit;
         within =
             subst (λ (n : ℕ). n ≤ new.limit) (ap (λ (r : SearchRecord). r.expansions) (sym done_is))
             (subst (λ (n : ℕ). (expanded s.task value s.done).1.expansions ≤ n) (sym limit) (omega arith));
@@ -187,7 +187,7 @@ module _ (s new : AgentSearch) (m : Member) (value : Numbers → Numbers → Opt
         record {
           works = works;
           task = subst (λ (t : AgentTask). IsWithinLimits t) (sym task) work.task;
-          limit = subst (λ (n : ℕ). n ≤ 10000000) (sym limit) work.limit;
+          limit = subst (λ (n : ℕ). n ≤ most_expansions) (sym limit) work.limit;
           within =
               subst (λ (n : ℕ). n ≤ new.limit) (ap (λ (r : SearchRecord). r.expansions) (sym was.kept))
               (subst (λ (n : ℕ). s.done.expansions ≤ n) (sym limit) work.within);

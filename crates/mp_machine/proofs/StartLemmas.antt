@@ -6,7 +6,7 @@ use Rattle.std.proofs.lemmas.List.Elements.{All-map, All-nil, All-set}
 use Rattle.mp_sets.specs.declared.tag.Tag.{Tag}
 use Rattle.mp_sets.specs.Numbers.{Numbers}
 use Rattle.mp_task.specs.AgentTask.{AgentTask}
-use Rattle.mp_task.specs.Limits.{IsWithinLimits}
+use Rattle.mp_task.specs.Limits.{IsWithinLimits, most_expansions}
 use Rattle.mp_messages.specs.Spelling.{AreFindings}
 use Rattle.mp_store.specs.declared.entry.Origin.TheVariants.{Root}
 use Rattle.mp_store.specs.Record.{empty}
@@ -29,7 +29,7 @@ pub record IsNew (t : AgentTask) (value : Numbers → Numbers → Option ℕ) (l
   pub goal : m.goal ≡ None
   pub trail : m.trail ≡ []
 
-module _ (t : AgentTask) (task : IsWithinLimits t) (value : Numbers → Numbers → Option ℕ) (limit : ℕ) (most : limit ≤ 10000000) where
+module _ (t : AgentTask) (task : IsWithinLimits t) (value : Numbers → Numbers → Option ℕ) (limit : ℕ) (most : limit ≤ most_expansions) where
   start : AgentSearch
   start = record { task = t; limit = limit; done = start_record t value; failed = false }
 

@@ -3,7 +3,7 @@
 use Rattle.std.specs.Prelude.{◌≡◌, ◌-◌, ◌*◌, ◌+◌, ◌<◌, ◌≤◌, ◌^◌, true, false, List, [], ◌++◌}
 use Rattle.std.specs.Prelude.{length, map, All, IfSome, Result, Ok, Err}
 use Rattle.mp_task.specs.AgentTask.{AgentTask}
-use Rattle.mp_task.specs.Limits.{IsWithinLimits}
+use Rattle.mp_task.specs.Limits.{IsWithinLimits, most_expansions}
 use Rattle.mp_messages.specs.Spelling.{AreFindings, AreStateNumbers}
 use Rattle.mp_store.specs.declared.entry.Entry.{Entry}
 use Rattle.mp_store.specs.declared.entry.Origin.{Origin}
@@ -61,7 +61,7 @@ sent_state s = map in_bytes (outgoing_of s)
 pub record IsAtWork (s : AgentSearch) : Type 0 where
   pub works : s.failed ≡ false
   pub task : IsWithinLimits s.task
-  pub limit : s.limit ≤ 10000000
+  pub limit : s.limit ≤ most_expansions
   pub within : s.done.expansions ≤ s.limit
   pub sent : length s.done.kept.sent ≤ 200000 * s.done.expansions
   pub entries : All EntryFits s.done.kept.entries

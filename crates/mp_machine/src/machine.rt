@@ -1,6 +1,7 @@
 //! One agent as a pure step.
 
 ghost use Rattle.std.specs.Prelude.{◌≡◌, ◌≤◌, IfOk, IsFalse, None, option_map};
+ghost use Rattle.mp_task.specs.Limits.{most_expansions};
 ghost use Rattle.mp_machine.specs.AgentRecord.{given_verdict, new_record};
 ghost use Rattle.mp_machine.specs.LocalStep.{may};
 ghost use Rattle.mp_machine.specs.Machine.{given, IsStep};
@@ -74,7 +75,7 @@ impl<H: Heuristic> Machine<H> {
         limit: u64,
     ) -> Result<Machine<H>, OutOfMemory>
         requires from_1 { 1 ≤ limit }
-        requires limit { limit ≤ 10000000 }
+        requires limit { limit ≤ most_expansions }
         requires heuristic { H.is_for heuristic task }
         ensures { IfOk result (λ made. made ≡ record {
           done = new_record task (H.value task) limit;

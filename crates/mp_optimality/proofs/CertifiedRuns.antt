@@ -71,7 +71,7 @@ has_cost last a cost steps is answer = subst (λ x. IsSome (solved_cost x)) (sym
 abbrev as_ok : Solution → Result Solution Bool
 as_ok s = Ok s
 
-module _ (limit : ℕ) (team : List Factor) (tasks : Tasks) (r : TeamRun) (ended : HasEnded nothing_known limit tasks.tasks r) where
+module _ (limit : ℕ) (team : List Factor) (tasks : Tasks) (r : TeamRun) (ended : HasEnded (team_with nothing_known limit tasks.tasks) r) where
   leads : run (team_with nothing_known limit tasks.tasks) r.schedule ≡ Some r.world
   leads = sym (λ i. run (team_with nothing_known (ended.done.limit_is i) (ended.done.tasks_are i)) r.schedule) ∙ ended.done.run.leads
 

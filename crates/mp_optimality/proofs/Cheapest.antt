@@ -22,9 +22,10 @@ use Rattle.mp_solutions.proofs.Plans.{least_for_files}
 use Rattle.mp_split.specs.Team.{AreTasksOf}
 use Rattle.mp_split.specs.declared.team.Tasks.{Tasks}
 use Rattle.mp_stands.proofs.Files.{files_stand}
-use Rattle.mp_task.specs.Agree.{Agree}
+use Rattle.mp_task.specs.Agreement.{AreNumbered, IsTeamMember}
 use Rattle.mp_task.specs.AgentTask.{AgentTask}
 use Rattle.mp_task.specs.Plan.{TaskSolves, TaskStep, task_cost}
+use Rattle.mp_task.proofs.Agreeing.{agree_numbered}
 use Rattle.mp_optimality.specs.Told.{is_optimal, is_shown, is_valid}
 
 -- the laws of verdicts and of audits
@@ -33,11 +34,11 @@ pub record Laws : Type 0 where
       (team : List Factor) (plan : List PlanStep) (cost : ℕ)
       → (verdict team plan ≡ Valid cost) ↔ (Solves (team_of team) plan × (cost_of (team_of team) plan ≡ cost))
   pub wrong :
-      (tasks : List AgentTask) (certificate : Certificate) → Agree tasks
+      (tasks : List AgentTask) (certificate : Certificate) → AreNumbered tasks
       → (verdict_on tasks certificate ≡ Holds) ↔ Audited tasks certificate
   pub least :
       (tasks : List AgentTask) (certificate : Certificate) (t : AgentTask) (plan : List TaskStep)
-      → Agree tasks → Contains tasks t → Audited tasks certificate → TaskSolves tasks plan
+      → IsTeamMember tasks t → Audited tasks certificate → TaskSolves tasks plan
       → certificate.cost ≤ task_cost tasks plan
 
 valid_at : (found : CheckVerdict) (stated : ℕ) → is_valid found stated ≡ true → found ≡ Valid stated
@@ -69,9 +70,9 @@ module _ (laws : Laws) (team : List Factor) (t : Tasks) (checked : All IsChecked
       let stands = found.2 in
       let one_each = stands.one_each in
       let member = some_task t.tasks (omega (arith, one_each, some)) in
-      let audited = (laws.wrong t.tasks certificate stands.agree).0 holds in
+      let audited = (laws.wrong t.tasks certificate (agree_numbered t.tasks stands.agree)).0 holds in
       least_for_files team found.0 t.tasks stands certificate.cost
-      (λ steps solves. laws.least t.tasks certificate member.0 steps stands.agree member.1 audited solves)
+      (λ steps solves. laws.least t.tasks certificate member.0 steps (record { agree = stands.agree; in_team = member.1 }) audited solves)
 
   pub cheapest : (plan : PlanText) → is_optimal (verdict team plan.plan) (verdict_on t.tasks certificate) certificate.cost plan.cost ≡ true
       → IsCheapest team plan.cost (length plan.plan) plan.plan

@@ -1,4 +1,4 @@
--- The tasks of a team agree, there is one for each agent, and they keep the limits.
+-- There is a task for each agent of a team, and they keep the limits.
 use Rattle.std.proofs.Common.{◌≡◌, ◌≤◌, List, length, map, All, refl, sym, subst, arith}
 use Rattle.std.specs.List.{AllByRecursion}
 use Rattle.std.proofs.lemmas.List.Elements.{All-from_recursion}
@@ -15,11 +15,7 @@ use Rattle.mp_split.proofs.FirstAgents.{all_ready}
 use Rattle.mp_split.proofs.OneTask.{within_limits}
 use Rattle.mp_split.proofs.Together.{of_one_team, same_task}
 use Rattle.mp_stands.proofs.Files.{files_stand}
-use Rattle.mp_task.specs.Agree.{Agree}
 use Rattle.mp_task.specs.Limits.{IsWithinLimits}
-
-pub agreeing : (team : List Factor) (t : Tasks) → All IsChecked team → AreTasksOf team t → Agree t.tasks
-agreeing team t checked are = (files_stand team t checked are).2.agree
 
 pub as_many_tasks : (team : List Factor) (t : Tasks) → All IsChecked team → AreTasksOf team t → length t.tasks ≡ length team
 as_many_tasks team t checked are = (files_stand team t checked are).2.one_each

@@ -2,11 +2,10 @@
 
 ghost use Rattle.std.specs.Prelude.{◌≡◌, ◌≤◌, Ok, IfOk, IfErr, false, length};
 ghost use Rattle.mp_audit.specs.Failures.{verdict_on};
-ghost use Rattle.mp_audit.specs.Fits.{CertificateFits};
+ghost use Rattle.mp_audit.specs.Fits.{IsCertificateFor};
 ghost use Rattle.mp_audit.specs.FlatCertificates.{certificate_of};
 ghost use Rattle.mp_plan_verdict.specs.Verdict.{verdict};
 ghost use Rattle.mp_plans.specs.Verdict.{verdict_text as verdict_text_of};
-ghost use Rattle.mp_task.specs.Agree.{Agree};
 ghost use Rattle.mp_text.specs.Lines.{Text};
 ghost use Rattle.mp_optimality.specs.Audits.{IsAudited, IsRefusedAudit, Tells};
 ghost use Rattle.mp_optimality.specs.Told.{audit_text as audit_text_of, is_shown as is_shown_by};
@@ -77,8 +76,7 @@ fn audited(
     requires some { 1 ≤ length factors.now }
     requires at_most { length factors.now ≤ 16 }
     requires short { length plan.now.plan ≤ 4194304 }
-    requires agree { Agree tasks.now }
-    requires fits { CertificateFits tasks.now (certificate_of certificate.now) }
+    requires certificate { IsCertificateFor tasks.now (certificate_of certificate.now) }
     ensures { IfOk result (Tells (verdict factors.now plan.now.plan)
         (verdict_on tasks.now (certificate_of certificate.now)) certificate.now.cost plan.now.cost) }
 {

@@ -10,7 +10,7 @@ use Rattle.mp_sets.specs.Numbers.{holds}
 use Rattle.mp_task.specs.declared.act.Act.{Act}
 use Rattle.mp_task.specs.declared.act.Far.{Far}
 use Rattle.mp_task.specs.AgentTask.{AgentTask}
-use Rattle.mp_task.specs.Agree.{Agree, FitsTeam}
+use Rattle.mp_task.specs.Agreement.{FitsTeam, IsTeamMember}
 use Rattle.mp_task.specs.Met.{is_met}
 use Rattle.mp_task.specs.Plan.{JointState, TaskStep, act_of, after_step, private_of}
 use Rattle.mp_task.specs.Public.{is_public, is_private, part_of}
@@ -79,14 +79,14 @@ module _ (tasks : List AgentTask) where
       record { step = rest.step; act = rest.act; by = rest.by; is = rest.is; public = rest.public; may = ap (λ p. holds p rest.act.pre_pub) (sym same) ∙ rest.may }
 
   -- which is known to each other agent
-  pub known_to_others : (agent : ℕ) (t : AgentTask) (s reached : JointState) (steps : List TaskStep) → Agree tasks → Contains tasks t → t.me ≢ agent → IsBlock tasks agent s steps reached → (part : Far) × Contains t.far part × (part.by ≡ agent) × (holds s.publics part.pre ≡ true)
-  known_to_others agent t s reached steps agree here other is_block =
+  pub known_to_others : (agent : ℕ) (t : AgentTask) (s reached : JointState) (steps : List TaskStep) → IsTeamMember tasks t → t.me ≢ agent → IsBlock tasks agent s steps reached → (part : Far) × Contains t.far part × (part.by ≡ agent) × (holds s.publics part.pre ≡ true)
+  known_to_others agent t s reached steps member other is_block =
       let it = block_public agent s reached steps is_block in
       let of = step_parts tasks it.step it.act it.is in
       let u = of.task in
-      let number : u.me ≡ agent = number_at tasks agree of.place u of.within of.is ∙ sym of.agent ∙ it.by in
+      let number : u.me ≡ agent = number_at tasks member.agree.numbered of.place u of.within of.is ∙ sym of.agent ∙ it.by in
       let part = part_of agent it.act in
-      let among : Contains t.far part = ((All-contains (FitsTeam tasks) tasks t agree.team here).far.exact part).1 (record {
+      let among : Contains t.far part = ((All-contains (FitsTeam tasks) tasks t member.agree.team member.in_team).far.exact part).1 (record {
         other = u;
         in_team = (of.place, of.within, of.is);
         another = λ e. other (sym e ∙ number);

@@ -13,7 +13,7 @@ use Rattle.mp_runs.proofs.Costs.{plan_cost-append}
 use Rattle.mp_runs.proofs.Runs.{run_cut, run_parts, run-none}
 use Rattle.mp_sets.specs.Numbers.{holds}
 use Rattle.mp_task.specs.AgentTask.{AgentTask}
-use Rattle.mp_task.specs.Agree.{Agree}
+use Rattle.mp_task.specs.Agreement.{AreNumbered}
 use Rattle.mp_task.specs.Met.{is_met}
 use Rattle.mp_task.specs.Plan.{JointState, TaskStep, SolvesFrom, private_of, after_step, goals_hold, step_cost, task_cost, team_system}
 use Rattle.mp_task.proofs.Agreeing.{number_at}
@@ -86,13 +86,13 @@ pub record IsInOrder (tasks : List AgentTask) (s : JointState) (plan : List Task
   pub ordered : IsOrdered tasks s steps
   pub cheaper : task_cost tasks steps ≤ task_cost tasks plan
 
-module _ (tasks : List AgentTask) (agree : Agree tasks) where
+module _ (tasks : List AgentTask) (are : AreNumbered tasks) where
   -- where no step is public
   closing_alone : (s : JointState) (plan : List TaskStep) → list_all (λ x. not (is_shown tasks x)) plan ≡ true → IsSolved tasks s plan → IsInOrder tasks s plan
   closing_alone s plan hidden it =
       let each : (u : AgentTask) → Contains tasks u → (holds it.last.publics u.goal_pub ≡ true) × (is_met u (private_of it.last u.me) ≡ true) =
       λ u here. and_parts (holds it.last.publics u.goal_pub) (is_met u (private_of it.last u.me)) (all_at (λ t. holds it.last.publics t.goal_pub && is_met t (private_of it.last t.me)) tasks u it.goals here) in
-      let numbered = numbered_by_place 1 tasks (λ i t within is. let e = number_at tasks agree i t within is in omega arith) in
+      let numbered = numbered_by_place 1 tasks (λ i t within is. let e = number_at tasks are.numbered i t within is in omega arith) in
       let done = closed tasks 1 tasks s it.last plan (omega arith) numbered hidden it.ran (λ u here. (each u here).1) in
       let same : it.last.publics ≡ done.reached.publics = private_run tasks s it.last plan hidden it.ran ∙ sym done.publics in
       record {

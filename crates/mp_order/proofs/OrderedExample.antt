@@ -1,5 +1,5 @@
 -- The worked team: that the tasks agree, which plans solve and what they cost, and the one in order.
-use Rattle.std.proofs.Common.{◌≡◌, ◌≤◌, ◌≢◌, true, false, [], ◌∷◌, refl, sym, ap, ◌∙◌, ⊎_elim, arith}
+use Rattle.std.proofs.Common.{◌≡◌, ◌<◌, ◌≤◌, ◌≢◌, ℕ, true, false, [], ◌∷◌, refl, sym, ap, ◌∙◌, ⊎_elim, arith}
 use Rattle.std.proofs.lemmas.Bool.{false≢true}
 use Rattle.std.proofs.lemmas.List.Elements.{All-cons, All-nil}
 use Rattle.std.specs.FinSet as set
@@ -7,12 +7,15 @@ use Rattle.std.specs.List.{Contains, AllPairs}
 use Rattle.mp_list.proofs.Members.{contains_cases, contains_one}
 use Rattle.mp_runs.specs.Run.{run}
 use Rattle.mp_sets.proofs.NumbersLemmas.{contains-after}
+use Rattle.mp_task.specs.declared.act.Act.{Act}
+use Rattle.mp_task.specs.declared.act.Far.{Far}
 use Rattle.mp_task.specs.AgentTask.{AgentTask}
-use Rattle.mp_task.specs.Agree.{Agree, FitsTeam, SayAlike}
+use Rattle.mp_task.specs.Agreement.{AreTeamTasks, FitsTeam, SayAlike}
+use Rattle.mp_task.specs.Limits.{ActFits, AllLess, FarFits, IsWithinLimits}
 use Rattle.mp_task.specs.Met.{is_met, met_at_start}
 use Rattle.mp_task.specs.Plan.{JointState, SolvesFrom, TaskSolves, after_act, goals_hold, joint_start, private_of, task_cost}
 use Rattle.mp_task.proofs.FarLists.{parts_in, parts_of_others, others_are_exact}
-use Rattle.mp_order.specs.Examples.{privately, serve, carry, served, carried, cook, waiter, cook_and_waiter, washing, serving, resting, fetching, carrying, collecting, unordered, ordered, meal_out}
+use Rattle.mp_order.specs.Examples.{privately, serve, carry, served, carried, cook, waiter, one_of_two, cook_and_waiter, washing, serving, resting, fetching, carrying, collecting, unordered, ordered, meal_out}
 use Rattle.mp_order.specs.Ordered.{IsOrdered}
 use Rattle.mp_order.specs.Ordered.IsBlock.{by_public, by_private}
 use Rattle.mp_order.specs.Ordered.IsClosingGroup.{met, unmet}
@@ -56,14 +59,66 @@ as_the_cook t here =
     (λ later. let e = contains_one waiter t later in record { publics = ap (λ (u : AgentTask). u.publics) e; start_pub = ap (λ (u : AgentTask). u.start_pub) e; goal_pub = ap (λ (u : AgentTask). u.goal_pub) e })
     (contains_cases cook (waiter ∷ []) t here)
 
-pub two_agree : Agree cook_and_waiter
-two_agree = record {
-  numbered = refl;
-  team = All-cons (FitsTeam cook_and_waiter) cook (waiter ∷ []) cook_fits (All-cons (FitsTeam cook_and_waiter) waiter [] waiter_fits (All-nil (FitsTeam cook_and_waiter)));
-  alike = λ t u here there.
-      let a = as_the_cook t here in
-      let b = as_the_cook u there in
-      record { publics = a.publics ∙ sym b.publics; start_pub = a.start_pub ∙ sym b.start_pub; goal_pub = a.goal_pub ∙ sym b.goal_pub };
+-- each of the two keeps the limits
+none : AllLess 2 []
+none = All-nil (λ x. x < 2)
+
+one : (x : ℕ) → x < 2 → AllLess 2 (x ∷ [])
+one x less = All-cons (λ y. y < 2) x [] less none
+
+privately_fits : (fact : ℕ) → fact < 2 → ActFits 2 2 (privately fact)
+privately_fits fact less = record { pre_pub = none; pre_priv = none; add_pub = none; add_priv = one fact less; del_pub = none; del_priv = none; cost = omega arith }
+
+serve_fits : ActFits 2 2 serve
+serve_fits = record { pre_pub = none; pre_priv = one 0 (omega arith); add_pub = one 0 (omega arith); add_priv = none; del_pub = none; del_priv = none; cost = omega arith }
+
+carry_fits : ActFits 2 2 carry
+carry_fits = record {
+  pre_pub = one 0 (omega arith);
+  pre_priv = one 0 (omega arith);
+  add_pub = one 1 (omega arith);
+  add_priv = none;
+  del_pub = one 0 (omega arith);
+  del_priv = none;
+  cost = omega arith;
+}
+
+one_within : (me : ℕ) (shown : Act) (part : Far) → 1 ≤ me → me ≤ 2 → ActFits 2 2 shown → FarFits 2 2 part → IsWithinLimits (one_of_two me shown part)
+one_within me shown part from_1 in_team shown_fits part_fits = record {
+  at_most_16_agents = omega arith;
+  from_1 = from_1;
+  in_team = in_team;
+  a_flag_each = refl;
+  publics = omega arith;
+  privates = omega arith;
+  start_pub = none;
+  start_priv = none;
+  goal_pub = one 1 (omega arith);
+  goal_priv = one 1 (omega arith);
+  number_of_acts = omega arith;
+  number_of_far = omega arith;
+  acts =
+      All-cons (ActFits 2 2) (privately 0) (shown ∷ privately 1 ∷ []) (privately_fits 0 (omega arith))
+      (All-cons (ActFits 2 2) shown (privately 1 ∷ []) shown_fits (All-cons (ActFits 2 2) (privately 1) [] (privately_fits 1 (omega arith)) (All-nil (ActFits 2 2))));
+  far = All-cons (FarFits 2 2) part [] part_fits (All-nil (FarFits 2 2));
+}
+
+pub are_a_team : AreTeamTasks cook_and_waiter
+are_a_team = record {
+  agree = record {
+    numbered = refl;
+    team = All-cons (FitsTeam cook_and_waiter) cook (waiter ∷ []) cook_fits (All-cons (FitsTeam cook_and_waiter) waiter [] waiter_fits (All-nil (FitsTeam cook_and_waiter)));
+    alike = λ t u here there.
+        let a = as_the_cook t here in
+        let b = as_the_cook u there in
+        record { publics = a.publics ∙ sym b.publics; start_pub = a.start_pub ∙ sym b.start_pub; goal_pub = a.goal_pub ∙ sym b.goal_pub };
+  };
+  within =
+      All-cons IsWithinLimits cook (waiter ∷ [])
+      (one_within 1 serve carried (omega arith) (omega arith) serve_fits (record { from_1 = omega arith; in_team = omega arith; pre = one 0 (omega arith); add = one 1 (omega arith); del = one 0 (omega arith); cost = omega arith }))
+      (All-cons IsWithinLimits waiter []
+      (one_within 2 carry served (omega arith) (omega arith) carry_fits (record { from_1 = omega arith; in_team = omega arith; pre = none; add = one 0 (omega arith); del = none; cost = omega arith }))
+      (All-nil IsWithinLimits));
 }
 
 pub unordered_solves : TaskSolves cook_and_waiter unordered

@@ -1,7 +1,7 @@
 //! A worked team and its plans. Each law is the contract of a function that does nothing.
 
 ghost use Rattle.std.specs.Prelude.{◌≡◌, [], ◌∷◌};
-ghost use Rattle.mp_task.specs.Agree.{Agree};
+ghost use Rattle.mp_task.specs.Agreement.{AreTeamTasks};
 ghost use Rattle.mp_task.specs.Plan.{SolvesFrom, TaskSolves, joint_start, task_cost};
 ghost use Rattle.mp_order.specs.Examples.{cook_and_waiter, unordered, ordered, meal_out, resting, collecting, washing};
 ghost use Rattle.mp_order.specs.Ordered.{IsOrdered};
@@ -9,7 +9,7 @@ ghost use Rattle.mp_order.specs.Ordered.{IsOrdered};
 /// A plan of two agents that is out of order, and that plan in order, which costs one less: what the cook does once
 /// more after its private goals hold is not in it.
 pub fn worked_plan_is_put_in_order()
-    ensures agree { Agree cook_and_waiter }
+    ensures team { AreTeamTasks cook_and_waiter }
     ensures solves { TaskSolves cook_and_waiter unordered }
     ensures costs_7 { task_cost cook_and_waiter unordered ≡ 7 }
     ensures in_order { IsOrdered cook_and_waiter (joint_start cook_and_waiter) ordered }

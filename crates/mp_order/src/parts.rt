@@ -5,7 +5,7 @@ ghost use Rattle.mp_runs.specs.System.{state_after};
 ghost use Rattle.mp_sets.specs.Numbers.{holds};
 ghost use Rattle.mp_task.specs.declared.act.Far.{Far as Part};
 ghost use Rattle.mp_task.specs.AgentTask.{AgentTask};
-ghost use Rattle.mp_task.specs.Agree.{Agree};
+ghost use Rattle.mp_task.specs.Agreement.{IsTeamMember};
 ghost use Rattle.mp_task.specs.Met.{is_met};
 ghost use Rattle.mp_task.specs.Plan.{JointState, TaskStep, private_of, team_system};
 ghost use Rattle.mp_order.specs.Ordered.{IsBlock, IsClosingGroup, AreClosingGroups};
@@ -28,7 +28,7 @@ pub fn blocks_lead()
 pub fn blocks_concern_their_agents()
     ensures { (tasks : List AgentTask) (agent : ℕ) (t : AgentTask) (s reached : JointState)
         (steps : List TaskStep)
-        → Agree tasks → Contains tasks t → t.me ≢ agent → IsBlock tasks agent s steps reached
+        → IsTeamMember tasks t → t.me ≢ agent → IsBlock tasks agent s steps reached
         → (part : Part) × Contains t.far part × (part.by ≡ agent)
         × IsTrue (holds s.publics part.pre) }
 {}

@@ -8,7 +8,7 @@ use Rattle.mp_list.proofs.Members.{contains_head, contains_tail}
 use Rattle.mp_runs.proofs.Costs.{plan_cost-append, plan_cost-cons}
 use Rattle.mp_task.specs.declared.act.Act.{Act}
 use Rattle.mp_task.specs.AgentTask.{AgentTask}
-use Rattle.mp_task.specs.Agree.{Agree}
+use Rattle.mp_task.specs.Agreement.{IsTeamMember}
 use Rattle.mp_task.specs.Met.{is_met}
 use Rattle.mp_task.specs.Plan.{JointState, TaskStep, goals_hold, private_of, step_cost, task_cost, team_system}
 use Rattle.mp_task.specs.Public.{is_public, is_private}
@@ -24,7 +24,7 @@ use Rattle.mp_reach.specs.LeadsOn.LeadsOn.{alone, to_another}
 use Rattle.mp_reach.specs.Ways.{Way}
 use Rattle.mp_reach.specs.Ways.Way.{arrived, onward}
 
-module _ (tasks : List AgentTask) (agree : Agree tasks) where
+module _ (tasks : List AgentTask) (someone : AgentTask) (member : IsTeamMember tasks someone) where
   -- a joint state in an agent's search
   abbrev at : AgentTask → JointState → Known
   at t s = record { agent = t.me; state = s }
@@ -136,7 +136,7 @@ module _ (tasks : List AgentTask) (agree : Agree tasks) where
       let of = step_parts tasks it.step it.act it.is in
       let t = of.task in
       let here : Contains tasks t = (of.place, of.within, of.is) in
-      let number : agent ≡ t.me = sym it.by ∙ of.agent ∙ sym (number_at tasks agree of.place t of.within of.is) in
+      let number : agent ≡ t.me = sym it.by ∙ of.agent ∙ sym (number_at tasks member.agree.numbered of.place t of.within of.is) in
       block_turn t s next steps later here (subst (λ a. IsBlock tasks a s steps next) number now) (ordered_turn next later rest)
     where
       block_turn : (t : AgentTask) (s next : JointState) (steps later : List TaskStep) → Contains tasks t → IsBlock tasks t.me s steps next → IsNext next (task_cost tasks later) → IsNext s (task_cost tasks (steps ++ later))
@@ -146,7 +146,7 @@ module _ (tasks : List AgentTask) (agree : Agree tasks) where
             task = t;
             in_team = here;
             concerned = λ u there other.
-                let known = known_to_others tasks t.me u s next steps agree there (λ e. other (sym e)) now in
+                let known = known_to_others tasks t.me u s next steps (record { agree = member.agree; in_team = there }) (λ e. other (sym e)) now in
                 record { another = other; because = inl known };
             goes_on = subst (HasWay t s) (omega arith) (block_way t s next steps (task_cost tasks later) here now turn);
           })
@@ -157,9 +157,9 @@ module _ (tasks : List AgentTask) (agree : Agree tasks) where
     pub in_team : Contains tasks task
     pub goes_on : HasWay task s cost
 
-  pub ordered_way : (t : AgentTask) (s : JointState) (plan : List TaskStep) → Contains tasks t → IsOrdered tasks s plan → HasStart s (task_cost tasks plan)
-  ordered_way t s plan here ordered =
+  pub ordered_way : (s : JointState) (plan : List TaskStep) → IsOrdered tasks s plan → HasStart s (task_cost tasks plan)
+  ordered_way s plan ordered =
       ⊎_elim
-      (λ done. record { task = t; in_team = here; goes_on = subst (HasWay t s) (sym done.1) (record { end = at t s; way = arrived (at t s); goal = done.0 }) })
+      (λ done. record { task = someone; in_team = member.in_team; goes_on = subst (HasWay someone s) (sym done.1) (record { end = at someone s; way = arrived (at someone s); goal = done.0 }) })
       (λ turn. record { task = turn.task; in_team = turn.in_team; goes_on = turn.goes_on })
       (ordered_turn s plan ordered)

@@ -8,7 +8,7 @@ use Rattle.mp_store.specs.declared.entry.Mark.TheVariants.{Open, Expanded}
 use Rattle.mp_task.specs.AgentTask.{AgentTask}
 use Rattle.mp_task.specs.Plan.{goals_hold, joint_start, task_cost}
 use Rattle.mp_order.specs.Examples.{cook, waiter, cook_and_waiter, unordered}
-use Rattle.mp_order.proofs.OrderedExample.{two_agree, unordered_solves}
+use Rattle.mp_order.proofs.OrderedExample.{are_a_team, unordered_solves}
 use Rattle.mp_reach.specs.Examples.{root, root_entry, begun, forgotten}
 use Rattle.mp_reach.specs.Explored.{IsAt, HasEntry, HasWitness}
 use Rattle.mp_reach.specs.Explored.HasWitness.{open_entry, under_way, goal_entry}
@@ -63,4 +63,4 @@ no_witness cost (goal_entry i e here goal within) = false≢true (sym no_goal �
 pub forgotten_is_not : IsTeamExplored cook_and_waiter None forgotten → ⊥
 forgotten_is_not x =
     no_witness (task_cost cook_and_waiter unordered)
-    (plan_witness cook_and_waiter cook forgotten unordered two_agree (contains_head cook (waiter ∷ [])) x unordered_solves)
+    (plan_witness cook_and_waiter cook forgotten unordered (record { agree = are_a_team.agree; in_team = contains_head cook (waiter ∷ []) }) x unordered_solves)

@@ -1,9 +1,8 @@
 //! Laws of what a team's agents have found. Each is the contract of a function that does nothing.
 
-ghost use Rattle.std.specs.Prelude.{◌≡◌, ℕ, List, Some, None, All, Contains};
+ghost use Rattle.std.specs.Prelude.{◌≡◌, ℕ, List, Some, None, Contains};
 ghost use Rattle.mp_task.specs.AgentTask.{AgentTask};
-ghost use Rattle.mp_task.specs.Agree.{Agree};
-ghost use Rattle.mp_task.specs.Limits.{IsWithinLimits};
+ghost use Rattle.mp_task.specs.Agreement.{AreTeamTasks, IsTeamMember};
 ghost use Rattle.mp_task.specs.Plan.{
   IsJointState,
   SolvesFrom,
@@ -43,7 +42,7 @@ pub fn ways_are_plans()
 /// agents has the empty plan and no search, so that some agent is named.
 pub fn plans_have_ways()
     ensures { (tasks : List AgentTask) (t : AgentTask) (plan : List TaskStep)
-        → Agree tasks → Contains tasks t → TaskSolves tasks plan
+        → IsTeamMember tasks t → TaskSolves tasks plan
         → HasWayWithin tasks (task_cost tasks plan) }
 {}
 
@@ -51,11 +50,11 @@ pub fn plans_have_ways()
 /// agent's search, and where it has none, no agent's search leads on to a goal.
 pub fn values_are_bounds_of_ways<H: Heuristic>()
     ensures bounds { (tasks : List AgentTask) (t : AgentTask) (k : Known) (h : ℕ)
-        → Agree tasks → All IsWithinLimits tasks → Contains tasks t → IsJointState tasks k.state
+        → AreTeamTasks tasks → Contains tasks t → IsJointState tasks k.state
         → H.value t k.state.publics (private_of k.state t.me) ≡ Some h
         → IsTeamBound tasks k h }
     ensures hopeless { (tasks : List AgentTask) (t : AgentTask) (k : Known)
-        → Agree tasks → All IsWithinLimits tasks → Contains tasks t → IsJointState tasks k.state
+        → AreTeamTasks tasks → Contains tasks t → IsJointState tasks k.state
         → H.value t k.state.publics (private_of k.state t.me) ≡ None
         → IsTeamHopeless tasks k }
 {}
@@ -65,7 +64,7 @@ pub fn values_are_bounds_of_ways<H: Heuristic>()
 pub fn plans_leave_a_witness<I>()
     ensures { (tasks : List AgentTask) (t : AgentTask) (found : Found I Known)
         (plan : List TaskStep)
-        → Agree tasks → Contains tasks t
+        → IsTeamMember tasks t
         → IsTeamExplored tasks None found → TaskSolves tasks plan
         → HasWitness (IsGoal tasks) found (task_cost tasks plan) }
 {}

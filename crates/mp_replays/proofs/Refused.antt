@@ -78,8 +78,8 @@ module _ (value : Values) where
         ∙ not_legal last line.event illegal in
         none-some parts.0 (sym stops ∙ parts.1)
 
-    stops_once : (lines : List EventLine) (m n : ℕ) → StopsAt value limit tasks lines m
-        → StopsAt value limit tasks lines n → m ≡ n
+    stops_once : (lines : List EventLine) (m n : ℕ) → StopsAt (team_with value limit tasks) lines m
+        → StopsAt (team_with value limit tasks) lines n → m ≡ n
     stops_once lines m n a b = by
         (parted a.before b.before a.line b.line a.later b.later (sym a.lines_are ∙ b.lines_are))
       where
@@ -93,7 +93,7 @@ module _ (value : Values) where
             (ap (λ lines. run (team_with value limit tasks) (events lines)) (sym begins.is) ∙ a.leads))
 
     no_stop : (lines : List EventLine) (n : ℕ) (w : World) → run (team_with value limit tasks) (events lines) ≡ Some w
-        → StopsAt value limit tasks lines n → ⊥
+        → StopsAt (team_with value limit tasks) lines n → ⊥
     no_stop lines n w ran a =
         no_run a.before a.line a.later a.last w a.leads a.illegal
         (ap (λ lines. run (team_with value limit tasks) (events lines)) (sym a.lines_are) ∙ ran)
@@ -128,8 +128,8 @@ module _ (law : KeepsTasks) (value : Values) (limit : ℕ) (team : List Factor)
       let tasks = one_tasks law team checked a.tasks b.tasks a.are_tasks b.are_tasks in
       let lines = one_reading b.lines a.lines b.read a.read in
       stops_once value limit a.tasks.tasks a.lines m n a.stops
-      (subst (λ ls. StopsAt value limit a.tasks.tasks ls n) lines
-      (subst (λ ts. StopsAt value limit ts b.lines n) tasks b.stops))
+      (subst (λ ls. StopsAt (team_with value limit a.tasks.tasks) ls n) lines
+      (subst (λ ts. StopsAt (team_with value limit ts) b.lines n) tasks b.stops))
 
   -- nothing was found by the events of a text with a refused line
   pub no_refusal : (found : Solution) (n : ℕ) (lines : List EventLine) → schedule_in (length team) text ≡ Ok lines
@@ -139,8 +139,8 @@ module _ (law : KeepsTasks) (value : Values) (limit : ℕ) (team : List Factor)
       let tasks = one_tasks law team checked f.tasks b.tasks f.are_tasks b.are_tasks in
       let same = one_reading b.lines lines b.read read in
       no_stop value limit f.tasks.tasks lines n f.last f.leads
-      (subst (λ ls. StopsAt value limit f.tasks.tasks ls n) same
-      (subst (λ ts. StopsAt value limit ts b.lines n) tasks b.stops))
+      (subst (λ ls. StopsAt (team_with value limit f.tasks.tasks) ls n) same
+      (subst (λ ts. StopsAt (team_with value limit ts) b.lines n) tasks b.stops))
 
   pub not_refused : (found : Solution) (n : ℕ) → IsReplayed value limit team text found
       → IsRefusedLine value limit team text n → ⊥

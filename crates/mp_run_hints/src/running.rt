@@ -4,9 +4,9 @@ ghost use Rattle.std.specs.Prelude.{◌≡◌, ◌≤◌, length, true, All, IfO
 ghost use Rattle.mp_run_hints.specs.Answered.{IsAnswerOf, IsAnswered, values_of};
 ghost use Rattle.mp_schedule.specs.TeamRun.{start_run};
 ghost use Rattle.mp_split.specs.Team.{AreTasksOf};
-ghost use Rattle.mp_task.specs.Agree.{Agree};
 ghost use Rattle.mp_task.specs.Limits.{IsWithinLimits};
 ghost use Rattle.mp_world.specs.RoundRobin.{is_over};
+ghost use Rattle.mp_solve.specs.Machines.{MayBegin};
 ghost use Rattle.mp_world.specs.Team.{most_expansions};
 
 use crate::report::push_report;
@@ -55,11 +55,7 @@ fn begun<H: Heuristic>(
     limit: u64,
     counts: &mut Vec<Count>,
 ) -> Result<World<Counted<H>>, OutOfMemory>
-    requires from_1 { 1 ≤ limit }
-    requires limit { limit ≤ most_expansions }
-    requires agree { Agree tasks }
-    requires some { 1 ≤ length tasks }
-    requires at_most { length tasks ≤ 16 }
+    requires { MayBegin limit tasks }
     ensures start { IfOk result (λ world. world ≡ start_run H.value limit tasks) }
     ensures within { OnOk result (All IsWithinLimits tasks) }
 {

@@ -264,13 +264,5 @@ pub(crate) fn happen<H: Heuristic>(
         Ok(outs) => outs,
         Err(refusal) => return Err(refusal),
     };
-    Ok(finish(
-        alloc,
-        mail,
-        log,
-        machines.len(),
-        event,
-        bytes,
-        outs,
-    )?)
+    Ok(finish(alloc, mail, log, machines.len(), event, bytes, outs)?)
 }

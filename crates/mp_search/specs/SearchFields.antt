@@ -1,6 +1,7 @@
 -- A search as the plain record that contracts see.
 use Rattle.std.specs.Prelude.{◌≡◌, ◌≤◌, ℕ, Bool, false}
 use Rattle.mp_task.specs.AgentTask.{AgentTask}
+use Rattle.mp_task.specs.Limits.{most_expansions}
 use Rattle.mp_applicable.specs.Far.{IsFarIndexOf}
 use Rattle.mp_applicable.specs.Index.{IsIndexOf}
 use Rattle.mp_search.specs.Applying.{HasRoom}
@@ -28,7 +29,7 @@ pub record IsSearch
     (expansions : ℕ)
     (failed : Bool)
     : Type 0 where
-  pub at_most : limit ≤ 10000000
+  pub at_most : limit ≤ most_expansions
   pub within : expansions ≤ limit
   pub heuristic : IsFor t
   pub actions : IsIndexOf t index.actions

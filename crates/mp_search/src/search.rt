@@ -1,6 +1,7 @@
 //! The search of one agent.
 
 ghost use Rattle.std.specs.Prelude.{◌≡◌, ◌≢◌, ◌+◌, ◌<◌, ◌≤◌, ◌^◌, true, false, length, slice_get, Err, IfOk, IsFalse, IsSomeAnd};
+ghost use Rattle.mp_task.specs.Limits.{most_expansions};
 ghost use Rattle.mp_applicable.specs.Far.{IsFarIndexOf};
 ghost use Rattle.mp_applicable.specs.Index.{IsIndexOf};
 ghost use Rattle.mp_search.specs.Answers.{IsExpansion, IsReceipt};
@@ -116,7 +117,7 @@ impl<H: Heuristic> Search<H> {
         limit: u64,
     ) -> Result<Search<H>, OutOfMemory>
         requires from_1 { 1 ≤ limit }
-        requires limit { limit ≤ 10000000 }
+        requires limit { limit ≤ most_expansions }
         requires heuristic { H.is_for heuristic task }
         ensures { IfOk result (λ made. made ≡ record {
           task = task;

@@ -52,7 +52,7 @@ module _ (value : Values) (limit : ℕ) (team : List Factor) (tasks : List Agent
   right_for_files lines Unsolvable right = ([], unsolvable_for_files team numbering tasks stands right, λ log. refl)
   right_for_files lines Undecided right = ([], (right.agent, right.undecided.spent), λ log. refl)
 
-  pub left_for_files : IsRightAnswer (team_with value limit tasks) schedule last Undecided → IsLeftUndecided value limit team tasks schedule last
+  pub left_for_files : IsRightAnswer (team_with value limit tasks) schedule last Undecided → IsLeftUndecided team (team_with value limit tasks) schedule last
   left_for_files right = record {
     left = right;
     least = least_for_files team numbering tasks stands right.undecided.at_limit.least right.undecided.least;

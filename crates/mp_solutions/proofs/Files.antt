@@ -67,7 +67,7 @@ pub left_undecided : (value : Values) (limit : ℕ) (team : List Factor) (t : Ta
     → (AreTeamTasks t.tasks → IsHeuristic value t.tasks)
     → (schedule : List Event) (last : World) → run (team_with value limit t.tasks) schedule ≡ Some last → is_over last ≡ true
     → answer_of last ≡ Undecided
-    → IsLeftUndecided value limit team t.tasks schedule last
+    → IsLeftUndecided team (team_with value limit t.tasks) schedule last
 left_undecided value limit team t all some are limits most heuristic schedule last ran finished undecided =
     let found = files_stand team t all are in
     let stands = found.2 in

@@ -4,12 +4,10 @@ use Rattle.mp_factor.specs.declared.factor.Factor.{Factor}
 use Rattle.mp_joint.specs.declared.plan.PlanStep.{PlanStep}
 use Rattle.mp_joint.specs.FactorContribution.{team_of}
 use Rattle.mp_joint.specs.Plan.{Solves, cost as cost_of}
-use Rattle.mp_task.specs.AgentTask.{AgentTask}
 use Rattle.mp_messages.specs.declared.history.Event.{Event}
 use Rattle.mp_world.specs.declared.answer.Answer.{Answer}
 use Rattle.mp_world.specs.declared.answer.Answer.TheVariants.{Nothing, Solved, Unsolvable, Undecided}
-use Rattle.mp_world.specs.Team.{team_with}
-use Rattle.mp_world.specs.Values.{Values}
+use Rattle.mp_world.specs.Team.{Team}
 use Rattle.mp_world.specs.World.{World}
 use Rattle.mp_team_verdicts.specs.Right.{HasExpanded, IsLeftUndecided as IsTeamLeftUndecided}
 
@@ -43,12 +41,10 @@ module _ (limit : ℕ) (team : List Factor) (last : World) where
 -- The search for a plan is left undecided: an agent is at its limit, as for the tasks, and each plan that solves costs at least
 -- what its least open entry did.
 pub record IsLeftUndecided
-    (value : Values)
-    (limit : ℕ)
-    (team : List Factor)
-    (tasks : List AgentTask)
+    (files : List Factor)
+    (team : Team)
     (schedule : List Event)
     (last : World)
     : Type 0 where
-  pub left : IsTeamLeftUndecided (team_with value limit tasks) schedule last
-  pub least : CostsAtLeast team left.undecided.at_limit.least
+  pub left : IsTeamLeftUndecided team schedule last
+  pub least : CostsAtLeast files left.undecided.at_limit.least

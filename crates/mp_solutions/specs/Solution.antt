@@ -3,14 +3,13 @@ use Rattle.std.specs.Prelude.{◌≡◌, ◌⊎◌, ℕ, Bool, true, false, List
 use Rattle.mp_factor.specs.declared.factor.Factor.{Factor}
 use Rattle.mp_joint.specs.Fact.{Text}
 use Rattle.mp_joint.specs.declared.plan.PlanStep.{PlanStep}
-use Rattle.mp_task.specs.AgentTask.{AgentTask}
 use Rattle.mp_messages.specs.declared.history.Event.{Event}
 use Rattle.mp_messages.specs.History.{schedule as schedule_of}
 use Rattle.mp_world.specs.Answers.{answer_of, outcome_of}
 use Rattle.mp_world.specs.Events.{is_legal, run}
 use Rattle.mp_world.specs.Logs.{IsLog, log_of_run}
 use Rattle.mp_world.specs.RoundRobin.{IsRoundRobin, is_over}
-use Rattle.mp_world.specs.Team.{team_with}
+use Rattle.mp_world.specs.Team.{Team, team_with}
 use Rattle.mp_world.specs.Values.{Values}
 use Rattle.mp_world.specs.World.{World, start_world}
 use Rattle.mp_world.specs.declared.answer.Answer.TheVariants.{Nothing}
@@ -24,20 +23,14 @@ use Rattle.mp_solutions.specs.declared.solution.Solution.{Solution}
 use Rattle.mp_solutions.specs.PlanText.{answer_text}
 use Rattle.mp_solutions.specs.Right.{IsRight}
 
--- the events of these lines lead up to that of the line of this number, which may not happen then
-pub record StopsAt
-    (value : Values)
-    (limit : ℕ)
-    (tasks : List AgentTask)
-    (lines : List EventLine)
-    (number : ℕ)
-    : Type 0 where
+-- the events of these lines lead a team up to that of the line of this number, which may not happen then
+pub record StopsAt (team : Team) (lines : List EventLine) (number : ℕ) : Type 0 where
   pub before : List EventLine
   pub line : EventLine
   pub later : List EventLine
   pub lines_are : lines ≡ before ++ line ∷ later
   pub last : World
-  pub leads : run (team_with value limit tasks) (map (λ line. line.event) before) ≡ Some last
+  pub leads : run team (map (λ line. line.event) before) ≡ Some last
   pub illegal : is_legal last line.event ≡ false
   pub numbered : line.line ≡ number
 
@@ -106,7 +99,7 @@ module _
       pub are_tasks : AreTasksOf team tasks
       pub lines : List EventLine
       pub read : schedule_in (length team) text ≡ Ok lines
-      pub stops : StopsAt value limit tasks.tasks lines number
+      pub stops : StopsAt (team_with value limit tasks.tasks) lines number
 
     -- The line of this number of a schedule's text is refused: it is the first that is neither of an event nor of a
     -- message, or, where there is none, the line of the first event that may not happen.

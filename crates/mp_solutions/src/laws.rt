@@ -46,5 +46,5 @@ pub fn searches_are_left_undecided<H: Heuristic>()
         → All IsWithinLimits tasks.tasks → limit ≤ most_expansions
         → run (team_with H.value limit tasks.tasks) schedule ≡ Some last → is_over last ≡ true
         → answer_of last ≡ Undecided
-        → IsLeftUndecided H.value limit team tasks.tasks schedule last }
+        → IsLeftUndecided team (team_with H.value limit tasks.tasks) schedule last }
 {}

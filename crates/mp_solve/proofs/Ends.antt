@@ -12,7 +12,7 @@ use Rattle.mp_world.specs.Team.{AreTeamTasks, most_expansions, team_with}
 use Rattle.mp_world.specs.Values.{Values}
 use Rattle.mp_world.specs.World.{start_world}
 use Rattle.mp_schedule.specs.Machines.{AreNew, limit_of, new_machine, tasks_of}
-use Rattle.mp_schedule.specs.TeamRun.{HasDone, IsLogged, MayRun, TeamRun, start_run}
+use Rattle.mp_schedule.specs.TeamRun.{HasDone, IsLogged, MayRun, TeamRun, start_run, team_in}
 use Rattle.mp_solve.specs.Ended.{HasDoneAll, HasEnded}
 use Rattle.mp_solve.specs.Machines.{new_machines}
 
@@ -51,7 +51,7 @@ module _ (value : Values) (limit : ℕ) where
 module _ (value : Values) (limit : ℕ) (ts : List AgentTask) where
   -- they have done nothing yet
   pub has_begun : (made : TeamRun) → made ≡ start_run value limit ts → MayRun made → (made.failed ≡ false → IsLogged value made)
-      → HasDoneAll value limit ts [] made
+      → HasDoneAll (team_with value limit ts) [] made
   has_begun made start team runs =
       let free : made.failed ≡ false = ap (λ (r : TeamRun). r.failed) start in
       record {
@@ -65,7 +65,7 @@ module _ (value : Values) (limit : ℕ) (ts : List AgentTask) where
 
   -- from the start they have taken turns until all have ended
   pub has_ended : (old new : TeamRun) → old ≡ start_run value limit ts → HasDone (IsRoundRobin value) old new → MayRun new
-      → (new.failed ≡ false → IsLogged value new) → HasEnded value limit ts new
+      → (new.failed ≡ false → IsLogged value new) → HasEnded (team_with value limit ts) new
   has_ended old new begun done team runs =
       let free : new.failed ≡ false = done.kept ∙ ap (λ (r : TeamRun). r.failed) begun in
       let events : new.schedule ≡ done.events =
@@ -85,7 +85,7 @@ module _ (value : Values) (limit : ℕ) (ts : List AgentTask) where
 
 -- by its own tasks, limit and schedule
 pub of_itself : (value : Values) (limit : ℕ) (ts : List AgentTask) (schedule : List Event)
-    (r : TeamRun) → HasDoneAll value limit ts schedule r → HasDoneAll value r.limit r.tasks r.schedule r
+    (r : TeamRun) → HasDoneAll (team_with value limit ts) schedule r → HasDoneAll (team_in value r) r.schedule r
 of_itself value limit ts schedule r done =
     record {
       tasks_are = refl;
@@ -98,7 +98,7 @@ of_itself value limit ts schedule r done =
 
 -- by other tasks and another limit that are the same
 pub done_for : (value : Values) (limit other : ℕ) (ts us : List AgentTask) (schedule : List Event)
-    (r : TeamRun) → other ≡ limit → us ≡ ts → HasDoneAll value other us schedule r → HasDoneAll value limit ts schedule r
+    (r : TeamRun) → other ≡ limit → us ≡ ts → HasDoneAll (team_with value other us) schedule r → HasDoneAll (team_with value limit ts) schedule r
 done_for value limit other ts us schedule r limits tasks done =
     record {
       tasks_are = done.tasks_are ∙ tasks;

@@ -13,7 +13,7 @@ use Rattle.mp_world.specs.RoundRobin.{is_over}
 use Rattle.mp_world.specs.Values.{Values}
 use Rattle.mp_world.specs.World.{World}
 use Rattle.mp_schedule.specs.Finished.{AreOfRun}
-use Rattle.mp_schedule.specs.TeamRun.{TeamRun}
+use Rattle.mp_schedule.specs.TeamRun.{TeamRun, team_in}
 use Rattle.mp_schedule.proofs.Keeping.{is_run_of}
 use Rattle.mp_text.specs.Outcome.{outcome_text}
 use Rattle.mp_solve.specs.Ended.{HasDoneAll}
@@ -39,7 +39,7 @@ no_text w names log none =
 
 -- the machines of a team that has done something
 pub are_of_run : (value : Values) (r : TeamRun)
-    → HasDoneAll value r.limit r.tasks r.schedule r → (machines : List AgentMachine)
+    → HasDoneAll (team_in value r) r.schedule r → (machines : List AgentMachine)
     → map (λ m. m.done) machines ≡ r.world.agents → AreOfRun value machines
 are_of_run value r done machines agents = record {
   limit = r.limit;

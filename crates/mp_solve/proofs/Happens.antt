@@ -28,10 +28,10 @@ parted items i item within is =
 module _ (value : Values) (limit : ℕ) (tasks : List AgentTask)
     (lines before later : List EventLine) (line : EventLine) (old : TeamRun)
     (are : lines ≡ before ++ line ∷ later)
-    (done : HasDoneAll value limit tasks (map (λ (l : EventLine). l.event) before) old)
+    (done : HasDoneAll (team_with value limit tasks) (map (λ (l : EventLine). l.event) before) old)
   where
     stops_at : (number : ℕ) → is_legal old.world line.event ≡ false → line.line ≡ number
-        → StopsAt value limit tasks lines number
+        → StopsAt (team_with value limit tasks) lines number
     stops_at number illegal numbered =
         record {
           before = before;
@@ -45,6 +45,6 @@ module _ (value : Values) (limit : ℕ) (tasks : List AgentTask)
         }
 
     -- the event of a line does not happen
-    pub stops : (refusal : ReplayRefusal) → MayNot old.world line refusal → Stops value limit tasks lines refusal
+    pub stops : (refusal : ReplayRefusal) → MayNot old.world line refusal → Stops (team_with value limit tasks) lines refusal
     stops (Sizes refusal) is = is
     stops (Line number) (illegal, numbered) = stops_at number illegal numbered

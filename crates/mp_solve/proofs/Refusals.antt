@@ -2,6 +2,7 @@
 use Rattle.std.proofs.Common.{◌≡◌, ◌≤◌, ℕ, List, length, Result, Ok, Err, IfErr, sym, subst, inl, inr}
 use Rattle.mp_factor.specs.declared.factor.Factor.{Factor}
 use Rattle.mp_joint.specs.Fact.{Text}
+use Rattle.mp_world.specs.Team.{team_with}
 use Rattle.mp_world.specs.Values.{Values}
 use Rattle.mp_split.specs.Team.{AreTasksOf, IsFirstRefusal}
 use Rattle.mp_split.specs.declared.team.Tasks.{Tasks}
@@ -25,13 +26,13 @@ module _ (value : Values) (limit : ℕ) (team : List Factor) (text : Text)
         (read : schedule_in (length team) text ≡ Ok lines)
       where
         -- an event that may not happen
-        stopped : (refusal : ReplayRefusal) → Stops value limit tasks.tasks lines refusal
+        stopped : (refusal : ReplayRefusal) → Stops (team_with value limit tasks.tasks) lines refusal
             → Refuses value limit team text refusal
         stopped (Sizes refusal) is = subst (IsFirstRefusal team) (sym is) (no_memory team some)
         stopped (Line number) is =
             (within, inr (record { tasks = tasks; are_tasks = are; lines = lines; read = read; stops = is }))
 
-        pub if_stopped : {X : Type 0} (found : Result X ReplayRefusal) → IfErr found (Stops value limit tasks.tasks lines)
+        pub if_stopped : {X : Type 0} (found : Result X ReplayRefusal) → IfErr found (Stops (team_with value limit tasks.tasks) lines)
             → IfErr found (Refuses value limit team text)
         if_stopped (Ok x) is = tt
         if_stopped (Err refusal) is = stopped refusal is

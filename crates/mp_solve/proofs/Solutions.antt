@@ -31,7 +31,7 @@ module _ (value : Values) (limit : ℕ) (team : List Factor) (tasks : Tasks)
     (some : 1 ≤ length team)
     (are : AreTasksOf team tasks)
     (few_entries : limit ≤ most_expansions)
-    (done : HasDoneAll value limit tasks.tasks schedule r)
+    (done : HasDoneAll (team_with value limit tasks.tasks) schedule r)
   where
     leads : run (team_with value limit tasks.tasks) schedule ≡ Some r.world
     leads =
@@ -74,7 +74,7 @@ module _ (value : Values) (limit : ℕ) (team : List Factor) (tasks : Tasks)
 pub if_solution : (value : Values) (limit : ℕ) (team : List Factor) (tasks : Tasks)
     (r : TeamRun)
     → AnswersAreRight value → All IsChecked team → 1 ≤ length team → AreTasksOf team tasks → limit ≤ most_expansions
-    → HasEnded value limit tasks.tasks r
+    → HasEnded (team_with value limit tasks.tasks) r
     → {E : Type 0} (found : Result Solution E) → IfOk found (λ s. s.views ≡ tasks.views)
     → IfOk found (λ s. s.log ≡ r.log) → IfOk found (λ s. s.answer ≡ answer_of r.world)
     → IfOk found (λ s. s.text ≡ outcome_text (outcome_of r.world) (names_of team tasks.steps) r.log)

@@ -6,10 +6,10 @@ use Rattle.mp_ground.specs.declared.refusal.GroundRefusal.TheVariants.{OutOfMemo
 use Rattle.mp_joint.specs.Fact.{Text}
 use Rattle.mp_solutions.specs.Solution.{IsRefusedLine, StopsAt}
 use Rattle.mp_split.specs.Team.{IsFirstRefusal, known_at}
-use Rattle.mp_task.specs.AgentTask.{AgentTask}
 use Rattle.mp_text.specs.Schedule.{schedule_in}
 use Rattle.mp_text.specs.declared.schedule.EventLine.{EventLine}
 use Rattle.mp_world.specs.Events.{is_legal}
+use Rattle.mp_world.specs.Team.{Team}
 use Rattle.mp_world.specs.Values.{Values}
 use Rattle.mp_world.specs.World.{World}
 use Rattle.mp_solve.specs.declared.refusal.ReplayRefusal.{ReplayRefusal}
@@ -21,10 +21,9 @@ AreWithin team =
     (place : ℕ) (factor : Factor) → slice_get team place ≡ Some factor → IsWithin (known_at team place factor)
 
 -- memory ran out, or an event of these lines may not happen when it is its turn
-abbrev pub Stops
-    : Values → ℕ → List AgentTask → List EventLine → ReplayRefusal → Type 0
-Stops value limit tasks lines (Sizes refusal) = refusal ≡ OutOfMemory
-Stops value limit tasks lines (Line number) = StopsAt value limit tasks lines number
+abbrev pub Stops : Team → List EventLine → ReplayRefusal → Type 0
+Stops team lines (Sizes refusal) = refusal ≡ OutOfMemory
+Stops team lines (Line number) = StopsAt team lines number
 
 -- memory ran out, or the event of this line may not happen in a world
 abbrev pub MayNot : World → EventLine → ReplayRefusal → Type 0

@@ -1,13 +1,12 @@
 //! The machines of a team, and their turns.
 
-ghost use Rattle.std.specs.Prelude.{◌≡◌, ◌≤◌, [], length, All, IfOk};
+ghost use Rattle.std.specs.Prelude.{◌≡◌, ◌≤◌, [], All, IfOk};
 ghost use Rattle.mp_schedule.specs.Machines.{new_machine};
 ghost use Rattle.mp_schedule.specs.TeamRun.{start_run};
 ghost use Rattle.mp_solve.specs.Ended.{HasDoneAll, HasEnded};
-ghost use Rattle.mp_solve.specs.Machines.{new_machines};
-ghost use Rattle.mp_task.specs.Agree.{Agree};
+ghost use Rattle.mp_solve.specs.Machines.{MayBegin, new_machines};
 ghost use Rattle.mp_task.specs.Limits.{IsWithinLimits};
-ghost use Rattle.mp_world.specs.Team.{most_expansions};
+ghost use Rattle.mp_world.specs.Team.{most_expansions, team_with};
 
 use mp_list::OutOfMemory;
 use mp_machine::Machine;
@@ -68,13 +67,9 @@ pub(crate) fn begun<H: Heuristic>(
     tasks: TaskList,
     limit: u64,
 ) -> Result<World<H>, OutOfMemory>
-    requires from_1 { 1 ≤ limit }
-    requires limit { limit ≤ most_expansions }
-    requires agree { Agree tasks }
-    requires some { 1 ≤ length tasks }
-    requires at_most { length tasks ≤ 16 }
+    requires { MayBegin limit tasks }
     ensures start { IfOk result (λ world. world ≡ start_run H.value limit tasks) }
-    ensures team { IfOk result (HasDoneAll H.value limit tasks []) }
+    ensures team { IfOk result (HasDoneAll (team_with H.value limit tasks) []) }
 {
     are_within_limits(tasks.as_slice());
     let machines = machines_of(alloc, tasks, limit)?;
@@ -90,12 +85,8 @@ pub fn ended<H: Heuristic>(
     tasks: TaskList,
     limit: u64,
 ) -> Result<World<H>, OutOfMemory>
-    requires from_1 { 1 ≤ limit }
-    requires limit { limit ≤ most_expansions }
-    requires agree { Agree tasks }
-    requires some { 1 ≤ length tasks }
-    requires at_most { length tasks ≤ 16 }
-    ensures { IfOk result (HasEnded H.value limit tasks) }
+    requires { MayBegin limit tasks }
+    ensures { IfOk result (HasEnded (team_with H.value limit tasks)) }
 {
     let mut world = begun(alloc, tasks, limit)?;
     world.round_robin()?;

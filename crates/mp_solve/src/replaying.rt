@@ -5,9 +5,10 @@ ghost use Rattle.mp_schedule.specs.Happening.{IsOfTeam};
 ghost use Rattle.mp_solutions.specs.Solution.{IsFoundInTurn, IsReplayed};
 ghost use Rattle.mp_solve.specs.Ended.{HasDoneAll};
 ghost use Rattle.mp_solve.specs.Refused.{AreWithin, IsUnread, MayNot, Refuses, Stops};
+ghost use Rattle.mp_schedule.specs.TeamRun.{team_in};
 ghost use Rattle.mp_split.specs.Team.{AreTasksOf};
 ghost use Rattle.mp_text.specs.Schedule.{schedule_in};
-ghost use Rattle.mp_world.specs.Team.{most_expansions};
+ghost use Rattle.mp_world.specs.Team.{most_expansions, team_with};
 
 use crate::machines::begun;
 use crate::refusal::ReplayRefusal;
@@ -25,9 +26,9 @@ use std::alloc::Global;
 
 /// The event of a line happens, if it may.
 fn happen<H: Heuristic>(world: &mut World<H>, line: EventLine) -> Result<(), ReplayRefusal>
-    requires done { HasDoneAll H.value world.old.limit world.old.tasks world.old.schedule world.old }
+    requires done { HasDoneAll (team_in H.value world.old) world.old.schedule world.old }
     requires of_team { IsOfTeam (length world.old.tasks) line.event }
-    ensures done { OnOk result (HasDoneAll H.value world.old.limit world.old.tasks
+    ensures done { OnOk result (HasDoneAll (team_in H.value world.old)
         (world.old.schedule ++ line.event ∷ []) world.new) }
     ensures refused { IfErr result (MayNot world.old.world line) }
 {
@@ -43,11 +44,11 @@ fn happen<H: Heuristic>(world: &mut World<H>, line: EventLine) -> Result<(), Rep
 
 /// The events of these lines happen, one after another, as long as they may.
 fn happen_all<H: Heuristic>(world: &mut World<H>, lines: &[EventLine]) -> Result<(), ReplayRefusal>
-    requires done { HasDoneAll H.value world.old.limit world.old.tasks [] world.old }
+    requires done { HasDoneAll (team_in H.value world.old) [] world.old }
     requires of_team { All (λ line. IsOfTeam (length world.old.tasks) line.event) lines.now }
-    ensures done { OnOk result (HasDoneAll H.value world.old.limit world.old.tasks
+    ensures done { OnOk result (HasDoneAll (team_in H.value world.old)
         (map (λ line. line.event) lines.now) world.new) }
-    ensures refused { IfErr result (Stops H.value world.old.limit world.old.tasks lines.now) }
+    ensures refused { IfErr result (Stops (team_in H.value world.old) lines.now) }
 {
     for line in lines {
         match happen(world, *line) {
@@ -73,7 +74,7 @@ fn replayed<H: Heuristic>(
     requires tasks { AreTasksOf factors.now given }
     requires of_team { All (λ line. IsOfTeam (length factors.now) line.event) lines.now }
     ensures found { IfOk result (IsFoundInTurn H.value limit factors.now (map (λ line. line.event) lines.now)) }
-    ensures refused { IfErr result (Stops H.value limit given.tasks lines.now) }
+    ensures refused { IfErr result (Stops (team_with H.value limit given.tasks) lines.now) }
 {
     let Tasks {
         tasks,

@@ -5,6 +5,7 @@ ghost use Rattle.mp_joint.specs.declared.plan.PlanStep.{PlanStep};
 ghost use Rattle.mp_messages.specs.declared.history.Entry.{Entry};
 ghost use Rattle.mp_outcome.specs.Names.{names_of};
 ghost use Rattle.mp_schedule.specs.Finished.{AreOfRun};
+ghost use Rattle.mp_schedule.specs.TeamRun.{team_in};
 ghost use Rattle.mp_solve.specs.Ended.{HasDoneAll};
 ghost use Rattle.mp_text.specs.Outcome.{outcome_text};
 ghost use Rattle.mp_world.specs.Answers.{answer_of, outcome_of};
@@ -82,7 +83,7 @@ pub(crate) fn solution_of<H: Heuristic>(
     world: World<H>,
 ) -> Result<Solution, OutOfMemory>
     requires team { length factors.now ≤ 16 }
-    requires done { HasDoneAll H.value world.limit world.tasks world.schedule world }
+    requires done { HasDoneAll (team_in H.value world) world.schedule world }
     ensures views { IfOk result (λ s. s.views ≡ views) }
     ensures log { IfOk result (λ s. s.log ≡ world.log) }
     ensures answer { IfOk result (λ s. s.answer ≡ answer_of world.world) }

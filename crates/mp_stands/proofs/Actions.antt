@@ -85,8 +85,8 @@ module _ (team : List Factor) (numbering : Numbering) (tasks : List AgentTask) (
       → Fits (privates_of numbering u.me) (private_of (after_act numbers t.me act) u.me) (holds (named.after i s))
   privates_after numbers s m u there =
       let new = after (private_of numbers t.me) act.del_priv act.add_priv in
-      let mine = number_at tasks stands.agree own.task.0 t own.task.1 own.task.2 in
-      let its = number_at tasks stands.agree there.0 u there.1 there.2 in
+      let mine = number_at tasks stands.agree.numbered own.task.0 t own.task.1 own.task.2 in
+      let its = number_at tasks stands.agree.numbered there.0 u there.1 there.2 in
       elim (cases_eq u.me t.me) [
         | inl same ↦
             let has_set : t.me - 1 < length numbers.privates = omega (arith, mine, m.joint, own.task.1) in

@@ -13,7 +13,7 @@ use Rattle.mp_factor.specs.declared.factor.Factor.{Factor}
 use Rattle.mp_task.specs.declared.act.Act.{Act}
 use Rattle.mp_task.specs.declared.act.Far.{Far}
 use Rattle.mp_task.specs.AgentTask.{AgentTask}
-use Rattle.mp_task.specs.Agree.{IsFarPart, IsFarList, FitsTeam, SayAlike, Agree}
+use Rattle.mp_task.specs.Agreement.{IsFarPart, IsFarList, FitsTeam, SayAlike, Agree}
 use Rattle.mp_task.specs.Met.{is_met, met_at_start}
 use Rattle.mp_task.specs.Public as task
 use Rattle.mp_task.proofs.Agreeing.{Contains-slice_get}

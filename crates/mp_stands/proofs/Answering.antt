@@ -75,7 +75,7 @@ module _ (team : List Factor) (numbering : Numbering) (tasks : List AgentTask) (
       let parts = step_parts tasks number act is in
       let t = parts.task in
       let there : Contains tasks t = (parts.place, parts.within, parts.is) in
-      let me : number.agent ≡ t.me = parts.agent ∙ sym (number_at tasks stands.agree parts.place t parts.within parts.is) in
+      let me : number.agent ≡ t.me = parts.agent ∙ sym (number_at tasks stands.agree.numbered parts.place t parts.within parts.is) in
       let place = same_places (steps_of numbering t.me) t.acts number.action act (stands.tasks_stand t there).acts.one_each parts.own in
       let is_named : IsNamed numbering number place.0 = subst (λ n. slice_get (steps_of numbering n) number.action ≡ Some place.0) (sym me) place.1 in
       let found = has_instance team numbering tasks stands t there number.action act place.0 parts.own place.1 in
@@ -123,7 +123,7 @@ module _ (team : List Factor) (numbering : Numbering) (tasks : List AgentTask) (
         instance_is = is;
         suits = static_suits team step.agent from.factor i s from.at from.sound m.statics went.0;
       } in
-      let its = task_at team tasks step.agent from.factor stands.agree stands.one_each from.at in
+      let its = task_at team tasks step.agent from.factor stands.agree.numbered stands.one_each from.at in
       let t = its.task in
       let place = has_place (steps_of numbering t.me) step ((stands.tasks_stand t its.there).acts.all step from.factor i (sym its.me) grounded) in
       let act = same_places t.acts (steps_of numbering t.me) place.0 step (sym (stands.tasks_stand t its.there).acts.one_each) place.1 in

@@ -4,7 +4,7 @@ use Rattle.std.proofs.lemmas.Bool.{and_parts, and_from, eq-eqb}
 use Rattle.std.proofs.lemmas.List.{get_or-map}
 use Rattle.std.proofs.lemmas.Option.{none-some, same_Some, slice_get_within, slice_get_cases}
 use Rattle.std.specs.FinSet as set
-use Rattle.std.specs.List.{list_all, list_any, filter}
+use Rattle.std.specs.List.{filter, list_all, list_any, range_with_len}
 use Rattle.std.specs.Option.{option_map_or}
 use Rattle.std.specs.Prelude.{Contains}
 use Rattle.mp_list.proofs.Bools.{same_tests}
@@ -20,7 +20,6 @@ use Rattle.mp_joint.specs.Instance.{State, holds, all_true, none_true}
 use Rattle.mp_joint.specs.Plan as joint
 use Rattle.mp_joint.specs.Plan.{joint_goal, joint_never}
 use Rattle.mp_task.specs.AgentTask.{AgentTask}
-use Rattle.mp_task.specs.Agree.{Agree}
 use Rattle.mp_task.specs.Met.{is_met}
 use Rattle.mp_task.specs.Plan as task
 use Rattle.mp_task.specs.Plan.{JointState, task_of, private_of, goals_hold}
@@ -43,13 +42,13 @@ pub record HasTask (tasks : List AgentTask) (agent : ℕ) : Type 0 where
   pub me : task.me ≡ agent
   pub is : task_of tasks task.me ≡ Some task
 
-pub task_at : (team : List Factor) (tasks : List AgentTask) (agent : ℕ) (factor : Factor) → Agree tasks → length tasks ≡ length team → factor_of team agent ≡ Some factor → HasTask tasks agent
-task_at team tasks zero factor agree long at = absurd (none-some factor at)
-task_at team tasks (suc k) factor agree long at =
+pub task_at : (team : List Factor) (tasks : List AgentTask) (agent : ℕ) (factor : Factor) → map (λ t. t.me) tasks ≡ range_with_len 1 (length tasks) → length tasks ≡ length team → factor_of team agent ≡ Some factor → HasTask tasks agent
+task_at team tasks zero factor numbered long at = absurd (none-some factor at)
+task_at team tasks (suc k) factor numbered long at =
     let within : k < length tasks = omega (arith, slice_get_within team k factor at, long) in
     elim ((slice_get_cases tasks k).1) [
       | inl found ↦
-          let me = number_at tasks agree k found.0 found.1 found.3 in
+          let me = number_at tasks numbered k found.0 found.1 found.3 in
           record { task = found.0; there = (k, found.1, found.3); me = me; is = ap (task_of tasks) me ∙ found.2 }
       | inr past ↦ absurd (omega (arith, within, past.0))
     ]
@@ -80,13 +79,13 @@ module _ (team : List Factor) (numbering : Numbering) (tasks : List AgentTask) (
     publics = record {
       each = λ n x here.
           let had = counted_had team x ((stands.counted.exact x).0 (Contains-slice_get numbering.publics n x here)).1 in
-          let its = task_at team tasks had.has.agent had.has.factor stands.agree stands.one_each had.has.at in
+          let its = task_at team tasks had.has.agent had.has.factor stands.agree.numbered stands.one_each had.has.at in
           let same = public_start-at tasks its.task its.there (λ u there. (stands.agree.alike u its.task there its.there).start_pub) in
           ap (λ (s : Numbers). set.contains s n) same
           ∙ (true_at_start team numbering.publics its.task.start_pub (stands.tasks_stand its.task its.there).start_pub).each n x here;
     };
     privates = λ t there.
-        let number = number_at tasks stands.agree there.0 t there.1 there.2 in
+        let number = number_at tasks stands.agree.numbered there.0 t there.1 there.2 in
         let place : t.me - 1 ≡ there.0 = omega (arith, number) in
         let start : AgentTask → Numbers = λ u. set.from_list u.start_priv in
         let mine : private_of (task.joint_start tasks) t.me ≡ set.from_list t.start_priv =
@@ -107,7 +106,7 @@ module _ (team : List Factor) (numbering : Numbering) (tasks : List AgentTask) (
     all_goals : goals_hold tasks state ≡ true → (x : SignedFact) → Contains (goals team) x → holds s x ≡ true
     all_goals all x here =
         let had = goal_had team x here in
-        let its = task_at team tasks had.has.agent had.has.factor stands.agree stands.one_each had.has.at in
+        let its = task_at team tasks had.has.agent had.has.factor stands.agree.numbered stands.one_each had.has.at in
         let t = its.task in
         let is_known : is_known_to t.me x ≡ true = ap (λ n. is_known_to n x) its.me ∙ known had.has.agent had.has.factor x had.has.of in
         all_at (holds s) (filter (is_known_to t.me) (goals team)) x

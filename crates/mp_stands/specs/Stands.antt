@@ -9,7 +9,7 @@ use Rattle.mp_joint.specs.Instance.{Instance, holds}
 use Rattle.mp_joint.specs.Plan.{joint_start}
 use Rattle.mp_task.specs.declared.act.Act.{Act}
 use Rattle.mp_task.specs.AgentTask.{AgentTask}
-use Rattle.mp_task.specs.Agree.{Agree}
+use Rattle.mp_task.specs.Agreement.{Agree}
 use Rattle.mp_stands.specs.Numbering.{Numbering, AreNumbersFor, privates_of, steps_of}
 use Rattle.mp_stands.specs.Touched.{IsGrounded, IsCounted, needed, added, deleted, goals}
 

@@ -4,7 +4,7 @@ ghost use Rattle.std.specs.Prelude.{◌≡◌, ◌≢◌, ◌↔◌, ℕ, List, 
 ghost use Rattle.std.specs.Prelude.{All, AllPairs, Contains};
 ghost use Rattle.mp_factor.specs.declared.factor.Factor.{Factor};
 ghost use Rattle.mp_task.specs.AgentTask.{AgentTask};
-ghost use Rattle.mp_task.specs.Agree.{Agree};
+ghost use Rattle.mp_task.specs.Agreement.{Agree};
 ghost use Rattle.mp_joint.specs.declared.fact.SignedFact.{SignedFact};
 ghost use Rattle.mp_joint.specs.Fact.{Text, named};
 ghost use Rattle.mp_joint.specs.FactorContribution.{privates_of};

@@ -7,7 +7,7 @@ use Rattle.std.specs.List.{Contains}
 use Rattle.mp_task.specs.declared.act.Act.{Act}
 use Rattle.mp_task.specs.declared.act.Far.{Far}
 use Rattle.mp_task.specs.AgentTask.{AgentTask}
-use Rattle.mp_task.specs.Agree.{Agree, FitsTeam, IsFarList}
+use Rattle.mp_task.specs.Agreement.{Agree, FitsTeam, IsFarList}
 use Rattle.mp_task.specs.Public.{is_public, part_of}
 use Rattle.mp_task.proofs.Agreeing.{same_number}
 use Rattle.mp_task.proofs.FarLists.{parts_of_others, others_are_exact}
@@ -40,7 +40,7 @@ doubled_part tasks t before between later part here doubled agree =
 pub part_of_another : (tasks : List AgentTask) (t u : AgentTask) (part : Far) → Contains tasks t → Contains tasks u → Contains t.far part → part.by ≡ u.me → ((act : Act) → Contains u.acts act → IsTrue (is_public act) → part ≢ part_of u.me act) → Agree tasks → ⊥
 part_of_another tasks t u part here there has by none agree =
     let found = ((far_list tasks t agree here).exact part).0 has in
-    let same : found.other ≡ u = same_number tasks agree found.other u found.in_team there (sym (ap (λ p. p.by) found.is) ∙ by) in
+    let same : found.other ≡ u = same_number tasks agree.numbered found.other u found.in_team there (sym (ap (λ p. p.by) found.is) ∙ by) in
     none found.act (subst (λ (v : AgentTask). Contains v.acts found.act) same found.own) found.public (found.is ∙ ap (λ v. part_of v.me found.act) same)
 
 -- the parts by rising agent

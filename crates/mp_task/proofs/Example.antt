@@ -12,7 +12,7 @@ use Rattle.mp_sets.proofs.NumbersLemmas.{contains-after}
 use Rattle.mp_sets.proofs.SetLemmas.{contains-numbers_below}
 use Rattle.mp_task.specs.declared.act.Far.{Far}
 use Rattle.mp_task.specs.AgentTask.{AgentTask}
-use Rattle.mp_task.specs.Agree.{Agree, FitsTeam, SayAlike}
+use Rattle.mp_task.specs.Agreement.{Agree, FitsTeam, SayAlike}
 use Rattle.mp_task.specs.Examples.{dropped, lifted, laid, rung, left, right, bell, two, three, careful, hasty}
 use Rattle.mp_task.specs.Met.{met_at_start}
 use Rattle.mp_task.specs.Plan.{TaskSolves, task_cost}

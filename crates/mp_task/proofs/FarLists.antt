@@ -8,7 +8,7 @@ use Rattle.mp_list.proofs.Members.{contains_head, contains_tail, contains_cases,
 use Rattle.mp_task.specs.declared.act.Act.{Act}
 use Rattle.mp_task.specs.declared.act.Far.{Far}
 use Rattle.mp_task.specs.AgentTask.{AgentTask}
-use Rattle.mp_task.specs.Agree.{IsFarPart}
+use Rattle.mp_task.specs.Agreement.{IsFarPart}
 use Rattle.mp_task.specs.Public.{is_public, part_of}
 
 -- the public part of a public action of an agent

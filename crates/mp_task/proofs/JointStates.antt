@@ -3,10 +3,9 @@ use Rattle.std.proofs.Common.{◌≡◌, ◌-◌, cond, List, map, get_or, Some,
 use Rattle.std.proofs.lemmas.List.{get_or-map, length-map, length-set}
 use Rattle.std.proofs.lemmas.Option.{cond_some, option_and_then_some}
 use Rattle.std.specs.FinSet as set
-use Rattle.std.specs.List.{Contains}
 use Rattle.mp_sets.specs.Numbers.{Numbers}
 use Rattle.mp_task.specs.AgentTask.{AgentTask}
-use Rattle.mp_task.specs.Agree.{Agree}
+use Rattle.mp_task.specs.Agreement.{IsTeamMember}
 use Rattle.mp_task.specs.Plan.{JointState, IsJointState, TaskStep, act_of, applies, after_act, after_step, private_of, joint_start}
 use Rattle.mp_task.specs.Projected.{projected_state}
 use Rattle.mp_task.specs.Seen.{seen_state}
@@ -22,12 +21,13 @@ step_stays_joint tasks s reached step joint ran =
     subst (IsJointState tasks) parts.1 (length-set s.privates (step.agent - 1) _ ∙ joint))
 
 -- an agent sees of the joint start its own start
-pub seen_start : (tasks : List AgentTask) (t : AgentTask) → Agree tasks → Contains tasks t → seen_state t (joint_start tasks) ≡ projected_state t (set.from_list t.start_pub) (set.from_list t.start_priv)
-seen_start tasks t agree here =
-    let number = number_at tasks agree here.0 t here.1 here.2 in
+pub seen_start : (tasks : List AgentTask) (t : AgentTask) → IsTeamMember tasks t → seen_state t (joint_start tasks) ≡ projected_state t (set.from_list t.start_pub) (set.from_list t.start_priv)
+seen_start tasks t member =
+    let here = member.in_team in
+    let number = number_at tasks member.agree.numbered here.0 t here.1 here.2 in
     let place : t.me - 1 ≡ here.0 = omega arith in
     let start : AgentTask → Numbers = λ u. set.from_list u.start_priv in
     let mine : private_of (joint_start tasks) t.me ≡ set.from_list t.start_priv =
     ap (λ k. get_or (map start tasks) k set.empty) place ∙ get_or-map start tasks here.0 t set.empty here.1 ∙ ap start here.2 in
-    let shared = public_start-at tasks t here (λ u there. (agree.alike u t there here).start_pub) in
+    let shared = public_start-at tasks t here (λ u there. (member.agree.alike u t there here).start_pub) in
     (λ i. projected_state t (shared i) (mine i))

@@ -20,7 +20,7 @@ use Rattle.mp_sets.proofs.NumbersLemmas.{after-none, after-without_adds}
 use Rattle.mp_task.specs.declared.act.Act.{Act}
 use Rattle.mp_task.specs.declared.act.Far.{Far}
 use Rattle.mp_task.specs.AgentTask.{AgentTask}
-use Rattle.mp_task.specs.Agree.{Agree, FitsTeam}
+use Rattle.mp_task.specs.Agreement.{AreTeamTasks, FitsTeam}
 use Rattle.mp_task.specs.Limits.{ActFits, IsWithinLimits}
 use Rattle.mp_task.specs.Met.{is_met}
 use Rattle.mp_task.specs.Plan.{JointState, IsJointState, TaskStep, SolvesFrom, act_of, private_of, applies, after_act, after_step, step_cost, goals_hold, team_system, task_cost}
@@ -88,7 +88,7 @@ private_act act hidden =
       del = nil_from_length act.del_pub (eqb-true _ 0 others.1);
     }
 
-module _ (tasks : List AgentTask) (agree : Agree tasks) (limits : All IsWithinLimits tasks) (t : AgentTask) (here : Contains tasks t) where
+module _ (tasks : List AgentTask) (are : AreTeamTasks tasks) (t : AgentTask) (here : Contains tasks t) where
   abbrev pub Sees : Numbers → JointState → Type 0
   Sees p s = IsJointState tasks s × (p ≡ seen_state t s)
 
@@ -99,7 +99,7 @@ module _ (tasks : List AgentTask) (agree : Agree tasks) (limits : All IsWithinLi
   own_task : (step : TaskStep) (act : Act) → step.agent ≡ t.me → IsStepOf tasks step act → slice_get t.acts step.action ≡ Some act
   own_task step act mine of =
       let u = of.task in
-      let place : here.0 ≡ of.place = let a = number_at tasks agree here.0 t here.1 here.2 in let b = of.agent in omega arith in
+      let place : here.0 ≡ of.place = let a = number_at tasks are.agree.numbered here.0 t here.1 here.2 in let b = of.agent in omega arith in
       let same : u ≡ t =
       sym of.is ∙ ap (λ k. get_or tasks k u) (sym place) ∙ get_or_default tasks here.0 u t here.1 ∙ here.2 in
       ap (λ (v : AgentTask). slice_get v.acts step.action) (sym same) ∙ of.own
@@ -107,8 +107,8 @@ module _ (tasks : List AgentTask) (agree : Agree tasks) (limits : All IsWithinLi
   own_step : (s : JointState) (step : TaskStep) (act : Act) → IsJointState tasks s → step.agent ≡ t.me → IsStepOf tasks step act → applies act s.publics (private_of s step.agent) ≡ true → Answered s (after_act s step.agent act) step act.cost
   own_step s step act joint mine of may =
       let own_act = own_task step act mine of in
-      let fits = All-contains (ActFits t.publics t.privates) t.acts act (All-contains IsWithinLimits tasks t limits here).acts (Contains-slice_get t.acts step.action act own_act) in
-      let number = number_at tasks agree here.0 t here.1 here.2 in
+      let fits = All-contains (ActFits t.publics t.privates) t.acts act (All-contains IsWithinLimits tasks t are.within here).acts (Contains-slice_get t.acts step.action act own_act) in
+      let number = number_at tasks are.agree.numbered here.0 t here.1 here.2 in
       let within = here.1 in
       let in_range : t.me - 1 < length s.privates = omega arith in
       let q = private_of s t.me in
@@ -127,7 +127,7 @@ module _ (tasks : List AgentTask) (agree : Agree tasks) (limits : All IsWithinLi
   -- an action of another agent leaves this agent's private facts
   private_stays : (s : JointState) (step : TaskStep) (act : Act) → step.agent ≢ t.me → IsStepOf tasks step act → private_of (after_act s step.agent act) t.me ≡ private_of s t.me
   private_stays s step act other of =
-      let number = number_at tasks agree here.0 t here.1 here.2 in
+      let number = number_at tasks are.agree.numbered here.0 t here.1 here.2 in
       let agent = of.agent in
       let apart : t.me - 1 ≢ step.agent - 1 = λ e. other (omega arith) in
       get_or-set_other s.privates (step.agent - 1) (t.me - 1) _ set.empty apart
@@ -146,12 +146,12 @@ module _ (tasks : List AgentTask) (agree : Agree tasks) (limits : All IsWithinLi
   far_step s step act joint other is of public may =
       let u = of.task in
       let in_team : Contains tasks u = (of.place, of.within, of.is) in
-      let by : u.me ≡ step.agent = number_at tasks agree of.place u of.within of.is ∙ sym of.agent in
-      let theirs = All-contains (ActFits u.publics u.privates) u.acts act (All-contains IsWithinLimits tasks u limits in_team).acts (Contains-slice_get u.acts step.action act of.own) in
-      let fits : ActFits t.publics u.privates act = subst (λ n. ActFits n u.privates act) (agree.alike u t in_team here).publics theirs in
+      let by : u.me ≡ step.agent = number_at tasks are.agree.numbered of.place u of.within of.is ∙ sym of.agent in
+      let theirs = All-contains (ActFits u.publics u.privates) u.acts act (All-contains IsWithinLimits tasks u are.within in_team).acts (Contains-slice_get u.acts step.action act of.own) in
+      let fits : ActFits t.publics u.privates act = subst (λ n. ActFits n u.privates act) (are.agree.alike u t in_team here).publics theirs in
       let p = part_of step.agent act in
       let among : Contains t.far p =
-      ((All-contains (FitsTeam tasks) tasks t agree.team here).far.exact p).1 (record {
+      ((All-contains (FitsTeam tasks) tasks t are.agree.team here).far.exact p).1 (record {
         other = u;
         in_team = in_team;
         another = λ e. other (sym by ∙ e);
@@ -175,7 +175,7 @@ module _ (tasks : List AgentTask) (agree : Agree tasks) (limits : All IsWithinLi
 
   goals_are_seen : (s : JointState) → goals_hold tasks s ≡ true → (seen_system t).is_goal (seen_state t s) ≡ true
   goals_are_seen s goals =
-      let within = All-contains IsWithinLimits tasks t limits here in
+      let within = All-contains IsWithinLimits tasks t are.within here in
       let mine = All-contains (λ u. (holds s.publics u.goal_pub && is_met u (private_of s u.me)) ≡ true) tasks t (AllPass-from_list_all _ tasks goals) here in
       holds-projected_state t s.publics (private_of s t.me) t.goal_pub t.goal_priv within.goal_pub within.goal_priv ∙ mine
 

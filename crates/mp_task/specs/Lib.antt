@@ -1,5 +1,5 @@
-pub mod Agree
 pub mod AgentTask
+pub mod Agreement
 pub mod Examples
 pub mod Heuristic
 pub mod Limits
@@ -10,3 +10,4 @@ pub mod Public
 pub mod Seen
 pub mod Strips
 pub mod TaskFields
+pub mod Values

@@ -43,3 +43,7 @@ pub record IsWithinLimits (t : AgentTask) : Type 0 where
   pub number_of_far : length t.far ≤ 3000000
   pub acts : All (ActFits t.publics t.privates) t.acts
   pub far : All (FarFits t.agents t.publics) t.far
+
+-- how many entries of its search an agent may be allowed to expand
+abbrev pub most_expansions : ℕ
+most_expansions = 10000000

@@ -4,7 +4,7 @@ ghost use Rattle.std.specs.Prelude.{◌≡◌, ◌≢◌, ℕ, ◌<◌, ◌++◌
 ghost use Rattle.mp_task.specs.declared.act.Act.{Act};
 ghost use Rattle.mp_task.specs.declared.act.Far.{Far as Part};
 ghost use Rattle.mp_task.specs.AgentTask.{AgentTask};
-ghost use Rattle.mp_task.specs.Agree.{Agree};
+ghost use Rattle.mp_task.specs.Agreement.{Agree};
 ghost use Rattle.mp_task.specs.Examples.{two, three, lifted, laid, rung, careful, hasty};
 ghost use Rattle.mp_task.specs.Plan.{TaskSolves, task_cost};
 ghost use Rattle.mp_task.specs.Public.{is_public, part_of};

@@ -7,6 +7,7 @@ ghost use Rattle.mp_task.specs.Limits.{IsWithinLimits};
 ghost use Rattle.mp_runs.specs.System.{IsPlanFrom, plan_cost};
 ghost use Rattle.mp_task.specs.Projected.{projected_state};
 ghost use Rattle.mp_task.specs.Seen.{seen_system};
+ghost use Rattle.mp_task.specs.Values.{Values};
 ghost use Rattle.mp_task.specs.Heuristic.{SizesFit};
 ghost use Rattle.std.proofs.Common.{lit<, sym, zero-le};
 ghost use Rattle.std.proofs.lemmas.Option.{none-some};
@@ -24,7 +25,7 @@ pub trait Heuristic: Sized + Drop {
     ghost is_for: { Self → AgentTask → Type 0 };
 
     /// Its value, by its definition, for a task, a set of public facts and one of private facts.
-    ghost value: { AgentTask → Numbers → Numbers → Option ℕ };
+    ghost value: { Values };
 
     /// A heuristic for a task. Refuses only for want of memory.
     fn make(alloc: Global, task: &Task) -> Result<Self, OutOfMemory>

@@ -6,7 +6,7 @@ ghost use Rattle.std.specs.FinSet as set;
 ghost use Rattle.mp_runs.specs.Simulation.{StandsForAll};
 ghost use Rattle.mp_runs.specs.System.{IsPlanFrom, plan_cost};
 ghost use Rattle.mp_task.specs.AgentTask.{AgentTask};
-ghost use Rattle.mp_task.specs.Agree.{Agree};
+ghost use Rattle.mp_task.specs.Agreement.{AreTeamTasks, IsTeamMember};
 ghost use Rattle.mp_task.specs.Limits.{IsWithinLimits};
 ghost use Rattle.mp_task.specs.Plan.{
   JointState,
@@ -30,7 +30,7 @@ pub fn steps_lead_to_joint_states()
     ensures steps { (tasks : List AgentTask) (s reached : JointState) (step : TaskStep)
         → IsJointState tasks s → after_step tasks s step ≡ Some reached
         → IsJointState tasks reached }
-    ensures seen { (tasks : List AgentTask) (t : AgentTask) → Agree tasks → Contains tasks t
+    ensures seen { (tasks : List AgentTask) (t : AgentTask) → IsTeamMember tasks t
         → seen_state t (joint_start tasks)
         ≡ projected_state t (set.from_list t.start_pub) (set.from_list t.start_priv) }
 {}
@@ -39,7 +39,7 @@ pub fn steps_lead_to_joint_states()
 /// sees, at no greater cost: its own actions, and of the other agents' public actions the public parts.
 pub fn plans_are_seen_as_plans()
     ensures { (tasks : List AgentTask) (t : AgentTask) (s : JointState) (plan : List TaskStep)
-        → Agree tasks → All IsWithinLimits tasks → Contains tasks t → IsJointState tasks s
+        → AreTeamTasks tasks → Contains tasks t → IsJointState tasks s
         → SolvesFrom tasks s plan
         → (seen : List ℕ) × StandsForAll (IsSeenAs tasks t) plan seen
         × IsPlanFrom (seen_system t) (seen_state t s) seen
@@ -53,11 +53,11 @@ pub fn values_are_bounds_for_the_team<H: Heuristic>()
         → All IsWithinLimits tasks → Contains tasks t
         → IfSome (H.value t s.publics (private_of s t.me)) (λ h. h < 2 ^ 50) }
     ensures alive { (tasks : List AgentTask) (t : AgentTask) (s : JointState) (plan : List TaskStep)
-        → Agree tasks → All IsWithinLimits tasks → Contains tasks t → IsJointState tasks s
+        → AreTeamTasks tasks → Contains tasks t → IsJointState tasks s
         → SolvesFrom tasks s plan → IsSome (H.value t s.publics (private_of s t.me)) }
     ensures admissible { (tasks : List AgentTask) (t : AgentTask) (s : JointState)
         (plan : List TaskStep)
-        → Agree tasks → All IsWithinLimits tasks → Contains tasks t → IsJointState tasks s
+        → AreTeamTasks tasks → Contains tasks t → IsJointState tasks s
         → SolvesFrom tasks s plan
         → IfSome (H.value t s.publics (private_of s t.me)) (λ h. h ≤ task_cost tasks plan) }
 {}

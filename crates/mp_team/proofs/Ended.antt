@@ -139,7 +139,7 @@ module _ (value : Values) where
           inside = low;
           node = found.0;
           member = is;
-          me = number_at (tasks_of ms) new.tasks.agree k t inside here;
+          me = number_at (tasks_of ms) new.tasks.agree.numbered k t inside here;
           own = ap (λ (o : Orders). o.task) is.orders_are ∙ task;
           limits = ap (λ (o : Orders). o.limit) is.orders_are ∙ limit value ms new k low is.machine is.here;
         }

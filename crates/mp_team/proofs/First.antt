@@ -4,7 +4,7 @@ use Rattle.std.specs.Prelude.{replicate}
 use Rattle.std.specs.List.{range_with_len}
 use Rattle.std.proofs.lemmas.List.{get_or-map, get_or-replicate, get_or_past, length-map, length-replicate}
 use Rattle.std.proofs.lemmas.List.Elements.{All-contains, All-nil}
-use Rattle.mp_task.specs.Agree.{FitsTeam}
+use Rattle.mp_task.specs.Agreement.{FitsTeam}
 use Rattle.mp_task.specs.AgentTask.{AgentTask}
 use Rattle.mp_task.proofs.Agreeing.{number_at}
 use Rattle.mp_machine.specs.AgentRecord.{new_record}
@@ -54,7 +54,7 @@ module _ (value : Values) (ms : List AgentMachine) (new : AreNew value ms) where
     task_here = get_or-map (λ (n : AgentMachine). n.done.task) ms k m m.done.task inside ∙ ap (λ (n : AgentMachine). n.done.task) here
 
     pub number : m.done.task.me ≡ suc k
-    number = number_at (tasks_of ms) new.tasks.agree k m.done.task in_tasks task_here
+    number = number_at (tasks_of ms) new.tasks.agree.numbered k m.done.task in_tasks task_here
 
     pub team : m.done.task.agents ≡ length ms
     team = (All-contains (FitsTeam (tasks_of ms)) (tasks_of ms) m.done.task new.tasks.agree.team (k, in_tasks, task_here)).agents ∙ many_tasks

@@ -3,24 +3,24 @@ use Rattle.std.proofs.Common.{◌≤◌, List, subst, arith}
 use Rattle.std.specs.Prelude.{Contains, slice_index_or}
 use Rattle.std.proofs.lemmas.List.{get_or_default}
 use Rattle.std.proofs.lemmas.List.Elements.{All-contains}
-use Rattle.mp_task.specs.Agree.{Agree, FitsTeam}
+use Rattle.mp_task.specs.Agreement.{FitsTeam, IsTeamMember}
 use Rattle.mp_task.specs.AgentTask.{AgentTask}
 use Rattle.mp_task.specs.Limits.{IsWithinLimits}
 use Rattle.mp_world.specs.Team.{AreTeamTasks}
 use Rattle.mp_world.proofs.Agents.{agree_numbered}
 use Rattle.mp_team_snapshots.specs.Team.{IsTeamOf}
 
-pub agreeing_team : (tasks : List AgentTask) (t : AgentTask) → Agree tasks → Contains tasks t → IsWithinLimits t → IsTeamOf t.publics tasks
-agreeing_team tasks t agree member limits = record {
-  numbered = agree_numbered tasks agree;
+pub agreeing_team : (tasks : List AgentTask) (t : AgentTask) → IsTeamMember tasks t → IsWithinLimits t → IsTeamOf t.publics tasks
+agreeing_team tasks t member limits = record {
+  numbered = agree_numbered tasks member.agree;
   alike = λ k d inside.
-      (agree.alike (slice_index_or tasks k d) t (k, inside, get_or_default tasks k (slice_index_or tasks k d) d inside) member).publics;
+      (member.agree.alike (slice_index_or tasks k d) t (k, inside, get_or_default tasks k (slice_index_or tasks k d) d inside) member.in_team).publics;
   facts = let few = limits.publics in omega arith;
-  some = let inside = member.1 in omega arith;
+  some = let inside = member.in_team.1 in omega arith;
   agents =
-      let same = (All-contains (FitsTeam tasks) tasks t agree.team member).agents in
+      let same = (All-contains (FitsTeam tasks) tasks t member.agree.team member.in_team).agents in
       subst (λ n. n ≤ 16) same limits.at_most_16_agents;
 }
 
 pub are_of_team : (tasks : List AgentTask) (t : AgentTask) → AreTeamTasks tasks → Contains tasks t → IsTeamOf t.publics tasks
-are_of_team tasks t are member = agreeing_team tasks t are.agree member (All-contains IsWithinLimits tasks t are.within member)
+are_of_team tasks t are member = agreeing_team tasks t (record { agree = are.agree; in_team = member }) (All-contains IsWithinLimits tasks t are.within member)

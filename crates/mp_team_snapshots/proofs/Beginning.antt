@@ -1,8 +1,8 @@
 -- A marker is taken by which a snapshot begins at its receiver, which is not agent 1. The receiver sends a marker to all
 -- others.
-use Rattle.std.proofs.Common.{◌≡◌, ◌≢◌, ℕ, ◌+◌, ◌-◌, ◌≤◌, ◌<◌, Bool, true, false, ◌&&◌, eqb, List, [], ◌∷◌, ◌++◌, length, replicate, refl, sym, ap, subst, ◌∙◌, arith, ◌⊎◌, inl, inr}
+use Rattle.std.proofs.Common.{◌≡◌, ◌≢◌, ℕ, ◌+◌, ◌-◌, ◌≤◌, ◌<◌, Bool, true, false, ◌&&◌, List, [], ◌∷◌, ◌++◌, length, replicate, sym, ap, subst, ◌∙◌, arith, ◌⊎◌, inl, inr}
 use Rattle.std.specs.Prelude.{nat_lt, not, slice_set}
-use Rattle.std.proofs.lemmas.Bool.{and_from, and_left, and_parts, and_right, eqb-false, eqb-true, false_from_ne_true}
+use Rattle.std.proofs.lemmas.Bool.{and_from, and_left, and_parts, and_right, false_from_ne_true}
 use Rattle.std.proofs.lemmas.List.{get_or-set_same, length-replicate, length-set}
 use Rattle.mp_messages.specs.declared.message.Findings.{Findings}
 use Rattle.mp_snapshot.specs.Notes.{Notes}
@@ -135,38 +135,32 @@ module _ (agents : ℕ) (small : agents ≤ 16) (v v' : View) (before : Sound ag
 
   -- only the marker of the sender was taken at the receiver
   sent_to_b : (i : ℕ) → IsOf agents i → i ≢ b → has (v'.note b).marked i ≡ true → begun_in (v'.note 1).number (v'.note i).number ≡ true
-  sent_to_b i is off taken = by (eqb i a) refl
-    where
-      by : (test : Bool) → eqb i a ≡ test → begun_in (v'.note 1).number (v'.note i).number ≡ true
-      by true same = from_begun i is off (subst (λ k. begun_in (v.note 1).number (v.note k).number ≡ true) (sym (eqb-true i a same)) there.begun)
-      by false other =
-          absurd (apart_bools (has (v'.note b).marked i) taken
-          (marks_b i ∙ has_no_other agents small (v.note b) a b number found (before.notes b is_b) is_a is_b i is (eqb-false i a other) off))
+  sent_to_b i is off taken =
+      each agents a (λ i. i ≢ b → has (v'.note b).marked i ≡ true → begun_in (v'.note 1).number (v'.note i).number ≡ true)
+      (λ off taken. from_begun a is_a off there.begun)
+      (λ i is other off taken. absurd (apart_bools (has (v'.note b).marked i) taken
+      (marks_b i ∙ has_no_other agents small (v.note b) a b number found (before.notes b is_b) is_a is_b i is other off))) i is off taken
 
   sent_to_others : (i j : ℕ) → IsOf agents i → IsOf agents j → j ≢ b → i ≢ j
       → (begun_in (v'.note 1).number (v'.note j).number && has (v'.note j).marked i) ≡ true
       → begun_in (v'.note 1).number (v'.note i).number ≡ true
-  sent_to_others i j is_i is_j off_j off is = by (eqb i b) refl
-    where
-      by : (test : Bool) → eqb i b ≡ test → begun_in (v'.note 1).number (v'.note i).number ≡ true
-      by true same = subst (λ k. begun_in (v'.note 1).number (v'.note k).number ≡ true) (sym (eqb-true i b same)) begun_b
-      by false other =
-          let last = last_same in
-          let same = others j is_j off_j in
-          from_begun i is_i (eqb-false i b other)
-          (before.sent i j is_i is_j off (sym (λ k. begun_in (last k) (same k).number && has (same k).marked i) ∙ is))
+  sent_to_others i j is_i is_j off_j off is =
+      each agents b (λ i. i ≢ j → (begun_in (v'.note 1).number (v'.note j).number && has (v'.note j).marked i) ≡ true
+      → begun_in (v'.note 1).number (v'.note i).number ≡ true) (λ off is. begun_b)
+      (λ i is_i other off is.
+      let last = last_same in
+      let same = others j is_j off_j in
+      from_begun i is_i other
+      (before.sent i j is_i is_j off (sym (λ k. begun_in (last k) (same k).number && has (same k).marked i) ∙ is))) i is_i off is
 
   sent_kept : (i j : ℕ) → IsOf agents i → IsOf agents j → i ≢ j
       → (begun_in (v'.note 1).number (v'.note j).number && has (v'.note j).marked i) ≡ true
       → begun_in (v'.note 1).number (v'.note i).number ≡ true
-  sent_kept i j is_i is_j off is = by (eqb j b) refl
-    where
-      by : (test : Bool) → eqb j b ≡ test → begun_in (v'.note 1).number (v'.note i).number ≡ true
-      by true same =
-          let here = eqb-true j b same in
-          sent_to_b i is_i (λ e. off (e ∙ sym here))
-          (subst (λ k. has (v'.note k).marked i ≡ true) here (and_parts (begun_in (v'.note 1).number (v'.note j).number) (has (v'.note j).marked i) is).1)
-      by false other = sent_to_others i j is_i is_j (eqb-false j b other) off is
+  sent_kept i j is_i is_j off is =
+      each agents b (λ j. i ≢ j → (begun_in (v'.note 1).number (v'.note j).number && has (v'.note j).marked i) ≡ true
+      → begun_in (v'.note 1).number (v'.note i).number ≡ true)
+      (λ off is. sent_to_b i is_i off (and_parts (begun_in (v'.note 1).number (v'.note b).number) (has (v'.note b).marked i) is).1)
+      (λ j is_j other off is. sent_to_others i j is_i is_j other off is) j is_j off is
 
   abbrev IsDue : ℕ → ℕ → Type 0
   IsDue i j = v'.markers i j ≡ due_marker (v'.note 1).number (v'.note i).number (v'.note j).number (has (v'.note j).marked i)
@@ -213,21 +207,14 @@ module _ (agents : ℕ) (small : agents ≤ 16) (v v' : View) (before : Sound ag
       (ap (λ s. has s.marked i) (others j is_j off_j))
 
   marker_into_b : (i : ℕ) → IsOf agents i → i ≢ b → IsDue i b
-  marker_into_b i is off = by (eqb i a) refl
-    where
-      by : (test : Bool) → eqb i a ≡ test → IsDue i b
-      by true same = subst (λ k. IsDue k b) (sym (eqb-true i a same)) marker_taken
-      by false other = marker_to_b i is (eqb-false i a other) off
+  marker_into_b i is off =
+      each agents a (λ i. i ≢ b → IsDue i b) (λ off. marker_taken) (λ i is other off. marker_to_b i is other off) i is off
 
   marker_kept : (i j : ℕ) → IsOf agents i → IsOf agents j → i ≢ j → IsDue i j
-  marker_kept i j is_i is_j off = by (eqb i b) refl (eqb j b) refl
-    where
-      by : (p : Bool) → eqb i b ≡ p → (q : Bool) → eqb j b ≡ q → IsDue i j
-      by true from q to =
-          let here = eqb-true i b from in
-          subst (λ k. IsDue k j) (sym here) (marker_sent j is_j (λ e. off (here ∙ e)))
-      by false from true to = subst (λ k. IsDue i k) (sym (eqb-true j b to)) (marker_into_b i is_i (eqb-false i b from))
-      by false from false to = marker_among_others i j is_i is_j off (eqb-false i b from) (eqb-false j b to)
+  marker_kept i j is_i is_j =
+      each agents b (λ i. i ≢ j → IsDue i j) (marker_sent j is_j)
+      (λ i is_i off_i. each agents b (λ j. i ≢ j → IsDue i j) (marker_into_b i is_i)
+      (λ j is_j off_j off. marker_among_others i j is_i is_j off off_i off_j) j is_j) i is_i
 
   not_done_b : (begun_in (v.note 1).number (v.note b).number && is_whole (v.note b)) ≡ false
   not_done_b = and_left (begun_in (v.note 1).number (v.note b).number) (is_whole (v.note b)) not_begun_b

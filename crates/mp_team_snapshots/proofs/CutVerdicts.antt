@@ -4,7 +4,7 @@ use Rattle.std.proofs.Common.{subst, ◌∙◌, arith}
 use Rattle.std.specs.Prelude.{option_map, slice_get, slice_index_or}
 use Rattle.std.proofs.lemmas.Bool.{and_from, eqb-true, false≢true, le-leb}
 use Rattle.std.proofs.lemmas.List.{get_or-map, length-map, same_lists}
-use Rattle.std.proofs.lemmas.Option.{get_or_from_slice_get, none-some, same_Some, slice_get-get_or, slice_get-map}
+use Rattle.std.proofs.lemmas.Option.{get_or_from_slice_get, same_Some, slice_get-get_or}
 use Rattle.mp_list.specs.First.{leftmost}
 use Rattle.mp_list.proofs.FirstLemmas.{found_first}
 use Rattle.mp_runs.specs.Run.{run as run_of}
@@ -51,18 +51,18 @@ use Rattle.mp_team_snapshots.proofs.Leasts.{least_others}
 use Rattle.mp_team_snapshots.proofs.MessagesCut.{its_publics}
 use Rattle.mp_team_snapshots.proofs.Readings.{bytes_f, least_bytes}
 use Rattle.mp_team_snapshots.proofs.Taken.{both, cutting}
-use Rattle.mp_team_snapshots.proofs.Unnumbered.{IsNamed, verdict_named, verdict_same}
+use Rattle.mp_team_snapshots.proofs.Unnumbered.{IsNamed, found_by, verdict_named, verdict_same}
 
 -- a bound of a cost is that of the least goal entry
-record HasGoal (cost : ℕ) (r : Record AgentState) : Type 0 where
-  number : ℕ
-  least : least_goal r ≡ Some (cost, number)
-  entry : Entry AgentState
-  is_entry : slice_get r.entries number ≡ Some entry
-  goal : entry.goal ≡ true
-  cost_is : entry.g ≡ cost
+pub record HasGoal (cost : ℕ) (r : Record AgentState) : Type 0 where
+  pub number : ℕ
+  pub least : least_goal r ≡ Some (cost, number)
+  pub entry : Entry AgentState
+  pub is_entry : slice_get r.entries number ≡ Some entry
+  pub goal : entry.goal ≡ true
+  pub cost_is : entry.g ≡ cost
 
-goal_of_bound : (cost : ℕ) (r : Record AgentState) → is_cost cost (bound r) ≡ true → HasGoal cost r
+pub goal_of_bound : (cost : ℕ) (r : Record AgentState) → is_cost cost (bound r) ≡ true → HasGoal cost r
 goal_of_bound cost r is = by (leftmost is_cheaper None (those (λ e. e.goal) r.entries)) refl is
   where
     by : (o : Option (Numbered AgentState)) → leftmost is_cheaper None (those (λ e. e.goal) r.entries) ≡ o
@@ -256,23 +256,13 @@ module _ (team : Team) (publics : ℕ) (of_team : IsTeamOf publics team.tasks) (
 
   -- ---- a proved plan
 
-  named_there : (place : ℕ) (found : Findings) → slice_get (map (findings_in c) c.agents) place ≡ Some found
-      → (then : AgentRecord) × (slice_get c.agents place ≡ Some then) × (findings_in c then ≡ found)
-  named_there place found here =
-      by (slice_get c.agents place) refl (sym (slice_get-map (findings_in c) c.agents place) ∙ here)
-    where
-      by : (o : Option AgentRecord) → slice_get c.agents place ≡ o → option_map (findings_in c) o ≡ Some found
-          → (then : AgentRecord) × (slice_get c.agents place ≡ Some then) × (findings_in c then ≡ found)
-      by None at same = absurd (none-some found same)
-      by (Some r) at same = (r, at, same_Some (findings_in c r) found same)
-
   module _ (agent cost : ℕ) (is_proved : v ≡ Proved agent cost) where
     named : IsNamed 1 agent (λ x. is_cost cost x.goal) (map (findings_in c) c.agents)
     named = verdict_named (map (findings_in c) c.agents) agent cost (rule ∙ is_proved)
 
     found_then : (then : AgentRecord) × (slice_get c.agents named.place ≡ Some then)
         × (findings_in c then ≡ named.found)
-    found_then = named_there named.place named.found named.there
+    found_then = found_by (findings_in c) c.agents named.place named.found named.there
 
     named_place : agent ≡ suc named.place
     named_place = let e = named.is in omega arith

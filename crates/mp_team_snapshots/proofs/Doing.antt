@@ -1,12 +1,12 @@
 -- An event of an agent that has not recorded and does not record by it: it is in the cut, too.
-use Rattle.std.proofs.Common.{◌≡◌, ◌≢◌, ℕ, Bool, true, false, eqb, List, [], ◌∷◌, ◌++◌, refl, sym, ap, subst, ◌∙◌}
-use Rattle.std.proofs.lemmas.Bool.{and_left, eqb-false, eqb-true, false≢true}
+use Rattle.std.proofs.Common.{◌≡◌, ◌≢◌, ℕ, true, false, List, [], ◌∷◌, ◌++◌, refl, sym, ap, subst, ◌∙◌}
+use Rattle.std.proofs.lemmas.Bool.{and_left, false≢true}
 use Rattle.mp_snapshot.specs.Rules.{has, own}
 use Rattle.mp_team_snapshots.specs.CutMail.{AreCut}
 use Rattle.mp_team_snapshots.proofs.Both.{Both, ChangesOne, Cutting, IsCut, IsPair, cut_kept, least_counted, recorded}
 use Rattle.mp_team_snapshots.proofs.Both.{taken_in}
 use Rattle.mp_team_snapshots.proofs.CutMail.{IsTakenInBoth, both_grow, cut_again, same_tail, takes_both}
-use Rattle.mp_team_snapshots.proofs.Protocol.{IsOf}
+use Rattle.mp_team_snapshots.proofs.Protocol.{IsOf, each}
 
 -- an agent that has not recorded has taken no marker since
 pub none_taken : (c : Cutting) (v : Both) (b i : ℕ) → recorded c.number (v.note b) ≡ false
@@ -94,10 +94,6 @@ module _ (c : Cutting) (v v' : Both) (b : ℕ) (changes : ChangesOne c v v' b) (
           oldest.cut
 
       to : (i : ℕ) → IsOf c.size i → i ≢ b → IsPair c v' i b
-      to i is_i off = by (eqb i a) refl
-        where
-          by : (p : Bool) → eqb i a ≡ p → IsPair c v' i b
-          by true test = subst (λ j. IsPair c v' j b) (sym (eqb-true i a test)) this
-          by false test =
-              let apart = eqb-false i a test in
-              to_same i is_i off (firsts i is_i off apart) (seconds i is_i off apart)
+      to i is_i off =
+          each c.size a (λ i. i ≢ b → IsPair c v' i b) (λ off. this)
+          (λ i is_i apart off. to_same i is_i off (firsts i is_i off apart) (seconds i is_i off apart)) i is_i off

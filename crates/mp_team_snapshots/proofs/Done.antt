@@ -54,10 +54,15 @@ module _ (value : Values) (publics : ℕ) (tasks : List AgentTask)
     pub others : (other : ℕ) → other ≢ agent_of event → agent_at last other ≡ agent_at c other
     pub cut : IsCut (cutting (length tasks) publics k) (both next last counted)
 
-  module _ (event : Event) (next : World) (step : IsStepOf value w event next)
-      (there : agent_at c (agent_of event) ≡ Some step.agent)
-      (not_was : recorded k step.agent.snapshot ≡ false) (not_now : recorded k step.step.after.snapshot ≡ false)
-      (message : has_message c event ≡ true) (same : taken c event ≡ taken w event) where
+  -- the agent has not recorded, before and after the event, and may do it after the cut, too
+  record Again (event : Event) (next : World) (step : IsStepOf value w event next) : Type 0 where
+    there : agent_at c (agent_of event) ≡ Some step.agent
+    not_was : recorded k step.agent.snapshot ≡ false
+    not_now : recorded k step.step.after.snapshot ≡ false
+    message : has_message c event ≡ true
+    same : taken c event ≡ taken w event
+
+  module _ (event : Event) (next : World) (step : IsStepOf value w event next) (again : Again event next step) where
     abbrev last : World
     last = after_local c event step.step
 
@@ -65,26 +70,26 @@ module _ (value : Values) (publics : ℕ) (tasks : List AgentTask)
     its = is_its value publics tasks team w is holds event next step
 
     local_too : local_step value c event step.agent ≡ Ok step.step
-    local_too = ap (local (value step.agent.task) step.agent (local_of event)) same ∙ step.local
+    local_too = ap (local (value step.agent.task) step.agent (local_of event)) again.same ∙ step.local
 
     leads : after_event value c event ≡ Some last
-    leads = event_leads value c event step.agent step.step there step.may message local_too
+    leads = event_leads value c event step.agent step.step again.there step.may again.message local_too
 
     step_too : IsStepOf value c event last
     step_too = event_is_step value c (team_lists tasks c is_c) event last leads
 
     same_agent : step_too.agent ≡ step.agent
-    same_agent = same_Some step_too.agent step.agent (sym step_too.there ∙ there)
+    same_agent = same_Some step_too.agent step.agent (sym step_too.there ∙ again.there)
 
     same_steps : step_too.step ≡ step.step
     same_steps =
         same_step step_too.step step.step (sym step_too.local ∙ ap (local_step value c event) same_agent ∙ local_too)
 
     not_there : recorded k (note_at w (agent_of event)) ≡ false
-    not_there = ap (recorded k) (note_before value publics tasks team w is event next step) ∙ not_was
+    not_there = ap (recorded k) (note_before value publics tasks team w is event next step) ∙ again.not_was
 
     not_after : recorded k (note_at next (agent_of event)) ≡ false
-    not_after = ap (recorded k) (note_after value publics tasks team w is event next step) ∙ not_now
+    not_after = ap (recorded k) (note_after value publics tasks team w is event next step) ∙ again.not_now
 
     changes : ChangesOne C v (both next last counted) (agent_of event)
     changes = record {
@@ -120,42 +125,14 @@ module _ (value : Values) (publics : ℕ) (tasks : List AgentTask)
       cut = cut;
     }
 
+    alone : ((i : ℕ) → IsOf (length tasks) i → i ≢ agent_of event → under_way next i (agent_of event) ≡ under_way w i (agent_of event))
+        → ((i : ℕ) → IsOf (length tasks) i → i ≢ agent_of event → under_way last i (agent_of event) ≡ under_way c i (agent_of event))
+        → HappensToo event next step
+    alone firsts seconds =
+        happens (done_alone C v (both next last counted) (agent_of event) changes before its not_there not_after more sends sends_too (λ i j. refl)
+        firsts seconds)
+
   -- ---- by events
-
-  expansion_too : (agent : ℕ) (next : World) (step : IsStepOf value w (Expand agent) next)
-      → agent_at c agent ≡ Some step.agent
-      → recorded k step.agent.snapshot ≡ false → recorded k step.step.after.snapshot ≡ false
-      → HappensToo (Expand agent) next step
-  expansion_too agent next step there not_was not_now =
-      let event = Expand agent in
-      let of = its event next step there not_was not_now refl refl in
-      happens event next step there not_was not_now refl refl
-      (done_alone C v (both next (last event next step there not_was not_now refl refl) counted) agent
-      (changes event next step there not_was not_now refl refl) before of
-      (not_there event next step there not_was not_now refl refl)
-      (not_after event next step there not_was not_now refl refl) (more event next step there not_was not_now refl refl)
-      (sends event next step there not_was not_now refl refl)
-      (sends_too event next step there not_was not_now refl refl) (λ i j. refl)
-      (λ i is_i off. to_expanding value publics tasks team w is agent next step of i is_i off)
-      (λ i is_i off. to_expanding value publics tasks team c is_c agent
-      (last event next step there not_was not_now refl refl)
-      (step_too event next step there not_was not_now refl refl) of i is_i off))
-
-  start_too : (next : World) (step : IsStepOf value w Start next) → agent_at c 1 ≡ Some step.agent
-      → recorded k step.agent.snapshot ≡ false → recorded k step.step.after.snapshot ≡ false
-      → HappensToo Start next step
-  start_too next step there not_was not_now =
-      let of = its Start next step there not_was not_now refl refl in
-      happens Start next step there not_was not_now refl refl
-      (done_alone C v (both next (last Start next step there not_was not_now refl refl) counted) 1
-      (changes Start next step there not_was not_now refl refl) before of
-      (not_there Start next step there not_was not_now refl refl)
-      (not_after Start next step there not_was not_now refl refl) (more Start next step there not_was not_now refl refl)
-      (sends Start next step there not_was not_now refl refl)
-      (sends_too Start next step there not_was not_now refl refl) (λ i j. refl)
-      (λ i is_i off. to_starting value publics tasks team w is next step of i is_i off)
-      (λ i is_i off. to_starting value publics tasks team c is_c (last Start next step there not_was not_now refl refl)
-      (step_too Start next step there not_was not_now refl refl) of i is_i off))
 
   module _ (b a : ℕ) (next : World) (step : IsStepOf value w (Take b a) next) (there : agent_at c b ≡ Some step.agent)
       (not_was : recorded k step.agent.snapshot ≡ false) (not_now : recorded k step.step.after.snapshot ≡ false) where
@@ -187,7 +164,7 @@ module _ (value : Values) (publics : ℕ) (tasks : List AgentTask)
     no_marker m same (inr (number, is_marker, inr begins)) =
         let e : Marker number ≡ Marker k = sym is_marker ∙ same in
         let this : number ≡ k = cc in
-        let mine : step.step.after.snapshot.number ≡ number = ap (λ s. s.number) begins.walking.snapshot in
+        let mine : step.step.after.snapshot.number ≡ number = ap (λ s. s.number) begins.snapshot in
         false≢true (sym not_now ∙ le-leb k step.step.after.snapshot.number (omega arith))
 
     other : recorded k (note_at w a) ≡ true → x ≢ spelling (Marker k)
@@ -218,20 +195,14 @@ module _ (value : Values) (publics : ℕ) (tasks : List AgentTask)
 
     taking_too : HappensToo (Take b a) next step
     taking_too =
-        let event = Take b a in
-        let next_c = last event next step there not_was not_now message_too same_too in
-        let step_c = step_too event next step there not_was not_now message_too same_too in
-        happens event next step there not_was not_now message_too same_too
-        (done_taking C v (both next next_c counted) b
-        (changes event next step there not_was not_now message_too same_too) before of_b
-        (not_there event next step there not_was not_now message_too same_too)
-        (not_after event next step there not_was not_now message_too same_too)
-        (more event next step there not_was not_now message_too same_too)
-        (sends event next step there not_was not_now message_too same_too)
-        (sends_too event next step there not_was not_now message_too same_too) (λ i j. refl)
-        a of_a off x front
-        (taken_front value publics tasks team c is_c b a next_c step_c ∙ ap (λ y. y ∷ under_way next_c a b) same_too)
-        other
+        let e = Take b a in
+        let x : Again (Take b a) next step = record { there = there; not_was = not_was; not_now = not_now; message = message_too; same = same_too } in
+        let next_c = last e next step x in
+        let step_c = step_too e next step x in
+        happens e next step x
+        (done_taking C v (both next next_c counted) b (changes e next step x) before of_b (not_there e next step x) (not_after e next step x)
+        (more e next step x) (sends e next step x) (sends_too e next step x) (λ i j. refl) a of_a off (taken w e) front
+        (taken_front value publics tasks team c is_c b a next_c step_c ∙ ap (λ y. y ∷ under_way next_c a b) same_too) other
         (λ i is_i off_b off_a. to_taking value publics tasks team w is b a next step i is_i off_b off_a)
         (λ i is_i off_b off_a. to_taking value publics tasks team c is_c b a next_c step_c i is_i off_b off_a))
 
@@ -239,6 +210,14 @@ module _ (value : Values) (publics : ℕ) (tasks : List AgentTask)
       → agent_at c (agent_of event) ≡ Some step.agent
       → recorded k step.agent.snapshot ≡ false → recorded k step.step.after.snapshot ≡ false
       → HappensToo event next step
-  event_too (Expand agent) next step there not_was not_now = expansion_too agent next step there not_was not_now
   event_too (Take b a) next step there not_was not_now = taking_too b a next step there not_was not_now
-  event_too Start next step there not_was not_now = start_too next step there not_was not_now
+  event_too (Expand agent) next step there not_was not_now =
+      let x : Again (Expand agent) next step = record { there = there; not_was = not_was; not_now = not_now; message = refl; same = refl } in
+      let of = is_its value publics tasks team w is holds (Expand agent) next step in
+      alone (Expand agent) next step x (to_expanding value publics tasks team w is agent next step of)
+      (to_expanding value publics tasks team c is_c agent (last (Expand agent) next step x) (step_too (Expand agent) next step x) of)
+  event_too Start next step there not_was not_now =
+      let x : Again Start next step = record { there = there; not_was = not_was; not_now = not_now; message = refl; same = refl } in
+      let of = is_its value publics tasks team w is holds Start next step in
+      alone Start next step x (to_starting value publics tasks team w is next step of)
+      (to_starting value publics tasks team c is_c (last Start next step x) (step_too Start next step x) of)

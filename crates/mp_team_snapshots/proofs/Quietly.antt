@@ -1,9 +1,9 @@
 -- Events by which no snapshot begins and no marker and no report is taken or sent: expansions, and states and messages of a
 -- walk back that are taken.
-use Rattle.std.proofs.Common.{◌≡◌, ℕ, ◌-◌, ◌≤◌, ◌<◌, Bool, true, false, eqb, List, length, Some, refl, sym, ap, subst, ◌∙◌, arith, inr}
+use Rattle.std.proofs.Common.{◌≡◌, ℕ, ◌-◌, ◌≤◌, ◌<◌, Bool, true, false, List, length, Some, refl, sym, ap, subst, ◌∙◌, arith, inr}
 use Rattle.std.specs.Prelude.{nat_lt, not, if◌then◌else◌}
 use Rattle.std.specs.List.{filter_map}
-use Rattle.std.proofs.lemmas.Bool.{and_parts, eqb-false, eqb-true, false_from_ne_true}
+use Rattle.std.proofs.lemmas.Bool.{and_parts, false_from_ne_true}
 use Rattle.std.proofs.lemmas.List.{get_or-set_other, get_or-set_same, length-set}
 use Rattle.mp_task.specs.AgentTask.{AgentTask}
 use Rattle.mp_messages.specs.declared.history.Event.{Event}
@@ -21,7 +21,7 @@ use Rattle.mp_team_snapshots.proofs.Changes.{left, markers_part, note_after, not
 use Rattle.mp_team_snapshots.proofs.Counting.{Counts, counted_sound, counts_nothing}
 use Rattle.mp_team_snapshots.proofs.Due.{apart_bools, not_true}
 use Rattle.mp_team_snapshots.proofs.Places.{whole_has}
-use Rattle.mp_team_snapshots.proofs.Protocol.{IsOf, Sound, first_of}
+use Rattle.mp_team_snapshots.proofs.Protocol.{IsOf, Sound, each, first_of}
 use Rattle.mp_team_snapshots.proofs.Sendings.{IsSilent}
 use Rattle.mp_team_snapshots.proofs.Worlds.{note_at, view}
 
@@ -68,18 +68,11 @@ module _ (value : Values) (publics : ℕ) (tasks : List AgentTask) (team : IsTea
     (left_reports : (i j : ℕ) → IsOf (length tasks) i → IsOf (length tasks) j
     → filter_map report_of (left value publics tasks team w is event next step i j) ≡ reports publics w i j) where
   counts_each : (i : ℕ) → IsOf (length tasks) i → Counts (note_at w i) (note_at next i)
-  counts_each i is_i = by (eqb i (agent_of event)) refl
-    where
-      it : Counts (note_at w (agent_of event)) (note_at next (agent_of event))
-      it =
-          subst (λ s. Counts s (note_at next (agent_of event))) (sym (note_before value publics tasks team w is event next step))
-          (subst (Counts step.agent.snapshot) (sym (note_after value publics tasks team w is event next step)) counts)
-
-      by : (b : Bool) → eqb i (agent_of event) ≡ b → Counts (note_at w i) (note_at next i)
-      by true test = subst (λ k. Counts (note_at w k) (note_at next k)) (sym (eqb-true i (agent_of event) test)) it
-      by false test =
-          counts_nothing (note_at w i) (note_at next i)
-          (note_other value publics tasks team w is event next step i (eqb-false i (agent_of event) test))
+  counts_each =
+      each (length tasks) (agent_of event) (λ i. Counts (note_at w i) (note_at next i))
+      (subst (λ s. Counts s (note_at next (agent_of event))) (sym (note_before value publics tasks team w is event next step))
+      (subst (Counts step.agent.snapshot) (sym (note_after value publics tasks team w is event next step)) counts))
+      (λ i is_i off. counts_nothing (note_at w i) (note_at next i) (note_other value publics tasks team w is event next step i off))
 
   pub quietly_sound : Sound (length tasks) (view publics next)
   quietly_sound =

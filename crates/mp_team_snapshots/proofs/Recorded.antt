@@ -75,11 +75,18 @@ module _ (value : Values) (publics : ℕ) (tasks : List AgentTask)
   no_record r s not_was now same =
       false≢true (sym not_was ∙ ap (λ n. recorded k (record r.snapshot { number = n })) (sym same) ∙ now)
 
-  module _ (event : Event) (next : World) (step : IsStepOf value w event next)
-      (not_was : recorded k step.agent.snapshot ≡ false)
-      (now : recorded k step.step.after.snapshot ≡ true) (number : ℕ) (notes : Notes)
-      (is_number : notes.number ≡ number)
-      (begins : Begins step.agent number notes step.step) where
+  -- the agent records by the event, which begins a snapshot
+  record Records (event : Event) (next : World) (step : IsStepOf value w event next) : Type 0 where
+    not_was : recorded k step.agent.snapshot ≡ false
+    now : recorded k step.step.after.snapshot ≡ true
+    number : ℕ
+    notes : Notes
+    is_number : notes.number ≡ number
+    begins : Begins step.agent number notes step.step
+
+  module _ (event : Event) (next : World) (step : IsStepOf value w event next) (x : Records event next step) where
+    open x use {not_was, now, number, notes, is_number, begins}
+
     abbrev b : ℕ
     b = agent_of event
 
@@ -93,7 +100,7 @@ module _ (value : Values) (publics : ℕ) (tasks : List AgentTask)
     before_note = note_before value publics tasks team w is event next step
 
     after_note : note_at next (agent_of event) ≡ notes
-    after_note = note_after value publics tasks team w is event next step ∙ begins.walking.snapshot
+    after_note = note_after value publics tasks team w is event next step ∙ begins.snapshot
 
     not_there : recorded k (note_at w (agent_of event)) ≡ false
     not_there = ap (recorded k) before_note ∙ not_was
@@ -105,7 +112,7 @@ module _ (value : Values) (publics : ℕ) (tasks : List AgentTask)
     number_k =
         let low = leb-false k step.agent.snapshot.number not_was in
         let high = leb-true k step.step.after.snapshot.number now in
-        let e : step.step.after.snapshot.number ≡ number = ap (λ s. s.number) begins.walking.snapshot ∙ is_number in
+        let e : step.step.after.snapshot.number ≡ number = ap (λ s. s.number) begins.snapshot ∙ is_number in
         let next_number = begins.next in
         omega arith
 
@@ -170,7 +177,7 @@ module _ (value : Values) (publics : ℕ) (tasks : List AgentTask)
     mine_1 = its_notes value publics tasks team w is holds Start next step
 
     after_1 : note_at next 1 ≡ begun_1
-    after_1 = note_after value publics tasks team w is Start next step ∙ start_begins.walking.snapshot
+    after_1 = note_after value publics tasks team w is Start next step ∙ start_begins.snapshot
 
     nothing_yet_1 : (own (note_at next 1)).under_way ≡ None
     nothing_yet_1 =
@@ -190,15 +197,11 @@ module _ (value : Values) (publics : ℕ) (tasks : List AgentTask)
 
     pub recorded_start : IsNext next
     recorded_start =
-        recorded_alone C v (both next c counted) 1
-        (changes Start next step not_was now last begun_1 refl start_begins) before of_1
-        (not_there Start next step not_was now last begun_1 refl start_begins)
-        (now_there Start next step not_was now last begun_1 refl start_begins)
-        (more Start next step not_was now last begun_1 refl start_begins)
-        (sends Start next step not_was now last begun_1 refl start_begins)
-        (λ i j. refl) (λ i j. refl)
-        (untaken Start next step not_was now last begun_1 refl start_begins) nothing_yet_1 awaited_1
-        (λ i is_i off. to_starting value publics tasks team w is next step of_1 i is_i off)
+        let x : Records Start next step =
+        record { not_was = not_was; now = now; number = last; notes = begun_1; is_number = refl; begins = start_begins } in
+        recorded_alone C v (both next c counted) 1 (changes Start next step x) before of_1 (not_there Start next step x)
+        (now_there Start next step x) (more Start next step x) (sends Start next step x) (λ i j. refl) (λ i j. refl)
+        (untaken Start next step x) nothing_yet_1 awaited_1 (to_starting value publics tasks team w is next step of_1)
 
   -- another agent takes a marker
   module _ (b a : ℕ) (next : World) (step : IsStepOf value w (Take b a) next) (is_next : IsTeamWorld tasks next)
@@ -222,6 +225,9 @@ module _ (value : Values) (publics : ℕ) (tasks : List AgentTask)
       abbrev new : Notes
       new = with_marker (begun step.agent.snapshot number (findings step.agent)) a
 
+      abbrev records : Records (Take b a) next step
+      records = record { not_was = not_was; now = now; number = number; notes = new; is_number = refl; begins = begins }
+
       only : IsMarker (note_at w 1).number (note_at w a).number (note_at w b).number number (has (note_at w b).marked a)
           (filter_map marker_of (messages_in (length tasks) publics (under_way next a b)))
       only = only_marker value publics tasks team w is holds b a next step number is_marker
@@ -230,7 +236,7 @@ module _ (value : Values) (publics : ℕ) (tasks : List AgentTask)
       mine_b = its_notes value publics tasks team w is holds (Take b a) next step
 
       after_b : note_at next b ≡ new
-      after_b = note_after value publics tasks team w is (Take b a) next step ∙ begins.walking.snapshot
+      after_b = note_after value publics tasks team w is (Take b a) next step ∙ begins.snapshot
 
       nothing_yet : (own (note_at next b)).under_way ≡ None
       nothing_yet =
@@ -267,23 +273,18 @@ module _ (value : Values) (publics : ℕ) (tasks : List AgentTask)
       sent =
           let this = begun_number (note_at w 1).number (note_at w a).number only.begun in
           let last = only.number in
-          let mine = number_k (Take b a) next step not_was now number new refl begins in
+          let mine : number ≡ k = number_k (Take b a) next step records in
           le-leb k (note_at w a).number (omega arith)
 
       pub recorded_marker : IsNext next
       recorded_marker =
-          recorded_taking C v (both next c counted) b
-          (changes (Take b a) next step not_was now number new refl begins) before of_b
-          (not_there (Take b a) next step not_was now number new refl begins)
-          (now_there (Take b a) next step not_was now number new refl begins)
-          (more (Take b a) next step not_was now number new refl begins)
-          (sends (Take b a) next step not_was now number new refl begins)
-          (λ i j. refl) (λ i j. refl) (untaken (Take b a) next step not_was now number new refl begins) nothing_yet
-          a of_a off (taken w (Take b a)) (taken_front value publics tasks team w is b a next step)
+          let e = Take b a in
+          recorded_taking C v (both next c counted) b (changes e next step records) before of_b (not_there e next step records)
+          (now_there e next step records) (more e next step records) (sends e next step records) (λ i j. refl) (λ i j. refl)
+          (untaken e next step records) nothing_yet a of_a off (taken w e) (taken_front value publics tasks team w is b a next step)
           (λ ahead later here. no_marker_among (length tasks) publics k team.facts small_k ahead later
           (ap (λ ms. filter_map marker_of (messages_in (length tasks) publics ms)) (sym here) ∙ only.alone))
-          sent comes awaited
-          (λ i is_i off_b off_a. to_taking value publics tasks team w is b a next step i is_i off_b off_a)
+          sent comes awaited (λ i is_i off_b off_a. to_taking value publics tasks team w is b a next step i is_i off_b off_a)
 
     pub recorded_take : IsNext next
     recorded_take =
@@ -294,7 +295,7 @@ module _ (value : Values) (publics : ℕ) (tasks : List AgentTask)
             → Took step.agent a m step.step → IsNext next
         by m same (inl (plain, takes)) = absurd (no_record step.agent step.step.after not_was now takes.keeps.number)
         by m same (inr (number, is_marker, inl marks)) =
-            absurd (no_record step.agent step.step.after not_was now (ap (λ s. s.number) marks.walking.snapshot))
+            absurd (no_record step.agent step.step.after not_was now (ap (λ s. s.number) marks.snapshot))
         by m same (inr (number, is_marker, inr begins)) = recorded_marker number (same ∙ is_marker) begins
 
   pub recorded_event : (event : Event) (next : World) (step : IsStepOf value w event next) → IsTeamWorld tasks next

@@ -1,7 +1,7 @@
 -- The event by which an agent records: it is not in the cut.
-use Rattle.std.proofs.Common.{◌≡◌, ◌≢◌, ℕ, Bool, true, false, ◌&&◌, eqb, List, [], ◌∷◌, ◌++◌, None, refl, sym, ap}
+use Rattle.std.proofs.Common.{◌≡◌, ◌≢◌, ℕ, Bool, true, false, ◌&&◌, List, [], ◌∷◌, ◌++◌, None, refl, sym, ap}
 use Rattle.std.proofs.Common.{subst, ◌∙◌}
-use Rattle.std.proofs.lemmas.Bool.{eqb-false, eqb-true, false≢true}
+use Rattle.std.proofs.lemmas.Bool.{false≢true}
 use Rattle.mp_snapshot.specs.Rules.{has, own}
 use Rattle.mp_team_snapshots.specs.CutMail.{AreCut}
 use Rattle.mp_team_snapshots.proofs.Both.{Both, ChangesOne, Cutting, IsCut, IsPair, cut_kept, least_counted, least_in}
@@ -9,7 +9,7 @@ use Rattle.mp_team_snapshots.proofs.Both.{recorded, taken_in}
 use Rattle.mp_team_snapshots.proofs.CutMail.{cut_again, sender_records, takes_marker}
 use Rattle.mp_team_snapshots.proofs.Doing.{none_taken}
 use Rattle.mp_team_snapshots.proofs.Leasts.{least_nothing}
-use Rattle.mp_team_snapshots.proofs.Protocol.{IsOf}
+use Rattle.mp_team_snapshots.proofs.Protocol.{IsOf, each}
 
 module _ (c : Cutting) (v v' : Both) (b : ℕ) (changes : ChangesOne c v v' b) (before : IsCut c v) (is_b : IsOf c.size b)
     (not_was : recorded c.number (v.note b) ≡ false) (is : recorded c.number (v'.note b) ≡ true)
@@ -90,10 +90,6 @@ module _ (c : Cutting) (v v' : Both) (b : ℕ) (changes : ChangesOne c v v' b) (
           (old_pair a is_a off_a true sent (x ∷ v'.first a b) (sym front)))
 
       to : (i : ℕ) → IsOf c.size i → i ≢ b → IsPair c v' i b
-      to i is_i off = by (eqb i a) refl
-        where
-          by : (p : Bool) → eqb i a ≡ p → IsPair c v' i b
-          by true test = subst (λ j. IsPair c v' j b) (sym (eqb-true i a test)) this
-          by false test =
-              let apart = eqb-false i a test in
-              to_same i is_i off (awaited i is_i off apart) (firsts i is_i off apart)
+      to i is_i off =
+          each c.size a (λ i. i ≢ b → IsPair c v' i b) (λ off. this)
+          (λ i is_i apart off. to_same i is_i off (awaited i is_i off apart) (firsts i is_i off apart)) i is_i off

@@ -117,19 +117,16 @@ module _ (value : Values) (publics : ℕ) (tasks : List AgentTask)
       → recorded k step.agent.snapshot ≡ true
       → recorded k step.step.after.snapshot ≡ true → HasNext next
   skipped_expansion agent next step was still =
-      let event = Expand agent in
+      let e = Expand agent in
+      let of = its e next step was still in
       let same : note_at next agent ≡ note_at w agent =
-      after_note event next step was still ∙ (expansion_keeps value publics tasks team w is holds agent next step).1
-      ∙ sym (before_note event next step was still)
+      after_note e next step was still ∙ (expansion_keeps value publics tasks team w is holds agent next step).1
+      ∙ sym (before_note e next step was still)
       in (
         counted,
-        skipped_alone C v (both next c counted) agent
-            (changes event next step was still counted (λ i j off. refl)) before
-            (its event next step was still) (was_there event next step was still)
-            (still_there event next step was still)
-            (sends event next step was still counted) (λ i j. refl) (λ i. ap (λ s. has s.marked i) same)
-            (λ i is_i off. to_expanding value publics tasks team w is agent next step
-            (its event next step was still) i is_i off)
+        skipped_alone C v (both next c counted) agent (changes e next step was still counted (λ i j off. refl)) before of
+            (was_there e next step was still) (still_there e next step was still) (sends e next step was still counted)
+            (λ i j. refl) (λ i. ap (λ s. has s.marked i) same) (to_expanding value publics tasks team w is agent next step of)
             (λ i. refl) (ap (λ s. (own s).under_way) same),
       )
 
@@ -139,7 +136,7 @@ module _ (value : Values) (publics : ℕ) (tasks : List AgentTask)
   skipped_start next step was after =
       let begins = starting value publics tasks team w is holds next step in
       let now : (note_at next 1).number ≡ step.agent.snapshot.number + 1 =
-      ap (λ s. s.number) (note_after value publics tasks team w is Start next step ∙ begins.walking.snapshot) in
+      ap (λ s. s.number) (note_after value publics tasks team w is Start next step ∙ begins.snapshot) in
       let low : step.agent.snapshot.number ≡ k =
       ap (λ s. s.number) (sym (note_before value publics tasks team w is Start next step))
       ∙ number_is (length tasks) (view publics w) sound k some upto 1
@@ -193,7 +190,7 @@ module _ (value : Values) (publics : ℕ) (tasks : List AgentTask)
 
     -- a message of a cost and estimate that is no marker
     module _ (m : Message) (reads : message_of (length tasks) publics x ≡ Some m) (plain : marker_of m ≡ None)
-        (takes : Takes step.agent a (state_f m) step.step.after) where
+        (takes : Takes step.agent (is_counted step.agent.snapshot a) (state_f m) step.step.after) where
       marks : (i : ℕ) → has (note_at next b).marked i ≡ has (note_at w b).marked i
       marks i = ap (λ s. has s.marked i) now_b ∙ ap (λ ms. has ms i) takes.marks ∙ ap (λ s. has s.marked i) (sym note_b)
 
@@ -276,7 +273,7 @@ module _ (value : Values) (publics : ℕ) (tasks : List AgentTask)
           notes = its_notes value publics tasks team w is holds event next step
 
           now : step.step.after.snapshot ≡ with_marker step.agent.snapshot a
-          now = marks.walking.snapshot
+          now = marks.snapshot
 
           flags : (i : ℕ) → IsOf (length tasks) i → i ≢ a → has (note_at next b).marked i ≡ has (note_at w b).marked i
           flags i is_i o =

@@ -1,8 +1,8 @@
 -- Agent 1 starts a snapshot, once all have reported on the last one or there was none, and sends a marker to all others.
-use Rattle.std.proofs.Common.{◌≡◌, ◌≢◌, ℕ, ◌+◌, ◌-◌, ◌≤◌, ◌<◌, Bool, true, false, ◌&&◌, eqb, List, [], ◌∷◌, ◌++◌, length, replicate, take, refl, sym, ap, subst, ◌∙◌, arith, ◌⊎◌, inl, inr}
+use Rattle.std.proofs.Common.{◌≡◌, ◌≢◌, ℕ, ◌+◌, ◌-◌, ◌≤◌, ◌<◌, Bool, true, false, ◌&&◌, List, [], ◌∷◌, ◌++◌, length, replicate, take, refl, sym, ap, subst, ◌∙◌, arith, ◌⊎◌, inl, inr}
 use Rattle.std.specs.Prelude.{nat_lt, slice_set}
 use Rattle.std.specs.List.{list_all}
-use Rattle.std.proofs.lemmas.Bool.{and_from, and_left, and_parts, and_right, eqb-false, eqb-true, lt-ltb}
+use Rattle.std.proofs.lemmas.Bool.{and_from, and_left, and_parts, and_right, lt-ltb}
 use Rattle.std.proofs.lemmas.List.{length-replicate, length-set}
 use Rattle.mp_messages.specs.declared.message.Findings.{Findings}
 use Rattle.mp_snapshot.specs.Rules.{all_of, begun, has, is_complete, is_whole, noted, nothing, own}
@@ -144,27 +144,20 @@ module _ (agents : ℕ) (small : agents ≤ 16) (v v' : View) (before : Sound ag
         itself = λ begun_it. absurd (apart_bools (begun_in (v'.note 1).number (v'.note i).number) begun_it (not_begun_now i is off));
       }
 
-  not_taken : (i j : ℕ) → IsOf agents i → IsOf agents j → i ≢ j → i ≢ 1 → (begun_in (v'.note 1).number (v'.note j).number && has (v'.note j).marked i) ≡ false
-  not_taken i j is_i is_j off off_i = by (eqb j 1) refl
-    where
-      by : (test : Bool) → eqb j 1 ≡ test → (begun_in (v'.note 1).number (v'.note j).number && has (v'.note j).marked i) ≡ false
-      by true same =
-          subst (λ k. (begun_in (v'.note 1).number (v'.note k).number && has (v'.note k).marked i) ≡ false) (sym (eqb-true j 1 same))
-          (and_right (begun_in (v'.note 1).number (v'.note 1).number) (has (v'.note 1).marked i)
-          (ap (λ s. has s.marked i) note ∙ fresh_other i is_i off_i))
-      by false other =
-          and_left (begun_in (v'.note 1).number (v'.note j).number) (has (v'.note j).marked i) (not_begun_now j is_j (eqb-false j 1 other))
+  not_taken : (i j : ℕ) → IsOf agents i → IsOf agents j → i ≢ 1 → (begun_in (v'.note 1).number (v'.note j).number && has (v'.note j).marked i) ≡ false
+  not_taken i j is_i is_j off_i =
+      each agents 1 (λ j. (begun_in (v'.note 1).number (v'.note j).number && has (v'.note j).marked i) ≡ false)
+      (and_right (begun_in (v'.note 1).number (v'.note 1).number) (has (v'.note 1).marked i) (ap (λ s. has s.marked i) note ∙ fresh_other i is_i off_i))
+      (λ j is_j other. and_left (begun_in (v'.note 1).number (v'.note j).number) (has (v'.note j).marked i) (not_begun_now j is_j other)) j is_j
 
   sent_kept : (i j : ℕ) → IsOf agents i → IsOf agents j → i ≢ j
       → (begun_in (v'.note 1).number (v'.note j).number && has (v'.note j).marked i) ≡ true
       → begun_in (v'.note 1).number (v'.note i).number ≡ true
-  sent_kept i j is_i is_j off is = by (eqb i 1) refl
-    where
-      by : (test : Bool) → eqb i 1 ≡ test → begun_in (v'.note 1).number (v'.note i).number ≡ true
-      by true same = subst (λ k. begun_in (v'.note 1).number (v'.note k).number ≡ true) (sym (eqb-true i 1 same)) begun_1
-      by false other =
-          absurd (apart_bools (begun_in (v'.note 1).number (v'.note j).number && has (v'.note j).marked i) is
-          (not_taken i j is_i is_j off (eqb-false i 1 other)))
+  sent_kept i j is_i is_j off =
+      each agents 1 (λ i. (begun_in (v'.note 1).number (v'.note j).number && has (v'.note j).marked i) ≡ true
+      → begun_in (v'.note 1).number (v'.note i).number ≡ true) (λ is. begun_1)
+      (λ i is_i other is. absurd (apart_bools (begun_in (v'.note 1).number (v'.note j).number && has (v'.note j).marked i) is
+      (not_taken i j is_i is_j other))) i is_i
 
   abbrev IsDue : ℕ → ℕ → Type 0
   IsDue i j = v'.markers i j ≡ due_marker (v'.note 1).number (v'.note i).number (v'.note j).number (has (v'.note j).marked i)
@@ -178,16 +171,10 @@ module _ (agents : ℕ) (small : agents ≤ 16) (v v' : View) (before : Sound ag
       (and_left (begun_in (v'.note 1).number (v'.note j).number) (has (v'.note j).marked 1) (not_begun_now j is (λ e. off (sym e)))))
 
   marker_kept : (i j : ℕ) → IsOf agents i → IsOf agents j → i ≢ j → IsDue i j
-  marker_kept i j is_i is_j off = by (eqb i 1) refl
-    where
-      by : (test : Bool) → eqb i 1 ≡ test → IsDue i j
-      by true same =
-          let here = eqb-true i 1 same in
-          subst (λ k. IsDue k j) (sym here) (marker_sent j is_j (λ e. off (here ∙ e)))
-      by false other =
-          let off_i = eqb-false i 1 other in
-          markers i j is_i is_j off off_i ∙ no_marker_before agents small v before over i j is_i is_j off
-          ∙ sym (no_marker_begun (v'.note 1).number (v'.note i).number (v'.note j).number (has (v'.note j).marked i) (not_begun_now i is_i off_i))
+  marker_kept i j is_i is_j =
+      each agents 1 (λ i. i ≢ j → IsDue i j) (marker_sent j is_j)
+      (λ i is_i off_i off. markers i j is_i is_j off off_i ∙ no_marker_before agents small v before over i j is_i is_j off
+      ∙ sym (no_marker_begun (v'.note 1).number (v'.note i).number (v'.note j).number (has (v'.note j).marked i) (not_begun_now i is_i off_i))) i is_i
 
   report_kept : (i : ℕ) → IsOf agents i → i ≢ 1
       → v'.reports i ≡ due_report (v'.note 1).number (v'.note i).number (is_whole (v'.note i)) (has (v'.note 1).reported i) (own (v'.note i))

@@ -103,13 +103,11 @@ module _ (value : Values) (publics : ℕ) (tasks : List AgentTask)
     pub a_b : a ≢ b
     a_b = apart value publics tasks team w is b a next step
 
-    pub taking : TookBytes (value step.agent.task) (length tasks) b team.agents step.agent
-        (its_notes (Take b a) next step) is_b a is_a a_b
-        (taken w (Take b a)) step.step
+    pub taking : TookBytes (length tasks) b team.agents step.agent (its_notes (Take b a) next step) is_b
+        (value step.agent.task) a is_a a_b (taken w (Take b a)) step.step
     taking =
-        took_bytes (value step.agent.task) (length tasks) b team.agents step.agent
-        (its_notes (Take b a) next step) is_b a is_a a_b
-        (taken w (Take b a)) step.step step.local
+        took_bytes (length tasks) b team.agents step.agent (its_notes (Take b a) next step) is_b
+        (value step.agent.task) a is_a a_b (taken w (Take b a)) step.step step.local
 
     -- the receiver reads messages as those of its team
     pub read_in_team : message_of (length tasks) publics (taken w (Take b a)) ≡ Some taking.message
@@ -143,9 +141,8 @@ module _ (value : Values) (publics : ℕ) (tasks : List AgentTask)
   passes (Expand agent) next step = inl (expansion_keeps agent next step).0
   passes (Take b a) next step =
       let t = taking b a next step in
-      took_passes (value step.agent.task) (length tasks) b team.agents step.agent (its_notes (Take b a) next step)
-      (is_b b a next step)
-      a (is_a b a next step) (a_b b a next step) t.message step.step t.took
+      took_passes (length tasks) b team.agents step.agent (its_notes (Take b a) next step) (is_b b a next step)
+      (value step.agent.task) a (is_a b a next step) (a_b b a next step) t.message step.step t.took
   passes Start next step =
       inr (start_starts (length tasks) 1 team.agents step.agent (its_notes Start next step)
       (is_its Start next step) step.step (starting next step))

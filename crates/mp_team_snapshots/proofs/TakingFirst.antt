@@ -1,5 +1,5 @@
 -- The message that an agent takes is the oldest one from its sender; all others are left.
-use Rattle.std.proofs.Common.{◌≡◌, ◌≢◌, ℕ, true, List, [], ◌∷◌, length, drop, Some, None, refl, sym, ap, subst, ◌∙◌, ◌⊎◌, inl, inr}
+use Rattle.std.proofs.Common.{◌≡◌, ◌≢◌, ℕ, true, List, [], ◌∷◌, length, drop, Option, Some, None, refl, sym, ap, subst, ◌∙◌, ◌⊎◌, inl, inr}
 use Rattle.std.specs.Prelude.{◌==◌, not, slice_index_or}
 use Rattle.std.specs.List.{filter_map}
 use Rattle.std.proofs.lemmas.List.Elements.{All-contains}
@@ -66,29 +66,25 @@ module _ (value : Values) (publics : ℕ) (tasks : List AgentTask) (team : IsTea
         (under_way-other w (team_lists tasks w is) a b i j (drop 1 (under_way w a b)) sender.0 (agent_there_of b is_receiver) (agent_there_of i is_i) (agent_there_of j is_j) other)
         ∙ sym (messages_before value publics tasks team w is (Take b a) next step i j)
 
-    -- where the message is no marker, all markers are left; and so it is with reports
+    -- what the message is no part of is left: where it is no marker, all markers
+    part_left : {X : Type 0} (part : Message → Option X) → part m ≡ None → (i j : ℕ) → IsOf (length tasks) i → IsOf (length tasks) j
+        → filter_map part (left value publics tasks team w is (Take b a) next step i j) ≡ filter_map part (messages publics w i j)
+    part_left {X} part plain i j is_i is_j = by (pair i j a b)
+      where
+        this : filter_map part (left value publics tasks team w is (Take b a) next step a b) ≡ filter_map part (messages publics w a b)
+        this = sym (ap (filter_map part) taken_first ∙ rw plain refl)
+
+        by : ((i ≡ a) × (j ≡ b)) ⊎ ((i ≢ a) ⊎ (j ≢ b))
+            → filter_map part (left value publics tasks team w is (Take b a) next step i j) ≡ filter_map part (messages publics w i j)
+        by (inl same) =
+            subst (λ k. filter_map part (left value publics tasks team w is (Take b a) next step k j) ≡ filter_map part (messages publics w k j)) (sym same.0)
+            (subst (λ k. filter_map part (left value publics tasks team w is (Take b a) next step a k) ≡ filter_map part (messages publics w a k)) (sym same.1) this)
+        by (inr other) = ap (filter_map part) (left_others i j is_i is_j other)
+
     pub markers_left : marker_of m ≡ None → (i j : ℕ) → IsOf (length tasks) i → IsOf (length tasks) j
         → filter_map marker_of (left value publics tasks team w is (Take b a) next step i j) ≡ markers publics w i j
-    markers_left plain i j is_i is_j = by (pair i j a b)
-      where
-        this : filter_map marker_of (left value publics tasks team w is (Take b a) next step a b) ≡ markers publics w a b
-        this = sym (ap (filter_map marker_of) taken_first ∙ rw plain refl)
-
-        by : ((i ≡ a) × (j ≡ b)) ⊎ ((i ≢ a) ⊎ (j ≢ b)) → filter_map marker_of (left value publics tasks team w is (Take b a) next step i j) ≡ markers publics w i j
-        by (inl same) =
-            subst (λ k. filter_map marker_of (left value publics tasks team w is (Take b a) next step k j) ≡ markers publics w k j) (sym same.0)
-            (subst (λ k. filter_map marker_of (left value publics tasks team w is (Take b a) next step a k) ≡ markers publics w a k) (sym same.1) this)
-        by (inr other) = ap (filter_map marker_of) (left_others i j is_i is_j other)
+    markers_left = part_left marker_of
 
     pub reports_left : report_of m ≡ None → (i j : ℕ) → IsOf (length tasks) i → IsOf (length tasks) j
         → filter_map report_of (left value publics tasks team w is (Take b a) next step i j) ≡ reports publics w i j
-    reports_left plain i j is_i is_j = by (pair i j a b)
-      where
-        this : filter_map report_of (left value publics tasks team w is (Take b a) next step a b) ≡ reports publics w a b
-        this = sym (ap (filter_map report_of) taken_first ∙ rw plain refl)
-
-        by : ((i ≡ a) × (j ≡ b)) ⊎ ((i ≢ a) ⊎ (j ≢ b)) → filter_map report_of (left value publics tasks team w is (Take b a) next step i j) ≡ reports publics w i j
-        by (inl same) =
-            subst (λ k. filter_map report_of (left value publics tasks team w is (Take b a) next step k j) ≡ reports publics w k j) (sym same.0)
-            (subst (λ k. filter_map report_of (left value publics tasks team w is (Take b a) next step a k) ≡ reports publics w a k) (sym same.1) this)
-        by (inr other) = ap (filter_map report_of) (left_others i j is_i is_j other)
+    reports_left = part_left report_of

@@ -1,7 +1,6 @@
 -- The laws for tasks that agree and are within the limits, of which there may be none.
 use Rattle.std.proofs.Common.{◌≡◌, ℕ, zero, suc, ◌≤◌, Bool, true, false, List, [], ◌∷◌, Some, refl, sym}
 use Rattle.std.proofs.Common.{ap, subst, ◌∙◌, ◌⊎◌, inl, inr}
-use Rattle.std.proofs.lemmas.List.Elements.{All-head}
 use Rattle.std.proofs.lemmas.Option.{none-some, same_Some}
 use Rattle.mp_list.proofs.Members.{contains_head}
 use Rattle.mp_runs.specs.Run.{run as run_of}

@@ -1,13 +1,14 @@
 -- The rule of verdicts does not look at the numbers of findings; what agent it names for a proved plan.
-use Rattle.std.proofs.Common.{◌≡◌, ℕ, suc, ◌+◌, Bool, true, false, List, [], ◌∷◌, map, Option, Some, None, refl, ap}
+use Rattle.std.proofs.Common.{◌≡◌, ℕ, suc, ◌+◌, Bool, true, false, List, [], ◌∷◌, map, Option, Some, None, refl, sym, ap}
 use Rattle.std.proofs.Common.{subst, ◌∙◌, arith}
-use Rattle.std.specs.Prelude.{◌&&◌, if◌then◌else◌, nat_le, slice_get}
-use Rattle.std.proofs.lemmas.Option.{none-some, same_Some}
+use Rattle.std.specs.Prelude.{◌&&◌, if◌then◌else◌, nat_le, option_map, slice_get}
+use Rattle.std.proofs.lemmas.Option.{none-some, same_Some, slice_get-map}
 use Rattle.mp_messages.specs.declared.message.Findings.{Findings}
 use Rattle.mp_snapshot.specs.declared.verdict.Verdict.TheVariants.{Proved}
 use Rattle.mp_snapshot.specs.Minima.{lesser}
 use Rattle.mp_snapshot.specs.VerdictRule.{by_costs, first_from, is_cost, least_f, least_goal, lowest_agent, proved}
 use Rattle.mp_snapshot.specs.VerdictRule.{spent_or_on, unproved, verdict_of}
+use Rattle.mp_machine.specs.AgentRecord.{AgentRecord}
 use Rattle.mp_team_snapshots.specs.Found.{numbered}
 
 module _ (k : ℕ) where
@@ -54,7 +55,8 @@ pub record IsNamed (number agent : ℕ) (test : Findings → Bool) (fs : List Fi
   pub there : slice_get fs place ≡ Some found
   pub passes : test found ≡ true
 
-named : (number agent : ℕ) (test : Findings → Bool) (fs : List Findings) → first_from number test fs ≡ Some agent
+-- the agent that is named passes the test
+pub named : (number agent : ℕ) (test : Findings → Bool) (fs : List Findings) → first_from number test fs ≡ Some agent
     → IsNamed number agent test fs
 named number agent test [] first = absurd (none-some agent first)
 named number agent test (f ∷ fs) first = by (test f) refl first (named (number + 1) agent test fs)
@@ -106,3 +108,13 @@ costs_named fs (Some cost) (Some f) agent c is = by (nat_le cost f) is
 pub verdict_named : (fs : List Findings) (agent cost : ℕ) → verdict_of fs ≡ Proved agent cost
     → IsNamed 1 agent (λ x. is_cost cost x.goal) fs
 verdict_named fs agent cost is = costs_named fs (least_goal fs) (least_f fs) agent cost is
+
+-- the agent of a list whose findings they are
+pub found_by : (found : AgentRecord → Findings) (rs : List AgentRecord) (place : ℕ) (f : Findings) → slice_get (map found rs) place ≡ Some f
+    → (r : AgentRecord) × (slice_get rs place ≡ Some r) × (found r ≡ f)
+found_by found rs place f here = by (slice_get rs place) refl (sym (slice_get-map found rs place) ∙ here)
+  where
+    by : (o : Option AgentRecord) → slice_get rs place ≡ o → option_map found o ≡ Some f
+        → (r : AgentRecord) × (slice_get rs place ≡ Some r) × (found r ≡ f)
+    by None at same = absurd (none-some f same)
+    by (Some r) at same = (r, at, same_Some (found r) f same)

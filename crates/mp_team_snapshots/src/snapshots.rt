@@ -11,7 +11,7 @@ ghost use Rattle.mp_snapshot.specs.declared.verdict.Verdict.{Verdict};
 ghost use Rattle.mp_snapshot.specs.Rules.{is_strange_marker, is_strange_report, own};
 ghost use Rattle.mp_snapshot.specs.VerdictRule.{verdict_of};
 ghost use Rattle.mp_task.specs.AgentTask.{AgentTask};
-ghost use Rattle.mp_task.specs.Agree.{Agree};
+ghost use Rattle.mp_task.specs.Agreement.{IsTeamMember};
 ghost use Rattle.mp_task.specs.Limits.{IsWithinLimits};
 ghost use Rattle.mp_team_snapshots.specs.Messages.{ends, markers, reports};
 ghost use Rattle.mp_team_snapshots.specs.Snapshots.{
@@ -43,7 +43,7 @@ pub fn snapshots_are_sound()
 /// these laws speak.
 pub fn tasks_that_agree_are_of_a_team()
     ensures { (tasks : List AgentTask) (t : AgentTask)
-        → Agree tasks → Contains tasks t → IsWithinLimits t → IsTeamOf t.publics tasks }
+        → IsTeamMember tasks t → IsWithinLimits t → IsTeamOf t.publics tasks }
 {}
 
 /// In every world that a legal schedule leads to, snapshots are sound, and no end is under way from

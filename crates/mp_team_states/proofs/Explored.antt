@@ -171,7 +171,7 @@ module _ (team : Team) (is_team : IsTeam team) where
       -- the initial state is the joint start
       first_value : (t : AgentTask) → Contains tasks t → value t (joint_start tasks).publics (private_of (joint_start tasks) t.me) ≡ own_value t (value t) (start_state t)
       first_value t here =
-          let number = number_at tasks is_team.tasks.agree here.0 t here.1 here.2 in
+          let number = number_at tasks is_team.tasks.agree.numbered here.0 t here.1 here.2 in
           let place : t.me - 1 ≡ here.0 = omega arith in
           let start : AgentTask → Numbers = λ u. set.from_list u.start_priv in
           let mine : private_of (joint_start tasks) t.me ≡ set.from_list t.start_priv =

@@ -81,7 +81,7 @@ module _ (tasks : List AgentTask) (are : AreTeamTasks tasks) where
 
         each : (u : AgentTask) → Contains tasks u → (u.me ≡ t.me) ⊎ (u.me ≡ t.me → ⊥) → (holds s.publics u.goal_pub && is_met u (private_of (joint w t.me s) u.me)) ≡ true
         each u u_here (inl same) =
-            let one : t ≡ u = same_number tasks are.agree t u here u_here (sym same) in
+            let one : t ≡ u = same_number tasks are.agree.numbered t u here u_here (sym same) in
             let mine : is_met t (private_of (joint w t.me s) t.me) ≡ true = ap (is_met t) (own_private w t fit s is.number) ∙ private.0 in
             and_from (holds s.publics u.goal_pub) (is_met u (private_of (joint w t.me s) u.me)) (publics u u_here)
             (subst (λ (v : AgentTask). is_met v (private_of (joint w t.me s) v.me) ≡ true) one mine)

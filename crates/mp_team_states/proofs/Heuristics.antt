@@ -32,7 +32,7 @@ module _ (value : Values)
         let p = way_plan tasks k last cost way ends in
         let within = All-contains IsWithinLimits tasks t are.within here in
         let most =
-        value_at_most (seen_system t) (StandsForAll (IsSeenAs tasks t) p.0) (seen_state t k.state) (task_cost tasks p.0) (seen_plan tasks are.agree are.within t here k.state p.0 joint p.1) _
+        value_at_most (seen_system t) (StandsForAll (IsSeenAs tasks t) p.0) (seen_state t k.state) (task_cost tasks p.0) (seen_plan tasks are t here k.state p.0 joint p.1) _
         (admissible t k.state.publics (private_of k.state t.me) within) in
         let bound = subst (λ o. IfSome o (λ x. x ≤ task_cost tasks p.0)) is most in
         let same = p.2 in
@@ -40,7 +40,7 @@ module _ (value : Values)
     hopeless = λ t k here joint none cost last way ends.
         let p = way_plan tasks k last cost way ends in
         let within = All-contains IsWithinLimits tasks t are.within here in
-        let seen = seen_plan tasks are.agree are.within t here k.state p.0 joint p.1 in
+        let seen = seen_plan tasks are t here k.state p.0 joint p.1 in
         dead t k.state.publics (private_of k.state t.me) within none seen.plan seen.plans;
     small = λ t publics privates here. small t publics privates (All-contains IsWithinLimits tasks t are.within here);
   }

@@ -1,6 +1,6 @@
 -- What an agent's state says of the joint state that it is: whom it concerns, what may be seen, and what own actions lead to.
 use Rattle.std.proofs.Common.{◌≡◌, ◌≢◌, ℕ, zero, suc, ◌+◌, ◌-◌, ◌<◌, ◌≤◌, ◌⊎◌, Bool, true, false, cond, ◌&&◌, length, get_or, Option, Some, refl, sym, ap, subst, ◌∙◌, arith, inl, inr}
-use Rattle.std.specs.Prelude.{Contains, IfSome, IsTrue, not, ◌==◌}
+use Rattle.std.specs.Prelude.{Contains, IfSome, IsTrue, filter, not, ◌==◌}
 use Rattle.std.specs.FinSet as set
 use Rattle.std.specs.List.{enumerate_from, range_with_len}
 use Rattle.std.proofs.lemmas.Bool.{and_from, and_parts, eq-eqb, false≢true, ne_eqb, not_from_false, or_left, or_right}
@@ -35,21 +35,23 @@ pub record IsReceiver (t : AgentTask) (agent : ℕ) : Type 0 where
   pub in_team : agent ≤ t.agents
   pub another : agent ≢ t.me
 
-not_equal : (a b : ℕ) → not (a == b) ≡ true → a ≢ b
+pub not_equal : (a b : ℕ) → not (a == b) ≡ true → a ≢ b
 not_equal a b test same = false≢true (sym (ap not (eq-eqb a b same)) ∙ test)
 
-pub receiver_is : (t : AgentTask) (s : AgentState) (agent : ℕ) → Contains (receivers t s) agent → IsReceiver t agent
-receiver_is t s agent here =
-    let both = member_passes (is_receiver t s) (range_with_len 1 t.agents) agent here in
+-- numbers of the team's agents but the own
+pub listed_is : (t : AgentTask) (p : ℕ → Bool) (agent : ℕ) → (p agent ≡ true → agent ≢ t.me) → Contains (filter p (range_with_len 1 t.agents)) agent
+    → IsReceiver t agent
+listed_is t p agent other here =
+    let both = member_passes p (range_with_len 1 t.agents) agent here in
     let place = both.0 in
     let many = length-range_with_len 1 t.agents in
     let inside : place.0 < t.agents = let lt = place.1 in omega arith in
     let number : 1 + place.0 ≡ agent = sym (get_or-range_with_len 1 t.agents place.0 agent inside) ∙ place.2 in
-    record {
-      from_1 = omega arith;
-      in_team = omega arith;
-      another = not_equal agent t.me (and_parts (not (agent == t.me)) (concerns t s agent) both.1).0;
-    }
+    record { from_1 = omega arith; in_team = omega arith; another = other both.1 }
+
+pub receiver_is : (t : AgentTask) (s : AgentState) (agent : ℕ) → Contains (receivers t s) agent → IsReceiver t agent
+receiver_is t s agent =
+    listed_is t (is_receiver t s) agent (λ test. not_equal agent t.me (and_parts (not (agent == t.me)) (concerns t s agent) test).0)
 
 pub is_among_receivers : (t : AgentTask) (s : AgentState) (agent : ℕ) → 1 ≤ agent → agent ≤ t.agents → is_receiver t s agent ≡ true → Contains (receivers t s) agent
 is_among_receivers t s agent low high test =

@@ -197,6 +197,6 @@ module _ (tasks : List AgentTask) (are : AreTeamTasks tasks) (w : World) (team :
 
       by : (u : AgentTask) → Contains tasks u → t.me ≡ u.me → (step : TaskStep) (reached : JointState) → Taken step reached u (joint w agent e.key)
       by u here number step reached =
-          let same : t ≡ u = same_number tasks are.agree t u (task_in tasks are w team agent r there) here number in
+          let same : t ≡ u = same_number tasks are.agree.numbered t u (task_in tasks are w team agent r there) here number in
           subst (λ (u : AgentTask). Taken step reached u (joint w agent e.key)) same
           (subst (λ (a : ℕ). Taken step reached t (joint w a e.key)) me (mine step reached))

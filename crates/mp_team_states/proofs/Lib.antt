@@ -1,5 +1,6 @@
--- in reading order: what grows; a search as changes one after another; what it keeps and sends, by cases;
+-- in reading order: each agent after an event; what grows; a search as changes one after another; what it keeps and sends, by cases;
 -- expansions and receipts as such changes
+pub mod EachAgent
 pub mod Growth
 pub mod Changes
 pub mod Keeping

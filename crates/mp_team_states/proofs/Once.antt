@@ -1,13 +1,11 @@
 -- One agent that knows nothing of what is still to be paid expands no state twice: what it expands costs no less than before.
-use Rattle.std.proofs.Common.{◌≡◌, ℕ, ◌≤◌, ◌⊎◌, List, [], length, Option, Some, sym, ap, subst, ◌∙◌, arith, inl, inr}
-use Rattle.std.specs.Prelude.{Ok, not, slice_get}
+use Rattle.std.proofs.Common.{◌≡◌, ℕ, ◌≤◌, ◌⊎◌, true, List, [], length, Option, Some, sym, ap, subst, ◌∙◌, arith, inl, inr}
+use Rattle.std.specs.Prelude.{not, slice_get}
 use Rattle.std.specs.Option.{option_map_or}
-use Rattle.std.proofs.lemmas.Bool.{and_parts, cases_eq}
+use Rattle.std.proofs.lemmas.Bool.{and_parts}
 use Rattle.std.proofs.lemmas.Option.{none-some, same_Some}
-use Rattle.mp_runs.proofs.Runs.{run_keeps}
 use Rattle.mp_task.specs.AgentTask.{AgentTask}
 use Rattle.mp_messages.specs.declared.history.Event.{Event}
-use Rattle.mp_messages.specs.declared.history.Event.TheVariants.{Expand, Take, Start}
 use Rattle.mp_store.specs.declared.entry.Entry.{Entry}
 use Rattle.mp_store.specs.declared.entry.Mark.{Mark}
 use Rattle.mp_store.specs.declared.entry.Mark.TheVariants.{Open, Expanded, Replaced}
@@ -20,20 +18,23 @@ use Rattle.mp_search.specs.Expansion.{Parent, expanded, expanded_entry, with_act
 use Rattle.mp_search.specs.Offering.{own_value, start_record}
 use Rattle.mp_search.specs.Search.{SearchRecord, is_open_below, is_spent, may_expand}
 use Rattle.mp_machine.specs.AgentRecord.{AgentRecord, is_going}
-use Rattle.mp_machine.specs.LocalStep.{with_search}
+use Rattle.mp_machine.specs.declared.event.Local.{Local}
+use Rattle.mp_machine.specs.declared.event.Local.TheVariants.{Expand}
+use Rattle.mp_machine.specs.LocalStep.{may}
 use Rattle.mp_machine.specs.Outgoing.{Step}
-use Rattle.mp_machine.specs.Snapshots.{started}
-use Rattle.mp_world.specs.Events.{after_event, agent_of, run}
+use Rattle.mp_machine.specs.Taking.{with_state}
+use Rattle.mp_world.specs.Events.{agent_of, local_of, run, taken}
 use Rattle.mp_world.specs.Steps.{IsStepOf}
 use Rattle.mp_world.specs.Team.{AreTeamTasks, IsTeam, team_with}
-use Rattle.mp_world.specs.World.{IsTeamWorld, World, agent_at, start_world}
+use Rattle.mp_world.specs.World.{IsTeamWorld, World, agent_at}
 use Rattle.mp_world.proofs.Agents.{agree_numbered, sender_of}
+use Rattle.mp_team_states.proofs.EachAgent.{each_agent}
 use Rattle.mp_world.proofs.Mail.{agent_of_team}
-use Rattle.mp_world.proofs.Stepping.{event_is_step, event_keeps_team, start_is_team, team_lists, team_size}
+use Rattle.mp_world.proofs.Runs.{run_has, run_of_team}
+use Rattle.mp_world.proofs.Stepping.{team_size}
 use Rattle.mp_team_states.specs.Sound.{AreStatesSound}
 use Rattle.mp_team_states.proofs.Growth.{grown_closed, grown_then}
 use Rattle.mp_team_states.proofs.GoodStates.{equal_if_joint}
-use Rattle.mp_team_states.proofs.Quiet.{quiet_started}
 use Rattle.mp_team_states.proofs.Reached.{has_it}
 use Rattle.mp_team_states.proofs.StartReached.{task_is}
 use Rattle.mp_team_states.proofs.StartSound.{start_states_sound}
@@ -44,6 +45,7 @@ use Rattle.mp_team_states.proofs.Expanded.{closed_is, one_expanded}
 use Rattle.mp_team_states.proofs.Members.{set_back, set_same}
 use Rattle.mp_team_states.proofs.Continuing.{Continues, WasExpanded, actions_continue, offered_continues}
 use Rattle.mp_team_states.proofs.SoundWorlds.{states_known}
+use Rattle.mp_team_states.proofs.WorldsGrow.{search_holds}
 use Rattle.mp_team_states.proofs.Worth.{IsWorth, falls, worth}
 
 -- What holds of the record of an agent that is alone: estimates are 0, no expanded entry costs more than an open one, and no two
@@ -247,72 +249,66 @@ rising_first t = record {
 
 -- ---- runs of one agent
 
+-- states are sound, and costs rise
+abbrev pub HaveRising : List AgentTask → World → Type 0
+HaveRising tasks w =
+    AreStatesSound tasks w × ((agent : ℕ) (r : AgentRecord) → agent_at w agent ≡ Some r → HasRisingCosts r.search.kept)
+
 module _ (tasks : List AgentTask) (are : AreTeamTasks tasks) (alone : length tasks ≡ 1) where
-  pub record IsInvariantOfOne (w : World) : Type 0 where
-    pub team : IsTeamWorld tasks w
-    pub sound : AreStatesSound tasks w
-    pub rising : (agent : ℕ) (r : AgentRecord) → agent_at w agent ≡ Some r → HasRisingCosts r.search.kept
-
   -- what its one agent does
-  step_rising : (w next : World) (all : IsInvariantOfOne w) (event : Event) (is : IsStepOf nothing_known w event next) → HasRisingCosts is.step.after.search.kept
-  step_rising w next all (Expand agent) is =
+  step_rising : (w next : World) → IsTeamWorld tasks w → HaveRising tasks w → (event : Event) (is : IsStepOf nothing_known w event next)
+      → HasRisingCosts is.step.after.search.kept
+  unfolding with_state
+  step_rising w next team all event is =
       let r = is.agent in
-      let d = expanded r.task (nothing_known r.task) r.search in
-      let same : with_search r d ≡ is.step = let done : Ok (with_search r d) ≡ Ok is.step = is.local in cc in
-      let may = and_parts (is_going r.ending) (may_expand r.limit r.search) is.may in
-      let below = and_parts (not (is_spent r.limit r.search)) (is_open_below r.search.kept) may.1 in
-      subst (λ (s : Step). HasRisingCosts s.after.search.kept) same
-      (rising_later r.task r.search (agent_sound tasks are w all.team all.sound agent r is.there).kept (all.rising agent r is.there) (worth r.search.kept below.1))
-  step_rising w next all (Take by from) is =
-      let sender = sender_of tasks (agree_numbered tasks are.agree) w all.team by from is.agent is.there is.may in
-      let receiver = agent_of_team w by is.agent is.there in
-      let size = team_size tasks w all.team in
-      let a = sender.0.from_1 in
-      let b = sender.0.at_most in
-      let c = receiver.from_1 in
-      let d = receiver.at_most in
-      absurd (sender.1 (let same : from ≡ by = omega arith in same))
-  step_rising w next all Start is =
-      let r = is.agent in
-      let same : started r ≡ is.step = let done : Ok (started r) ≡ Ok is.step = is.local in cc in
-      subst (λ (s : Step). HasRisingCosts s.after.search.kept) same
-      (subst (λ (x : SearchRecord). HasRisingCosts x.kept) (sym (quiet_started r).search_is) (all.rising 1 r is.there))
+      let old = all.1 (agent_of event) r is.there in
+      search_holds (nothing_known r.task) r (local_of event) (taken w event) (λ (s : Step). HasRisingCosts s.after.search.kept) (record {
+        expands = λ at.
+            let allowed : may r Expand ≡ true = subst (λ (e : Local). may r e ≡ true) at is.may in
+            let now = and_parts (is_going r.ending) (may_expand r.limit r.search) allowed in
+            let below = and_parts (not (is_spent r.limit r.search)) (is_open_below r.search.kept) now.1 in
+            rising_later r.task r.search (agent_sound tasks are w team all.0 (agent_of event) r is.there).kept old
+            (worth r.search.kept below.1);
+        receives = λ from m at reads.
+            let allowed = subst (λ (e : Local). may r e ≡ true) at is.may in
+            let sender = sender_of tasks (agree_numbered tasks are.agree) w team (agent_of event) from r is.there allowed in
+            let receiver = agent_of_team w (agent_of event) r is.there in
+            let size = team_size tasks w team in
+            let a = sender.0.from_1 in
+            let b = sender.0.at_most in
+            let c = receiver.from_1 in
+            let d = receiver.at_most in
+            absurd (sender.1 (let same : from ≡ agent_of event = omega arith in same));
+        quiet = λ s quiet. subst (λ (x : SearchRecord). HasRisingCosts x.kept) (sym quiet.search_is) old;
+      }) is.step is.local
 
-  event_of_one : (w next : World) (event : Event) → IsInvariantOfOne w → after_event nothing_known w event ≡ Some next → IsInvariantOfOne next
-  event_of_one w next event all leads = record {
-    team = event_keeps_team nothing_known tasks w event next all.team leads;
-    sound = states_stay_sound tasks are w all.team all.sound nothing_known next event is;
-    rising = λ agent r there. by agent r there (cases_eq agent (agent_of event));
-  }
-    where
-      is : IsStepOf nothing_known w event next
-      is = event_is_step nothing_known w (team_lists tasks w all.team) event next leads
+  module _ (limit : ℕ) (is_team : IsTeam (team_with nothing_known limit tasks)) (schedule : List Event) (w : World)
+      (ran : run (team_with nothing_known limit tasks) schedule ≡ Some w) where
+    pub rising_in_runs : HaveRising tasks w
+    rising_in_runs =
+        run_has (team_with nothing_known limit tasks) (HaveRising tasks) (
+          start_states_sound (team_with nothing_known limit tasks) is_team,
+          λ agent r there.
+              let of = task_is (team_with nothing_known limit tasks) is_team agent r there in
+              subst (λ (r : AgentRecord). HasRisingCosts r.search.kept) (sym of.2) (rising_first of.0),
+        )
+        (λ v event next team all is. (
+          states_stay_sound tasks are v team all.0 nothing_known next event is,
+          each_agent nothing_known v event next is (λ agent r. HasRisingCosts r.search.kept) (step_rising v next team all event is)
+              (λ agent r there other. all.1 agent r there),
+        )) schedule w ran
 
-      by : (agent : ℕ) (r : AgentRecord) → agent_at next agent ≡ Some r → (agent ≡ agent_of event) ⊎ (agent ≡ agent_of event → ⊥) → HasRisingCosts r.search.kept
-      by agent r there (inl same) =
-          subst (λ (r : AgentRecord). HasRisingCosts r.search.kept) (same_Some is.step.after r (sym is.after ∙ ap (agent_at next) (sym same) ∙ there)) (step_rising w next all event is)
-      by agent r there (inr other) = all.rising agent r (sym (is.others agent other) ∙ there)
-
-  start_of_one : (limit : ℕ) → IsTeam (team_with nothing_known limit tasks) → IsInvariantOfOne (start_world (team_with nothing_known limit tasks))
-  start_of_one limit is_team = record {
-    team = start_is_team (team_with nothing_known limit tasks);
-    sound = start_states_sound (team_with nothing_known limit tasks) is_team;
-    rising = λ agent r there.
-        let of = task_is (team_with nothing_known limit tasks) is_team agent r there in
-        subst (λ (r : AgentRecord). HasRisingCosts r.search.kept) (sym of.2) (rising_first of.0);
-  }
-
-  pub run_expands_once : (limit : ℕ) → IsTeam (team_with nothing_known limit tasks) → (schedule : List Event) (w : World)
-      → run (team_with nothing_known limit tasks) schedule ≡ Some w → ExpandsOnce w
-  run_expands_once limit is_team schedule w ran agent m n a b same =
-      let all = run_keeps (after_event nothing_known) IsInvariantOfOne (λ v next event all leads. event_of_one v next event all leads) schedule (start_world (team_with nothing_known limit tasks)) w (start_of_one limit is_team) ran in
-      let x = has_it w agent m a.entry a.there in
-      let y = has_it w agent n b.entry b.there in
-      let one : y.agent_is ≡ x.agent_is = same_Some y.agent_is x.agent_is (sym y.there ∙ x.there) in
-      let y_at : slice_get x.agent_is.search.kept.entries n ≡ Some b.entry = subst (λ (r : AgentRecord). slice_get r.search.kept.entries n ≡ Some b.entry) one y.at in
-      let key =
-      equal_if_joint tasks are w all.team all.sound agent x.agent_is a.entry.key b.entry.key x.there
-      (states_known tasks are w all.team all.sound agent m x.agent_is a.entry x.there x.at)
-      (states_known tasks are w all.team all.sound agent n x.agent_is b.entry x.there y_at) same
-      in
-      (all.rising agent x.agent_is x.there).once m n (record { entry = a.entry; at = x.at; is = a.is }) (record { entry = b.entry; at = y_at; is = b.is }) key
+    pub run_expands_once : ExpandsOnce w
+    run_expands_once agent m n a b same =
+        let team = run_of_team (team_with nothing_known limit tasks) schedule w ran in
+        let all = rising_in_runs in
+        let x = has_it w agent m a.entry a.there in
+        let y = has_it w agent n b.entry b.there in
+        let one : y.agent_is ≡ x.agent_is = same_Some y.agent_is x.agent_is (sym y.there ∙ x.there) in
+        let y_at : slice_get x.agent_is.search.kept.entries n ≡ Some b.entry = subst (λ (r : AgentRecord). slice_get r.search.kept.entries n ≡ Some b.entry) one y.at in
+        let key =
+        equal_if_joint tasks are w team all.0 agent x.agent_is a.entry.key b.entry.key x.there
+        (states_known tasks are w team all.0 agent m x.agent_is a.entry x.there x.at)
+        (states_known tasks are w team all.0 agent n x.agent_is b.entry x.there y_at) same
+        in
+        (all.1 agent x.agent_is x.there).once m n (record { entry = a.entry; at = x.at; is = a.is }) (record { entry = b.entry; at = y_at; is = b.is }) key

@@ -61,14 +61,15 @@ has_it w agent number e is = by (agent_at w agent) refl is
 -- ---- paths stay
 
 module _ (w next : World) (grown : HaveGrown w next) where
-  entry_stays : (agent number : ℕ) (e : Entry AgentState) → IsEntryAt w agent number e → (later : Entry AgentState) × IsEntryAt next agent number later × IsAlike e later
+  pub entry_stays : (agent number : ℕ) (e : Entry AgentState) → IsEntryAt w agent number e → (later : Entry AgentState) × IsEntryAt next agent number later × IsAlike e later
   entry_stays agent number e is =
       let h = has_it w agent number e is in
       let r = grown agent h.agent_is h.there in
       let later = r.2.kept.entries number e h.at in
       (later.0, entry_in next agent number r.0 later.0 r.1 later.1, later.2)
 
-  sent_at_stays : (agent sent number : ℕ) → IsSentAt w agent sent number → IsSentAt next agent sent number
+  -- a sent number stays that of its entry
+  pub sent_at_stays : (agent sent number : ℕ) → IsSentAt w agent sent number → IsSentAt next agent sent number
   sent_at_stays agent sent number is = by (agent_at w agent) refl is
     where
       by : (o : Option AgentRecord) → agent_at w agent ≡ o → IsSomeAnd o (λ r. slice_get r.search.kept.sent sent ≡ Some number) → IsSentAt next agent sent number

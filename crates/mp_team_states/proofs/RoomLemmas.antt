@@ -80,19 +80,23 @@ module _ (value : Values) (w next : World) (event : Event) (is : IsStepOf value 
           ∙ sym (ap (agent_at (with_agent w (agent_of event) is.step.after)) same ∙ agent_at-same w (agent_of event) is.agent is.step.after is.there)
       by k (inr other) = is.others (suc k) other ∙ sym (agent_at-other w (agent_of event) (suc k) is.agent is.step.after is.there other)
 
-  -- all agents together: what the event's agent expanded more
-  counts_more : expanded_by_all next + count is.agent ≡ expanded_by_all w + count is.step.after
-  counts_more =
-      ap (λ (rs : List AgentRecord). sum_by count rs + count is.agent) agents_are ∙ by (agent_of event) is.there
+  -- a sum over all agents changes as the event's agent does
+  pub sum_more : (part : AgentRecord → ℕ) → sum_by part next.agents + part is.agent ≡ sum_by part w.agents + part is.step.after
+  sum_more part =
+      ap (λ (rs : List AgentRecord). sum_by part rs + part is.agent) agents_are ∙ by (agent_of event) is.there
     where
-      by : (a : ℕ) → agent_at w a ≡ Some is.agent → sum_by count (slice_set w.agents (a - 1) is.step.after) + count is.agent ≡ sum_by count w.agents + count is.step.after
+      by : (a : ℕ) → agent_at w a ≡ Some is.agent → sum_by part (slice_set w.agents (a - 1) is.step.after) + part is.agent ≡ sum_by part w.agents + part is.step.after
       by zero there = absurd (none-some is.agent there)
       by (suc k) there =
           let place : suc k - 1 ≡ k = omega arith in
           let inside = slice_get_within w.agents k is.agent there in
           let at : get_or w.agents (suc k - 1) is.agent ≡ is.agent = ap (λ (i : ℕ). get_or w.agents i is.agent) place ∙ get_or_from_slice_get w.agents k is.agent is.agent there in
-          ap (λ (r : AgentRecord). sum_by count (slice_set w.agents (suc k - 1) is.step.after) + count r) (sym at)
-          ∙ sum_by-set count w.agents (suc k - 1) is.step.after is.agent (omega arith)
+          ap (λ (r : AgentRecord). sum_by part (slice_set w.agents (suc k - 1) is.step.after) + part r) (sym at)
+          ∙ sum_by-set part w.agents (suc k - 1) is.step.after is.agent (omega arith)
+
+  -- all agents together: what the event's agent expanded more
+  counts_more : expanded_by_all next + count is.agent ≡ expanded_by_all w + count is.step.after
+  counts_more = sum_more count
 
   pub counts_grow : expanded_by_all w ≤ expanded_by_all next
   counts_grow =

@@ -10,7 +10,7 @@ use Rattle.std.proofs.lemmas.List.Elements.{All-contains}
 use Rattle.std.proofs.lemmas.Option.{get_or_from_slice_get, none-some, same_Some, slice_get-map, slice_get_within}
 use Rattle.mp_runs.proofs.Runs.{run-none}
 use Rattle.mp_sets.specs.declared.tag.Tag.{Tag}
-use Rattle.mp_task.specs.Agree.{FitsTeam}
+use Rattle.mp_task.specs.Agreement.{FitsTeam}
 use Rattle.mp_task.specs.AgentTask.{AgentTask}
 use Rattle.mp_task.specs.Limits.{IsWithinLimits}
 use Rattle.mp_task.specs.Plan.{JointState, after_step, joint_start, public_start, task_of}
@@ -55,7 +55,7 @@ module _ (team : Team) (is_team : IsTeam team) where
     in_team zero at = absurd (none-some t at)
     in_team (suc k) at =
         let here = Contains-slice_get tasks k t at in
-        (here, number_at tasks is_team.tasks.agree k t (slice_get_within tasks k t at) (get_or_from_slice_get tasks k t t at))
+        (here, number_at tasks is_team.tasks.agree.numbered k t (slice_get_within tasks k t at) (get_or_from_slice_get tasks k t t at))
 
     pub here : Contains tasks t
     here = (in_team agent at).0
@@ -108,8 +108,8 @@ module _ (team : Team) (is_team : IsTeam team) where
         by i u inside found true test =
             let mine = eqb-true (1 + i) t.me test in
             let there_too = Contains-slice_get tasks i u found in
-            let number = number_at tasks is_team.tasks.agree i u (slice_get_within tasks i u found) (get_or_from_slice_get tasks i u u found) in
-            ap (λ (x : AgentTask). set.from_list x.start_priv) (same_number tasks is_team.tasks.agree t u here there_too (omega arith))
+            let number = number_at tasks is_team.tasks.agree.numbered i u (slice_get_within tasks i u found) (get_or_from_slice_get tasks i u u found) in
+            ap (λ (x : AgentTask). set.from_list x.start_priv) (same_number tasks is_team.tasks.agree.numbered t u here there_too (omega arith))
         by i u inside found false test =
             let next : 1 + i ≡ suc i = omega arith in
             ap (λ (a : ℕ). told_by w (a, get_or tags i no_tag)) next

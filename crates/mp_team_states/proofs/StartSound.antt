@@ -9,7 +9,7 @@ use Rattle.std.proofs.lemmas.Option.{get_or_from_slice_get, none-some, slice_get
 use Rattle.mp_list.proofs.Members.{no_member}
 use Rattle.mp_sets.specs.declared.tag.Tag.{Tag}
 use Rattle.mp_sets.specs.Numbers.{Numbers}
-use Rattle.mp_task.specs.Agree.{FitsTeam}
+use Rattle.mp_task.specs.Agreement.{FitsTeam}
 use Rattle.mp_task.specs.AgentTask.{AgentTask}
 use Rattle.mp_task.specs.Limits.{IsWithinLimits}
 use Rattle.mp_task.specs.Met.{is_met, met_at_start}

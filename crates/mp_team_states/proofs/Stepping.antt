@@ -1,8 +1,8 @@
 -- What an event does to what its agent keeps and sent, and to the messages under way.
-use Rattle.std.proofs.Common.{◌≡◌, ◌≢◌, ℕ, ◌+◌, ◌<◌, ◌^◌, ◌⊎◌, Bool, true, List, [], ◌∷◌, map, Option, Some, refl, sym, subst, ◌∙◌, inl, inr}
+use Rattle.std.proofs.Common.{◌≡◌, ℕ, ◌+◌, ◌<◌, ◌^◌, ◌⊎◌, Bool, true, List, [], ◌∷◌, map, Option, Some, refl, sym, ap, subst, ◌∙◌, inl, inr}
 use Rattle.std.specs.Prelude.{Contains, drop, slice_get, slice_index_or, ◌==◌, if◌then◌else◌}
 use Rattle.std.specs.List.{filter, flat_map}
-use Rattle.std.proofs.lemmas.Bool.{and_parts, cases_eq, eq-eqb}
+use Rattle.std.proofs.lemmas.Bool.{and_parts, eq-eqb}
 use Rattle.std.proofs.lemmas.List.Elements.{All-contains, Contains-append_left, Contains-append_right}
 use Rattle.mp_list.proofs.Members.{contains_cases, no_member}
 use Rattle.mp_sets.specs.Numbers.{Numbers}
@@ -10,7 +10,7 @@ use Rattle.mp_task.specs.declared.act.Act.{Act}
 use Rattle.mp_task.specs.AgentTask.{AgentTask}
 use Rattle.mp_task.specs.Limits.{ActFits, IsWithinLimits}
 use Rattle.mp_messages.specs.declared.history.Event.{Event}
-use Rattle.mp_messages.specs.declared.history.Event.TheVariants.{Expand, Take, Start}
+use Rattle.mp_messages.specs.declared.history.Event.TheVariants.{Expand, Take}
 use Rattle.mp_messages.specs.declared.message.Message.{Message}
 use Rattle.mp_messages.specs.declared.message.Message.TheVariants as kinds
 use Rattle.mp_messages.specs.Spelling.{spelling}
@@ -34,16 +34,13 @@ use Rattle.mp_world.specs.Steps.{IsStepOf, sent_between, sent_to}
 use Rattle.mp_world.specs.Team.{AreTeamTasks}
 use Rattle.mp_world.specs.Values.{Values}
 use Rattle.mp_world.specs.World.{IsAgent, IsTeamWorld, World, agent_at, under_way}
-use Rattle.mp_world.proofs.Agents.{agree_numbered, sender_of}
-use Rattle.mp_world.proofs.Mail.{agent_of_team, under_way-other, under_way-same}
-use Rattle.mp_world.proofs.Stepping.{team_lists}
 use Rattle.mp_team_states.specs.Room.{AreSmall, HasSmallValues}
 use Rattle.mp_team_states.specs.Sent.{IsSentIn}
 use Rattle.mp_team_states.specs.Sound.{AreStatesSound}
 use Rattle.mp_team_states.proofs.LocalStates.{GoesOut as GoesOutSound, IsSoundStep, expansion_sound}
 use Rattle.mp_team_states.proofs.Quiet.{IsQuiet}
 use Rattle.mp_team_states.proofs.RoomLemmas.{small_value}
-use Rattle.mp_team_states.proofs.StepsSound.{agent_sound, limits_of}
+use Rattle.mp_team_states.proofs.StepsSound.{agent_sound, left_is, limits_of}
 use Rattle.mp_team_states.proofs.WorldsGrow.{search_holds}
 use Rattle.mp_team_states.proofs.Expanded.{HasExpanded, gone_on, has_expanded, received_continues}
 use Rattle.mp_team_states.proofs.Continuing.{continues_same}
@@ -132,38 +129,17 @@ module _ (tasks : List AgentTask) (are : AreTeamTasks tasks) (w : World) (team :
     -- a message is still under way, or it is the one that is taken
     pub still_there : (event : Event) → IsStepOf value w event next → (from to : ℕ) → IsAgent w from → IsAgent w to → (bytes : List ℕ) → Contains (under_way w from to) bytes
         → Contains (under_way (without_taken w event) from to) bytes ⊎ ((event ≡ Take to from) × (taken w event ≡ bytes))
-    still_there (Expand agent) is from to sender receiver bytes here = inl here
-    still_there Start is from to sender receiver bytes here = inl here
-    still_there (Take by of) is from to sender receiver bytes here = both (cases_eq from of) (cases_eq to by)
+    still_there event is from to sender receiver bytes here = by (left_is tasks are w team sound value next event is from to sender receiver)
       where
-        left : List (List ℕ)
-        left = drop 1 (under_way w of by)
-
-        from_there : IsAgent w of
-        from_there = (sender_of tasks (agree_numbered tasks are.agree) w team by of is.agent is.there is.may).0
-
-        Still : Type 0
-        Still = Contains (under_way (without_taken w (Take by of)) from to) bytes
-
-        other : (from ≢ of) ⊎ (to ≢ by) → Still
-        other apart =
-            subst (λ (ms : List (List ℕ)). Contains ms bytes)
-            (sym (under_way-other w (team_lists tasks w team) of by from to left from_there (agent_of_team w by is.agent is.there) sender receiver apart)) here
-
-        both : (from ≡ of) ⊎ (from ≡ of → ⊥) → (to ≡ by) ⊎ (to ≡ by → ⊥) → Still ⊎ ((Take by of ≡ Take to from) × (taken w (Take by of) ≡ bytes))
-        both (inr apart) any = inl (other (inl apart))
-        both (inl same) (inr apart) = inl (other (inr apart))
-        both (inl same) (inl same_to) =
-            which (first_or_later (under_way w of by) bytes (subst (λ (ms : List (List ℕ)). Contains ms bytes) (λ j. under_way w (same j) (same_to j)) here))
-          where
-            which : (slice_index_or (under_way w of by) 0 [] ≡ bytes) ⊎ Contains left bytes → Still ⊎ ((Take by of ≡ Take to from) × (taken w (Take by of) ≡ bytes))
-            which (inl first) = inr (λ j. Take (sym same_to j) (sym same j), first)
-            which (inr later) =
-                let now : under_way (without_taken w (Take by of)) from to ≡ left =
-                (λ j. under_way (without_taken w (Take by of)) (same j) (same_to j))
-                ∙ under_way-same w (team_lists tasks w team) of by left from_there (agent_of_team w by is.agent is.there)
-                in
-                inl (subst (λ (ms : List (List ℕ)). Contains ms bytes) (sym now) later)
+        by : (under_way (without_taken w event) from to ≡ under_way w from to)
+            ⊎ ((event ≡ Take to from) × (under_way (without_taken w event) from to ≡ drop 1 (under_way w from to)))
+            → Contains (under_way (without_taken w event) from to) bytes ⊎ ((event ≡ Take to from) × (taken w event ≡ bytes))
+        by (inl same) = inl (subst (λ (ms : List (List ℕ)). Contains ms bytes) (sym same) here)
+        by (inr gone) =
+            elim (first_or_later (under_way w from to) bytes here) [
+              | inl first ↦ inr (gone.0, ap (taken w) gone.0 ∙ first)
+              | inr later ↦ inl (subst (λ (ms : List (List ℕ)). Contains ms bytes) (sym gone.1) later)
+            ]
 
     module _ (event : Event) (is : IsStepOf value w event next) where
       pub stays_under_way : (from to : ℕ) → IsAgent w from → IsAgent w to → (bytes : List ℕ) → Contains (under_way (without_taken w event) from to) bytes → Contains (under_way next from to) bytes

@@ -236,12 +236,13 @@ module _ (tasks : List AgentTask) (are : AreTeamTasks tasks) (w : World) (team :
               bytes_known a by found.0.task is.agent (taken w (Take by a)) (task_at a found.0 found.1) is.there
               (Contains-get_or (under_way w a by) 0 [] (not_none (under_way w a by) is.message))
 
-      -- no more messages are under way when one is taken
-      was_there : (event : Event) → IsStepOf value w event next → (from to : ℕ) → IsAgent w from → IsAgent w to → (bytes : List ℕ)
-          → Contains (under_way (without_taken w event) from to) bytes → Contains (under_way w from to) bytes
-      was_there (Expand agent) is from to sender receiver bytes here = here
-      was_there Start is from to sender receiver bytes here = here
-      was_there (Take by of) is from to sender receiver bytes here = both (cases_eq from of) (cases_eq to by)
+      -- what is left of the messages from one agent to another: all, or all but the one that is taken
+      pub left_is : (event : Event) → IsStepOf value w event next → (from to : ℕ) → IsAgent w from → IsAgent w to
+          → (under_way (without_taken w event) from to ≡ under_way w from to)
+          ⊎ ((event ≡ Take to from) × (under_way (without_taken w event) from to ≡ drop 1 (under_way w from to)))
+      left_is (Expand agent) is from to sender receiver = inl refl
+      left_is Start is from to sender receiver = inl refl
+      left_is (Take by of) is from to sender receiver = both (cases_eq from of) (cases_eq to by)
         where
           left : List (List ℕ)
           left = drop 1 (under_way w of by)
@@ -249,21 +250,29 @@ module _ (tasks : List AgentTask) (are : AreTeamTasks tasks) (w : World) (team :
           from_there : IsAgent w of
           from_there = (sender_of tasks (agree_numbered tasks are.agree) w team by of is.agent is.there is.may).0
 
-          other : (from ≢ of) ⊎ (to ≢ by) → Contains (under_way w from to) bytes
-          other apart =
-              subst (λ (ms : List (List ℕ)). Contains ms bytes)
-              (under_way-other w (team_lists tasks w team) of by from to left from_there (agent_of_team w by is.agent is.there) sender receiver apart) here
+          other : (from ≢ of) ⊎ (to ≢ by) → under_way (without_taken w (Take by of)) from to ≡ under_way w from to
+          other = under_way-other w (team_lists tasks w team) of by from to left from_there (agent_of_team w by is.agent is.there) sender receiver
 
-          both : (from ≡ of) ⊎ (from ≡ of → ⊥) → (to ≡ by) ⊎ (to ≡ by → ⊥) → Contains (under_way w from to) bytes
-          both (inr apart) any = other (inl apart)
-          both (inl same) (inr apart) = other (inr apart)
-          both (inl same) (inl same_to) =
-              let now : under_way (without_taken w (Take by of)) from to ≡ left =
-              (λ j. under_way (without_taken w (Take by of)) (same j) (same_to j))
-              ∙ under_way-same w (team_lists tasks w team) of by left from_there (agent_of_team w by is.agent is.there)
-              in
-              let first = drop_one (under_way w of by) bytes (subst (λ (ms : List (List ℕ)). Contains ms bytes) now here) in
-              subst (λ (ms : List (List ℕ)). Contains ms bytes) (λ j. under_way w (sym same j) (sym same_to j)) first
+          both : (from ≡ of) ⊎ (from ≡ of → ⊥) → (to ≡ by) ⊎ (to ≡ by → ⊥)
+              → (under_way (without_taken w (Take by of)) from to ≡ under_way w from to)
+              ⊎ ((Take by of ≡ Take to from) × (under_way (without_taken w (Take by of)) from to ≡ drop 1 (under_way w from to)))
+          both (inr apart) any = inl (other (inl apart))
+          both (inl same) (inr apart) = inl (other (inr apart))
+          both (inl same) (inl same_to) = inr (
+            λ j. Take (sym same_to j) (sym same j),
+            (λ j. under_way (without_taken w (Take by of)) (same j) (same_to j))
+                ∙ under_way-same w (team_lists tasks w team) of by left from_there (agent_of_team w by is.agent is.there)
+                ∙ (λ j. drop 1 (under_way w (sym same j) (sym same_to j))),
+          )
+
+      -- no more messages are under way when one is taken
+      was_there : (event : Event) → IsStepOf value w event next → (from to : ℕ) → IsAgent w from → IsAgent w to → (bytes : List ℕ)
+          → Contains (under_way (without_taken w event) from to) bytes → Contains (under_way w from to) bytes
+      was_there event is from to sender receiver bytes here =
+          elim (left_is event is from to sender receiver) [
+            | inl same ↦ subst (λ (ms : List (List ℕ)). Contains ms bytes) same here
+            | inr taken ↦ drop_one (under_way w from to) bytes (subst (λ (ms : List (List ℕ)). Contains ms bytes) taken.1 here)
+          ]
 
       module _ (event : Event) (is : IsStepOf value w event next) where
         grown : HaveGrown w next

@@ -41,14 +41,14 @@ use Rattle.mp_team_states.proofs.Expanded.{one_expanded}
 use Rattle.mp_team_states.proofs.Continuing.{WasExpanded}
 use Rattle.mp_team_states.proofs.SoundWorlds.{later_cheaper, states_known}
 
-nearer_strict : IsStrictOrder (is_nearer {K = AgentState})
+pub nearer_strict : IsStrictOrder (is_nearer {K = AgentState})
 nearer_strict = strict_from_total nearer_cmp (then_total (on_total (λ x. f x.1) nat_cmp_total) (then_total (on_total (λ x. x.1.h) nat_cmp_total) (on_total (λ x. x.0) nat_cmp_total)))
 
-nearer_less : (x y : Numbered AgentState) → f x.1 < f y.1 → is_nearer x y ≡ true
+pub nearer_less : (x y : Numbered AgentState) → f x.1 < f y.1 → is_nearer x y ≡ true
 nearer_less x y less =
     ap (λ b. is_lt (ordering_then (cond b Less (cond (eqb (f x.1) (f y.1)) Equal Greater)) (ordering_then (nat_cmp x.1.h y.1.h) (nat_cmp x.0 y.0)))) (lt-ltb (f x.1) (f y.1) less)
 
-open_mark : (m : Mark) → is_open m ≡ true → m ≡ Open
+pub open_mark : (m : Mark) → is_open m ≡ true → m ≡ Open
 open_mark Open is = refl
 open_mark Expanded is = absurd (false≢true is)
 open_mark Replaced is = absurd (false≢true is)
@@ -64,14 +64,14 @@ pub record IsWorth (r : Record AgentState) : Type 0 where
   pub below : (m : ℕ) (e : Entry AgentState) → slice_get r.entries m ≡ Some e → e.goal ≡ true → f entry < e.g
 
 module _ (r : Record AgentState) where
-  there_at : (p : Entry AgentState → Bool) (m : ℕ) (e : Entry AgentState) → slice_get r.entries m ≡ Some e → p e ≡ true → Contains (those p r.entries) (m, e)
+  pub there_at : (p : Entry AgentState → Bool) (m : ℕ) (e : Entry AgentState) → slice_get r.entries m ≡ Some e → p e ≡ true → Contains (those p r.entries) (m, e)
   there_at p m e at passes =
       let it : get_or r.entries m e ≡ e = get_or_from_slice_get r.entries m e e at in
       subst (λ (x : Entry AgentState). Contains (those p r.entries) (m, x)) it
       (those_hold p r.entries m e (slice_get_within r.entries m e at) (ap p it ∙ passes))
 
   -- the bound is at most the cost of each goal entry
-  bound_least : (m : ℕ) (e : Entry AgentState) → slice_get r.entries m ≡ Some e → e.goal ≡ true → (b : ℕ) × (bound r ≡ Some b) × (b ≤ e.g)
+  pub bound_least : (m : ℕ) (e : Entry AgentState) → slice_get r.entries m ≡ Some e → e.goal ≡ true → (b : ℕ) × (bound r ≡ Some b) × (b ≤ e.g)
   bound_least m e at goal = by (leftmost is_cheaper None (those (λ e. e.goal) r.entries)) refl
     where
       there : Contains (those (λ e. e.goal) r.entries) (m, e)

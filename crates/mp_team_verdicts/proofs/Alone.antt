@@ -1,9 +1,9 @@
 -- An agent that is alone, with a heuristic that knows nothing, expands each state once at most, so that it is spent only where it may
 -- expand fewer entries than there are states.
 use Rattle.std.proofs.Common.{◌≡◌, ℕ, ◌+◌, ◌-◌, ◌<◌, ◌≤◌, ◌^◌, ◌⊎◌, Bool, true, false, List, [], ◌∷◌, ◌++◌, length, map, Option, Some, refl, sym, ap, subst, ◌∙◌, arith, inl, inr}
-use Rattle.std.specs.Prelude.{Contains, ◌==◌, if◌then◌else◌, not, slice_get, slice_index_or}
+use Rattle.std.specs.Prelude.{Contains, ◌==◌, if◌then◌else◌, slice_get, slice_index_or}
 use Rattle.std.specs.Option.{option_map_or}
-use Rattle.std.proofs.lemmas.Bool.{and_parts, cases_lt, eqb-true, false≢true}
+use Rattle.std.proofs.lemmas.Bool.{cases_lt, eqb-true, false≢true}
 use Rattle.std.proofs.lemmas.List.{length-map}
 use Rattle.std.proofs.lemmas.Option.{get_or_from_slice_get, none-some, same_Some, slice_get_within}
 use Rattle.mp_list.proofs.Members.{contains_cases, no_member}
@@ -15,41 +15,32 @@ use Rattle.mp_store.specs.declared.entry.Mark.TheVariants.{Expanded, Open}
 use Rattle.mp_store.specs.Laws.{IsSound}
 use Rattle.mp_store.specs.Record.{is_open}
 use Rattle.mp_search.specs.AgentState.{AgentState, no_tag, same_state}
-use Rattle.mp_search.specs.Search.{SearchRecord, is_open_below, is_spent, may_expand}
 use Rattle.mp_search.proofs.KeyedStates.{Decides-state}
 use Rattle.mp_snapshot.specs.declared.verdict.Verdict.TheVariants.{Spent}
-use Rattle.mp_machine.specs.AgentRecord.{AgentRecord, given_verdict, is_going}
-use Rattle.mp_machine.specs.declared.event.Local.{Local}
-use Rattle.mp_machine.specs.declared.event.Local.TheVariants as locals
-use Rattle.mp_machine.specs.LocalStep.{may}
-use Rattle.mp_machine.specs.Outgoing.{Step}
-use Rattle.mp_machine.specs.Taking.{with_state}
-use Rattle.mp_world.specs.Events.{agent_of, local_of, run, taken}
+use Rattle.mp_machine.specs.AgentRecord.{AgentRecord, given_verdict}
+use Rattle.mp_world.specs.Events.{run}
 use Rattle.mp_world.specs.Steps.{IsStepOf}
 use Rattle.mp_world.specs.Team.{AreTeamTasks, IsTeam, team_with}
 use Rattle.mp_world.specs.World.{IsTeamWorld, World, agent_at}
-use Rattle.mp_world.proofs.Agents.{agree_numbered, member_of, sender_of}
+use Rattle.mp_world.proofs.Agents.{agree_numbered, member_of}
 use Rattle.mp_world.proofs.Mail.{agent_of_team}
-use Rattle.mp_world.proofs.Runs.{run_has, run_has_history, run_of_team}
+use Rattle.mp_world.proofs.Runs.{run_has_history, run_of_team}
 use Rattle.mp_world.proofs.Stepping.{team_size}
 use Rattle.mp_team_states.specs.Paths.{IsEntryAt}
 use Rattle.mp_team_states.specs.Sound.{AreStatesSound}
 use Rattle.mp_team_states.proofs.Reached.{has_it}
-use Rattle.mp_team_states.proofs.StartReached.{task_is}
 use Rattle.mp_team_states.proofs.StartSound.{start_states_sound}
 use Rattle.mp_team_states.proofs.StepsSound.{agent_sound, states_stay_sound}
 use Rattle.mp_team_states.specs.Expansions.{IsExpandedAt, nothing_known}
 use Rattle.mp_team_states.proofs.Continuing.{WasExpanded}
 use Rattle.mp_team_states.proofs.Heuristics.{heuristic_of}
 use Rattle.mp_team_states.proofs.Members.{from_map}
-use Rattle.mp_team_states.proofs.Once.{HasRisingCosts, rising_first, rising_later}
+use Rattle.mp_team_states.proofs.Once.{HaveRising, rising_in_runs}
 use Rattle.mp_team_states.proofs.SoundWorlds.{IsHeuristic, later_cheaper, states_known}
 use Rattle.mp_team_states.proofs.StillExpanded.{stays_expanded}
-use Rattle.mp_team_states.proofs.WorldsGrow.{search_holds}
-use Rattle.mp_team_states.proofs.Worth.{expands_one, worth}
+use Rattle.mp_team_states.proofs.Worth.{expands_one}
 use Rattle.mp_team_verdicts.specs.Right.{IsUndecided}
 use Rattle.mp_team_verdicts.proofs.Counts.{count_by, count_more, counted_in_runs, is_by}
-use Rattle.mp_team_verdicts.proofs.EachAgent.{each_agent}
 use Rattle.mp_team_verdicts.proofs.FewStates.{AreApart, IsAloneState, few_apart, map_apart, same_states, state_number, state_number_below}
 use Rattle.mp_team_verdicts.proofs.Verdicts.{verdict_right}
 
@@ -145,54 +136,9 @@ module _ (tasks : List AgentTask) (are : AreTeamTasks tasks) where
         (λ past w event next team old is.
         (states_stay_sound tasks are w team old.0 nothing_known next event is, λ agent. one_more past w team old event next is agent))
 
-    -- ---- costs rise where one agent is alone
+    -- ---- where one agent is alone
 
     module _ (alone : length tasks ≡ 1) where
-      abbrev HaveRising : World → Type 0
-      HaveRising w = AreStatesSound tasks w × ((agent : ℕ) (r : AgentRecord) → agent_at w agent ≡ Some r → HasRisingCosts r.search.kept)
-
-      step_rising : (w next : World) → IsTeamWorld tasks w → HaveRising w → (event : Event) (is : IsStepOf nothing_known w event next) → HasRisingCosts is.step.after.search.kept
-      unfolding with_state
-      step_rising w next team all event is =
-          let r = is.agent in
-          let old = all.1 (agent_of event) r is.there in
-          search_holds (nothing_known r.task) r (local_of event) (taken w event) (λ (s : Step). HasRisingCosts s.after.search.kept) (record {
-            expands = λ at.
-                let allowed : may r locals.Expand ≡ true = subst (λ (e : Local). may r e ≡ true) at is.may in
-                let now = and_parts (is_going r.ending) (may_expand r.limit r.search) allowed in
-                let below = and_parts (not (is_spent r.limit r.search)) (is_open_below r.search.kept) now.1 in
-                rising_later r.task r.search (agent_sound tasks are w team all.0 (agent_of event) r is.there).kept old
-                (worth r.search.kept below.1);
-            receives = λ from m at reads.
-                let allowed = subst (λ (e : Local). may r e ≡ true) at is.may in
-                let sender = sender_of tasks (agree_numbered tasks are.agree) w team (agent_of event) from r is.there allowed in
-                let receiver = agent_of_team w (agent_of event) r is.there in
-                let size = team_size tasks w team in
-                let a = sender.0.from_1 in
-                let b = sender.0.at_most in
-                let c = receiver.from_1 in
-                let d = receiver.at_most in
-                absurd (sender.1 (let same : from ≡ agent_of event = omega arith in same));
-            quiet = λ s quiet. subst (λ (x : SearchRecord). HasRisingCosts x.kept) (sym quiet.search_is) old;
-          }) is.step is.local
-
-      rising_next : (w : World) (event : Event) (next : World) → IsTeamWorld tasks w → HaveRising w → IsStepOf nothing_known w event next → HaveRising next
-      rising_next w event next team all is = (
-        states_stay_sound tasks are w team all.0 nothing_known next event is,
-        each_agent nothing_known w event next is (λ agent r. HasRisingCosts r.search.kept) (step_rising w next team all event is)
-            (λ agent r there other. all.1 agent r there),
-      )
-
-      rising_in_runs : (schedule : List Event) (w : World) → run (team_with nothing_known limit tasks) schedule ≡ Some w → HaveRising w
-      rising_in_runs =
-          run_has (team_with nothing_known limit tasks) HaveRising (
-            start_states_sound (team_with nothing_known limit tasks) is_team,
-            λ agent r there.
-                let of = task_is (team_with nothing_known limit tasks) is_team agent r there in
-                subst (λ (r : AgentRecord). HasRisingCosts r.search.kept) (sym of.2) (rising_first of.0),
-          )
-          (λ w event next team all is. rising_next w event next team all is)
-
       -- ---- one world
 
       module _ (schedule : List Event) (w : World) (ran : run (team_with nothing_known limit tasks) schedule ≡ Some w) (agent : ℕ) (r : AgentRecord) (there : agent_at w agent ≡ Some r)
@@ -200,8 +146,8 @@ module _ (tasks : List AgentTask) (are : AreTeamTasks tasks) where
         team : IsTeamWorld tasks w
         team = run_of_team (team_with nothing_known limit tasks) schedule w ran
 
-        rising : HaveRising w
-        rising = rising_in_runs schedule w ran
+        rising : HaveRising tasks w
+        rising = rising_in_runs tasks are alone limit is_team schedule w ran
 
         sound : IsSound same_state r.search.kept
         sound = (agent_sound tasks are w team rising.0 agent r there).kept

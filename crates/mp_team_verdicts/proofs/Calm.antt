@@ -1,7 +1,7 @@
 -- What rounds without an expansion lead to, as long as all agents go on.
 use Rattle.std.proofs.Common.{◌≡◌, ◌≢◌, ℕ, ◌≤◌, Bool, true, false, List, [], length, Option, Some, All, refl, sym, ap, subst, ◌∙◌, arith, ◌⊎◌, inl, inr}
 use Rattle.std.specs.List.{filter_map}
-use Rattle.std.proofs.lemmas.Bool.{cases_eq, false≢true}
+use Rattle.std.proofs.lemmas.Bool.{cases_eq, false≢true, true_from_ne_false}
 use Rattle.std.proofs.lemmas.List.Elements.{All-nil}
 use Rattle.mp_runs.specs.Run.{run as run_of}
 use Rattle.mp_messages.specs.declared.history.Event.{Event}
@@ -21,7 +21,7 @@ use Rattle.mp_team_snapshots.proofs.Changes.{note_after, note_before, note_other
 use Rattle.mp_team_snapshots.proofs.Protocol.{IsOf}
 use Rattle.mp_team_snapshots.proofs.Worlds.{note_at}
 use Rattle.mp_team_verdicts.specs.Ending.{HasEnded}
-use Rattle.mp_team_verdicts.proofs.EachAgent.{each_agent}
+use Rattle.mp_team_states.proofs.EachAgent.{each_agent}
 use Rattle.mp_team_verdicts.proofs.Frames.{IsKnownWorld, ended_stays}
 use Rattle.mp_team_snapshots.proofs.Taken.{its_notes}
 use Rattle.mp_team_verdicts.specs.Quiet.{are_quiet, is_quiet}
@@ -49,7 +49,7 @@ module _ (team : Team) (is_team : IsTeam team) (publics : ℕ) (of_team : IsTeam
   is_known = known team is_team publics of_team
 
   -- what every event keeps
-  stays_on : (Holds : World → Type 0)
+  pub stays_on : (Holds : World → Type 0)
       → ((v : World) (event : Event) (next : World) → Reached v → Reached next → IsStepOf value v event next → Holds v → Holds next)
       → (events : List Event) (u w : World) → Reached u → Holds u → Goes u events w → Holds w
   stays_on Holds keeps events u w at holds goes =
@@ -67,17 +67,13 @@ module _ (team : Team) (is_team : IsTeam team) (publics : ℕ) (of_team : IsTeam
 
   -- who goes on has gone on before
   pub went_on : (events : List Event) (u w : World) → Reached u → Goes u events w → AllGo w → AllGo u
-  went_on events u w at goes go i r there = by (is_going r.ending) refl
-    where
-      ended : is_going r.ending ≡ false → HasEnded w i
-      ended test =
-          stays_on (λ v. HasEnded v i)
-          (λ v event next at_v at_next step old. ended_stays value publics tasks of_team v (is_known v at_v).team event next step i old)
-          events u w at (record { who = r; there = there; ended = test }) goes
-
-      by : (b : Bool) → is_going r.ending ≡ b → is_going r.ending ≡ true
-      by true test = test
-      by false test = let e = ended test in absurd (false≢true (sym e.ended ∙ go i e.who e.there))
+  went_on events u w at goes go i r there =
+      true_from_ne_false (is_going r.ending) (λ test.
+      let e =
+      stays_on (λ v. HasEnded v i)
+      (λ v event next at_v at_next step old. ended_stays value publics tasks of_team v (is_known v at_v).team event next step i old)
+      events u w at (record { who = r; there = there; ended = test }) goes in
+      false≢true (sym e.ended ∙ go i e.who e.there))
 
   -- silence stays
   pub silent_on : (events : List Event) (u w : World) → Reached u → Goes u events w → IsSilent n publics u → IsSilent n publics w
@@ -124,35 +120,35 @@ module _ (team : Team) (is_team : IsTeam team) (publics : ℕ) (of_team : IsTeam
       omega arith) events u w at goes (omega arith)
 
   -- a marker and a report that have come stay, as long as the number does
-  pub marked_on : (i j : ℕ) → IsOf n i → (events : List Event) (u w : World) → Reached u → Goes u events w
-      → number_at w j ≡ number_at u j → has (note_at u j).marked i ≡ true → has (note_at w j).marked i ≡ true
-  marked_on i j is_i events u w at goes same set =
-      (notes_on j (λ s. (number_at u j ≤ s.number) × (s.number ≡ number_at u j → has s.marked i ≡ true))
+  flag_on : (flags : Notes → List Bool) (i j : ℕ)
+      → ((v : World) (event : Event) (next : World) → Reached v → (step : IsStepOf value v event next)
+      → step.step.after.snapshot.number ≡ step.agent.snapshot.number → has (flags step.agent.snapshot) i ≡ true
+      → has (flags step.step.after.snapshot) i ≡ true)
+      → (events : List Event) (u w : World) → Reached u → Goes u events w → number_at w j ≡ number_at u j
+      → has (flags (note_at u j)) i ≡ true → has (flags (note_at w j)) i ≡ true
+  flag_on flags i j still events u w at goes same set =
+      (notes_on j (λ s. (number_at u j ≤ s.number) × (s.number ≡ number_at u j → has (flags s) i ≡ true))
       (λ v event next at_v step here old.
       let m = moved value publics tasks of_team v (is_known v at_v).team event next step in
-      let notes = its_notes value publics tasks of_team v (is_known v at_v).team (is_known v at_v).in_runs event next step in
       let more = number_rises (agent_of event) m.message step.agent step.step.after m.moves in
-      let low = old.0 in (
-        omega arith,
-        λ equal.
-            still_marked n i of_team.agents is_i (agent_of event) m.message step.agent step.step.after notes.marked m.moves
-            (omega arith) (old.1 (omega arith)),
-      )) events u w at goes (omega arith, λ equal. set)).1 same
+      let low = old.0 in
+      (omega arith, λ equal. still v event next at_v step (omega arith) (old.1 (omega arith)))) events u w at goes (omega arith, λ equal. set)).1 same
+
+  pub marked_on : (i j : ℕ) → IsOf n i → (events : List Event) (u w : World) → Reached u → Goes u events w
+      → number_at w j ≡ number_at u j → has (note_at u j).marked i ≡ true → has (note_at w j).marked i ≡ true
+  marked_on i j is_i =
+      flag_on (λ s. s.marked) i j (λ v event next at_v step.
+      let m = moved value publics tasks of_team v (is_known v at_v).team event next step in
+      let notes = its_notes value publics tasks of_team v (is_known v at_v).team (is_known v at_v).in_runs event next step in
+      still_marked n i of_team.agents is_i (agent_of event) m.message step.agent step.step.after notes.marked m.moves)
 
   pub reported_on : (i j : ℕ) → IsOf n i → (events : List Event) (u w : World) → Reached u → Goes u events w
       → number_at w j ≡ number_at u j → has (note_at u j).reported i ≡ true → has (note_at w j).reported i ≡ true
-  reported_on i j is_i events u w at goes same set =
-      (notes_on j (λ s. (number_at u j ≤ s.number) × (s.number ≡ number_at u j → has s.reported i ≡ true))
-      (λ v event next at_v step here old.
+  reported_on i j is_i =
+      flag_on (λ s. s.reported) i j (λ v event next at_v step.
       let m = moved value publics tasks of_team v (is_known v at_v).team event next step in
       let notes = its_notes value publics tasks of_team v (is_known v at_v).team (is_known v at_v).in_runs event next step in
-      let more = number_rises (agent_of event) m.message step.agent step.step.after m.moves in
-      let low = old.0 in (
-        omega arith,
-        λ equal.
-            still_reported n i of_team.agents is_i (agent_of event) m.message step.agent step.step.after notes.reported m.moves
-            (omega arith) (old.1 (omega arith)),
-      )) events u w at goes (omega arith, λ equal. set)).1 same
+      still_reported n i of_team.agents is_i (agent_of event) m.message step.agent step.step.after notes.reported m.moves)
 
   -- ---- a round without an expansion
 

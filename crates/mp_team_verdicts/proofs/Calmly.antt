@@ -25,7 +25,7 @@ use Rattle.mp_team_verdicts.specs.Ending.{AgentAt, HasNoPart, HasShare, HasWalke
 use Rattle.mp_team_verdicts.specs.Ending.Stage.{over, picking, searching, walking, without_plan}
 use Rattle.mp_team_verdicts.proofs.EndMessages.{IsNoEnd, none_to}
 use Rattle.mp_team_verdicts.proofs.Fitting.{HasEndRoom, ends_next, no_end_has_room}
-use Rattle.mp_team_verdicts.proofs.EachAgent.{each_agent}
+use Rattle.mp_team_states.proofs.EachAgent.{each_agent}
 use Rattle.mp_team_verdicts.proofs.Frames.{IsKnownWorld, agent_stays, ended_stays, first_next, leads_stays, of_agent_next, of_next, proved_stays}
 use Rattle.mp_team_verdicts.proofs.EndSteps.{IsCalm}
 use Rattle.mp_team_verdicts.proofs.WalkOn.{ComesTo, team_fits}

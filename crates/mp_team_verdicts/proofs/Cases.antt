@@ -1,13 +1,12 @@
 -- The rule of verdicts by cases: what it says of the least costs, and of the agent that it names.
-use Rattle.std.proofs.Common.{◌≡◌, ℕ, suc, ◌+◌, ◌≤◌, ◌<◌, Bool, true, false, List, [], ◌∷◌, Option, Some, None, refl, subst, arith}
+use Rattle.std.proofs.Common.{◌≡◌, ℕ, ◌≤◌, ◌<◌, Bool, true, false, List, Option, Some, None, refl, subst}
 use Rattle.std.specs.Prelude.{◌&&◌, if◌then◌else◌, nat_le}
 use Rattle.std.proofs.lemmas.Bool.{leb-false, leb-true}
-use Rattle.std.proofs.lemmas.Option.{none-some, same_Some}
 use Rattle.mp_messages.specs.declared.message.Findings.{Findings}
 use Rattle.mp_snapshot.specs.declared.verdict.Verdict.{Verdict}
 use Rattle.mp_snapshot.specs.declared.verdict.Verdict.TheVariants.{Proved, NoPlan, Spent, Continue}
-use Rattle.mp_snapshot.specs.VerdictRule.{by_costs, first_from, is_cost, least_f, least_goal, lowest_agent, proved, spent_or_on, unproved, verdict_of}
-use Rattle.mp_team_snapshots.proofs.Unnumbered.{IsNamed}
+use Rattle.mp_snapshot.specs.VerdictRule.{by_costs, is_cost, least_f, least_goal, lowest_agent, proved, spent_or_on, unproved, verdict_of}
+use Rattle.mp_team_snapshots.proofs.Unnumbered.{IsNamed, named}
 
 -- a cost is at most that of what is left to do, if something is
 abbrev pub IsNoneBelow : ℕ → Option ℕ → Type 0
@@ -32,29 +31,13 @@ Says found goal f NoPlan = (goal ≡ None) × (f ≡ None)
 Says found goal f (Spent agent) = (l : ℕ) × (f ≡ Some l) × IsAbove l goal × IsNamed 1 agent (λ x. x.spent && is_cost l x.least) found
 Says found goal f Continue = Unit {0}
 
--- the agent that is named passes the test
-pub first_named : (number agent : ℕ) (test : Findings → Bool) (fs : List Findings) → first_from number test fs ≡ Some agent → IsNamed number agent test fs
-first_named number agent test [] first = absurd (none-some agent first)
-first_named number agent test (f ∷ fs) first = by (test f) refl first (first_named (number + 1) agent test fs)
-  where
-    by : (b : Bool) → test f ≡ b → (if b then Some number else first_from (number + 1) test fs) ≡ Some agent
-        → (first_from (number + 1) test fs ≡ Some agent → IsNamed (number + 1) agent test fs)
-        → IsNamed number agent test (f ∷ fs)
-    by true passes first more =
-        let same : number ≡ agent = same_Some number agent first in
-        record { place = 0; is = omega arith; found = f; there = refl; passes = passes }
-    by false fails first more =
-        let it = more first in
-        let e = it.is in
-        record { place = suc it.place; is = omega arith; found = it.found; there = it.there; passes = it.passes }
-
 module _ (found : List Findings) where
   says_unproved : (f : ℕ) (goal : Option ℕ) → IsAbove f goal → Says found goal (Some f) (unproved found f)
   says_unproved f goal above = by (lowest_agent (λ x. x.spent && is_cost f x.least) found) refl
     where
       by : (o : Option ℕ) → lowest_agent (λ x. x.spent && is_cost f x.least) found ≡ o → Says found goal (Some f) (spent_or_on o)
       by None is = tt
-      by (Some agent) is = (f, refl, above, first_named 1 agent (λ x. x.spent && is_cost f x.least) found is)
+      by (Some agent) is = (f, refl, above, named 1 agent (λ x. x.spent && is_cost f x.least) found is)
 
   says_proved : (cost : ℕ) (f : Option ℕ) (o : Option ℕ) → IsNoneBelow cost f → Says found (Some cost) f (proved cost o)
   says_proved cost f None below = tt

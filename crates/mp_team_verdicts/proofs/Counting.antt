@@ -30,7 +30,7 @@ use Rattle.mp_team_states.proofs.Worth.{expands_one}
 use Rattle.mp_team_verdicts.proofs.Frames.{IsKnownWorld}
 use Rattle.mp_team_verdicts.specs.Quiet.{are_quiet, is_quiet}
 use Rattle.mp_team_verdicts.proofs.Calm.{Goes, Reached}
-use Rattle.mp_team_verdicts.proofs.Short.{sum_more}
+use Rattle.mp_team_states.proofs.RoomLemmas.{sum_more}
 use Rattle.mp_team_verdicts.proofs.Reached.{all_pass, known, onward, reached_next, step_of}
 
 count : AgentRecord → ℕ

@@ -24,7 +24,7 @@ use Rattle.mp_team_states.proofs.StartReached.{start_reaches, task_is}
 use Rattle.mp_team_states.proofs.StartSound.{start_states_sound}
 use Rattle.mp_team_states.proofs.StepsSound.{limits_of, states_stay_sound}
 use Rattle.mp_team_verdicts.specs.Few.{ArePathsShort, KeepFew, entries_of, kept_by_all}
-use Rattle.mp_team_verdicts.proofs.EachAgent.{each_agent}
+use Rattle.mp_team_states.proofs.EachAgent.{each_agent}
 use Rattle.mp_team_verdicts.proofs.OneEntry.{few_agents, few_entries}
 use Rattle.mp_team_verdicts.proofs.OwnEntries.{HasFewOwn, local_own, offered_count}
 use Rattle.mp_team_verdicts.proofs.Short.{event_short, start_short}

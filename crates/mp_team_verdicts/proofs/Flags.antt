@@ -29,7 +29,7 @@ use Rattle.mp_team_states.proofs.Entries.{IsNew, IsOld, changes_entry}
 use Rattle.mp_team_states.proofs.Expanding.{IsEntryOf, IsFirst, IsReceived, Led, expanded_changes, received_changes, start_changes}
 use Rattle.mp_team_states.proofs.StartReached.{task_is}
 use Rattle.mp_team_states.proofs.WorldsGrow.{search_holds}
-use Rattle.mp_team_verdicts.proofs.EachAgent.{each_agent}
+use Rattle.mp_team_states.proofs.EachAgent.{each_agent}
 
 -- the mark of an entry says whether its state is a goal
 abbrev pub IsFlagged : AgentTask → Entry AgentState → Type 0

@@ -29,7 +29,7 @@ use Rattle.mp_team_states.proofs.WorldsGrow.{step_grows}
 use Rattle.mp_team_verdicts.specs.Ending.{HasEnded, HasGoal, IsProved, LeadsTo, end_messages, is_of_end}
 use Rattle.mp_team_verdicts.proofs.Few.{HoldsSoFar}
 use Rattle.mp_team_verdicts.proofs.Heard.{HearOthers}
-use Rattle.mp_team_verdicts.proofs.Short.{sent_at_stays}
+use Rattle.mp_team_states.proofs.Reached.{sent_at_stays}
 
 -- what is known of a world that a legal schedule leads to
 pub record IsKnownWorld (publics : ℕ) (tasks : List AgentTask) (w : World) : Type 0 where

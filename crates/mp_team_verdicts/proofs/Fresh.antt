@@ -37,7 +37,7 @@ use Rattle.mp_team_snapshots.proofs.Started.{is_over_of}
 use Rattle.mp_team_snapshots.proofs.TakingFirst.{apart, is_receiver, is_sender}
 use Rattle.mp_team_snapshots.proofs.Worlds.{team_numbers}
 use Rattle.mp_team_states.proofs.Quiet.{IsOther}
-use Rattle.mp_team_verdicts.proofs.EachAgent.{each_agent}
+use Rattle.mp_team_states.proofs.EachAgent.{each_agent}
 use Rattle.mp_team_snapshots.proofs.Taken.{is_its, its_notes}
 use Rattle.mp_team_verdicts.specs.Quiet.{is_quiet}
 use Rattle.mp_team_verdicts.proofs.Decides.{FoundNothingToDo, decides}

@@ -58,7 +58,7 @@ module _ (tasks : List AgentTask) (are : AreTeamTasks tasks) (w : World) (team :
     where
       by : (t.me ≡ agent) ⊎ (t.me ≡ agent → ⊥) → is_met t (private_of (joint w agent s) t.me) ≡ true
       by (inl same) =
-          let one : t ≡ r.task = same_number tasks are.agree t r.task here mine (same ∙ sym me) in
+          let one : t ≡ r.task = same_number tasks are.agree.numbered t r.task here mine (same ∙ sym me) in
           (λ j. is_met (one j) (private_of (joint w agent s) (same j))) ∙ ap (is_met r.task) (own_facts tasks are w team agent r there s is) ∙ parts.1
       by (inr other) =
           let fit = All-contains IsWithinLimits tasks t are.within here in

@@ -28,7 +28,7 @@ use Rattle.mp_team_snapshots.proofs.TakingFirst.{apart, is_sender}
 use Rattle.mp_team_states.proofs.WorldsGrow.{taking}
 use Rattle.mp_team_verdicts.specs.Ending.{HasGoal}
 use Rattle.mp_team_verdicts.proofs.Few.{keeps_few}
-use Rattle.mp_team_verdicts.proofs.EachAgent.{each_agent}
+use Rattle.mp_team_states.proofs.EachAgent.{each_agent}
 use Rattle.mp_team_verdicts.proofs.Frames.{IsKnownWorld, NotesItsGoal, goal_stays, me_before, of_before}
 use Rattle.mp_team_verdicts.proofs.Proving.{goal_noted}
 use Rattle.mp_team_verdicts.proofs.EndSteps.{GoalAfter, HasPlace, NotesGoal, begun_goal, either_keeps, from_goal_keeps, goal_begun, goal_kept, judged_keeps, state_goal, walked_keeps}

@@ -16,7 +16,7 @@ use Rattle.mp_world.proofs.LogOfRun.{new_at}
 use Rattle.mp_world.proofs.Mail.{agent_of_team}
 use Rattle.mp_world.proofs.Runs.{run_has}
 use Rattle.mp_world.proofs.Stepping.{start_is_team, team_size}
-use Rattle.mp_team_verdicts.proofs.EachAgent.{each_agent}
+use Rattle.mp_team_states.proofs.EachAgent.{each_agent}
 use Rattle.mp_team_verdicts.proofs.Others.{EndsAtOther, start_of_others, walk_to_other}
 use Rattle.mp_team_verdicts.proofs.StepMessages.{IsSound, local_goes}
 

@@ -16,13 +16,12 @@ use Rattle.mp_world.specs.Team.{IsTeam, Team}
 use Rattle.mp_world.specs.World.{World, agent_at}
 use Rattle.mp_team_snapshots.specs.Team.{IsTeamOf}
 use Rattle.mp_team_states.specs.Further.{HaveGrown}
-use Rattle.mp_team_states.specs.Growing.{IsAlike}
 use Rattle.mp_team_states.specs.Paths.{IsEntryAt, IsOver, IsSentAt}
 use Rattle.mp_team_states.specs.Paths.IsOver.{at_start, by_own, over_one}
 use Rattle.mp_team_states.proofs.Messages.{one_number}
-use Rattle.mp_team_states.proofs.Reached.{entry_in, has_it}
+use Rattle.mp_team_states.proofs.Reached.{entry_stays, has_it}
 use Rattle.mp_team_verdicts.proofs.Few.{keeps_few}
-use Rattle.mp_team_verdicts.proofs.Short.{sent_at_stays}
+use Rattle.mp_team_states.proofs.Reached.{sent_at_stays}
 use Rattle.mp_team_verdicts.proofs.FewStates.{AreApart, few_apart}
 use Rattle.mp_team_verdicts.proofs.Reached.{IsReached, known}
 use Rattle.mp_team_verdicts.proofs.Stuck.{of_there}
@@ -30,23 +29,15 @@ use Rattle.mp_team_verdicts.proofs.Stuck.{of_there}
 -- ---- the number of messages stays
 
 module _ (w next : World) (grown : HaveGrown w next) where
-  entry_stays : (agent number : ℕ) (e : Entry AgentState) → IsEntryAt w agent number e
-      → (later : Entry AgentState) × IsEntryAt next agent number later × IsAlike e later
-  entry_stays agent number e is =
-      let h = has_it w agent number e is in
-      let r = grown agent h.agent_is h.there in
-      let later = r.2.kept.entries number e h.at in
-      (later.0, entry_in next agent number r.0 later.0 r.1 later.1, later.2)
-
   pub over_stays : (agent number messages : ℕ) → IsOver w agent number messages → IsOver next agent number messages
   over_stays agent number messages (at_start _ _ e is root) =
-      let later = entry_stays agent number e is in
+      let later = entry_stays w next grown agent number e is in
       at_start agent number later.0 later.1 (later.2.origin ∙ root)
   over_stays agent number messages (by_own _ _ e action parent _ is own less rest) =
-      let later = entry_stays agent number e is in
+      let later = entry_stays w next grown agent number e is in
       by_own agent number later.0 action parent messages later.1 (later.2.origin ∙ own) less (over_stays agent parent messages rest)
   over_stays agent number messages (over_one _ _ e sender sent there before is from given rest) =
-      let later = entry_stays agent number e is in
+      let later = entry_stays w next grown agent number e is in
       over_one agent number later.0 sender sent there before later.1 (later.2.origin ∙ from)
       (sent_at_stays w next grown sender sent there given) (over_stays sender there before rest)
 

@@ -40,7 +40,7 @@ use Rattle.mp_team_verdicts.specs.Ending.{EndsWithout, HasGoal, HasNoPart, IsPro
 use Rattle.mp_team_verdicts.specs.Ending.Stage.{picking, searching, without_plan}
 use Rattle.mp_team_verdicts.proofs.EndMessages.{HasNoEnds, IsNoEnd, none_to, one_end}
 use Rattle.mp_team_verdicts.proofs.Fitting.{HasEndRoom, ends_next, no_end_has_room}
-use Rattle.mp_team_verdicts.proofs.EachAgent.{each_agent}
+use Rattle.mp_team_states.proofs.EachAgent.{each_agent}
 use Rattle.mp_team_verdicts.proofs.Frames.{IsKnownWorld, NotesItsGoal, me_before, of_agent_next, of_next}
 use Rattle.mp_team_verdicts.proofs.NotesOfPlans.{notes_none}
 use Rattle.mp_team_verdicts.proofs.Proving.{verdict_found}

@@ -4,7 +4,6 @@ pub mod OwnEntries
 pub mod OneEntry
 pub mod Few
 -- what holds of each agent after an event, and of notes after a state; states are heard of from other agents
-pub mod EachAgent
 pub mod CountedStates
 pub mod Heard
 -- messages of the end that go out; notes of plans; verdicts that prove a plan; what a step does for the end

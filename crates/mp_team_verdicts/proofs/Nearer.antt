@@ -1,7 +1,7 @@
 -- With each round the end of a decided search comes nearer.
 use Rattle.std.proofs.Common.{◌≡◌, ◌≢◌, ℕ, suc, ◌+◌, ◌*◌, ◌≤◌, ◌^◌, Bool, true, false, ◌&&◌, List, [], ◌∷◌, length, Option, Some, refl, sym, ap, subst, ◌∙◌, arith, ◌⊎◌, inl, inr}
 use Rattle.std.specs.Prelude.{◌==◌, Ok, filter}
-use Rattle.std.proofs.lemmas.Bool.{and_from, cases_eq, eq-eqb, false≢true}
+use Rattle.std.proofs.lemmas.Bool.{and_from, cases_eq, eq-eqb, false≢true, true_from_ne_false}
 use Rattle.std.proofs.lemmas.Option.{same_Some}
 use Rattle.mp_sets.specs.Numbers.{Numbers}
 use Rattle.mp_messages.specs.declared.history.Event.{Event}
@@ -39,7 +39,7 @@ use Rattle.mp_team_verdicts.proofs.Nearing.{IsAsked, IsNear, IsPickedOut, asked_
 use Rattle.mp_team_verdicts.proofs.Nearing.IsNear.{asked, chosen, told}
 use Rattle.mp_team_verdicts.proofs.Points.{round_runs}
 use Rattle.mp_team_verdicts.proofs.Reached.{all_pass, known, onward}
-use Rattle.mp_team_verdicts.proofs.Stuck.{another_at, ends, is_agent, is_first, no_messages, nothing_left, of_there, one_goes}
+use Rattle.mp_team_verdicts.proofs.Stuck.{another_at, both_same, ends, is_agent, is_first, no_messages, nothing_left, of_there, one_goes}
 use Rattle.mp_team_verdicts.proofs.Turning.{round_turns}
 use Rattle.mp_team_verdicts.proofs.Waiting.{TakesEnd, left_of, left_or_taken, still_waits}
 
@@ -188,15 +188,12 @@ module _ (team : Team) (is_team : IsTeam team) (publics : ℕ) (of_team : IsTeam
         events w next at ended (all_pass events) (round_runs value n w next events round)).1
 
     all_ended : ((j : ℕ) → IsOf n j → HasEnded next j) → is_over next ≡ true
-    all_ended each = by (is_over next) refl
-      where
-        by : (b : Bool) → is_over next ≡ b → is_over next ≡ true
-        by true test = test
-        by false test =
-            let goes = one_goes next.agents test in
-            let e = each (suc goes.place) (of_there team is_team publics of_team next at_next (suc goes.place) goes.who goes.there) in
-            absurd (false≢true (sym e.ended
-            ∙ ap (λ (r : AgentRecord). is_going r.ending) (same_Some e.who goes.who (sym e.there ∙ goes.there)) ∙ goes.going))
+    all_ended each =
+        true_from_ne_false (is_over next) (λ test.
+        let goes = one_goes next.agents test in
+        let e = each (suc goes.place) (of_there team is_team publics of_team next at_next (suc goes.place) goes.who goes.there) in
+        false≢true (sym e.ended
+        ∙ ap (λ (r : AgentRecord). is_going r.ending) (same_Some e.who goes.who (sym e.there ∙ goes.there)) ∙ goes.going))
 
     -- one agent has told all that go on
     all_from : (teller : ℕ) (m : Message) → IsLast m → HasEnded w teller
@@ -256,42 +253,33 @@ module _ (team : Team) (is_team : IsTeam team) (publics : ℕ) (of_team : IsTeam
             (of_there team is_team publics of_team w at teller t.who t.there)) there
             ∙ told_of teller (is_going r.ending) (Length (length plan)) going)
 
+    nearer : {Still : Type 0} (v : World) (rounds most : ℕ) → most ≤ suc rounds → Still ⊎ ((k : ℕ) → most ≤ suc k → Near v k) → Still ⊎ Near v rounds
+    nearer v rounds most enough (inl still) = inl still
+    nearer v rounds most enough (inr near) = inr (near rounds enough)
+
     -- all have ended after the round, or the end is nearer by a round
     pub near_round : (rounds : ℕ) → Near w (suc rounds) → (is_over next ≡ true) ⊎ Near next rounds
     near_round rounds (told agent ended some) = inl (over_after agent ended)
     near_round rounds (asked from to messages asks enough) =
         inr (round_turns team is_team publics of_team (λ v. IsAsked n publics v from to messages) (λ v. Near v rounds)
         (λ v later event at_v at_later step is.
-        nearer later (asked_on team is_team publics of_team v later event at_v at_later step from to messages is))
+        nearer later rounds (messages + 2) enough (asked_on team is_team publics of_team v later event at_v at_later step from to messages is))
         (λ v later event at_v at_later step near. near_next team is_team publics of_team v later event at_v at_later step rounds near)
         from to asks.of_from asks.of_to asks.apart
         (λ v at_v is illegal.
         never_left v at_v from to is.of_from is.of_to is.apart (Trace is.sent is.back) is.waits illegal (λ last. last))
         w next events at round (inl asks))
-      where
-        nearer : (v : World) → IsAsked n publics v from to messages ⊎ ((k : ℕ) → messages + 2 ≤ suc k → Near v k)
-            → IsAsked n publics v from to messages ⊎ Near v rounds
-        nearer v (inl still) = inl still
-        nearer v (inr near) = inr (near rounds enough)
     near_round rounds (chosen to pick enough) =
         inr (round_turns team is_team publics of_team (λ v. IsPickedOut n publics v to) (λ v. Near v rounds)
         (λ v later event at_v at_later step is.
-        nearer later (picked_on team is_team publics of_team v later event at_v at_later step to is))
+        nearer later rounds (17 * 2 ^ 46 + 2) enough (picked_on team is_team publics of_team v later event at_v at_later step to is))
         (λ v later event at_v at_later step near. near_next team is_team publics of_team v later event at_v at_later step rounds near)
         1 to (one w at) pick.of_to pick.apart
         (λ v at_v is illegal.
         never_left v at_v 1 to (one v at_v) is.of_to is.apart (Pick is.number) is.waits illegal (λ last. last))
         w next events at round (inl pick))
-      where
-        nearer : (v : World) → IsPickedOut n publics v to ⊎ ((k : ℕ) → 17 * 2 ^ 46 + 2 ≤ suc k → Near v k)
-            → IsPickedOut n publics v to ⊎ Near v rounds
-        nearer v (inl still) = inl still
-        nearer v (inr near) = inr (near rounds enough)
 
   -- ---- a search that is decided
-
-  both_same : (i j : ℕ) → (i == i && j == j) ≡ true
-  both_same i j = and_from (i == i) (j == j) (eq-eqb i i refl) (eq-eqb j j refl)
 
   pub near_start : (w : World) → At w → (first : AgentRecord) → agent_at w 1 ≡ Some first → is_deciding (given_verdict first) ≡ true
       → Near w (17 * 2 ^ 46 + 2)

@@ -37,7 +37,7 @@ use Rattle.mp_team_verdicts.proofs.EndMessages.{ends_to, one_end}
 use Rattle.mp_team_verdicts.proofs.Frames.{IsKnownWorld, ended_stays}
 use Rattle.mp_team_verdicts.proofs.InRuns.{EndsSoFar}
 use Rattle.mp_team_verdicts.proofs.Heard.{EndsElsewhere, walk_elsewhere}
-use Rattle.mp_team_verdicts.proofs.Short.{sent_at_stays}
+use Rattle.mp_team_states.proofs.Reached.{sent_at_stays}
 use Rattle.mp_team_verdicts.proofs.EndSteps.{walked_keeps}
 use Rattle.mp_team_verdicts.proofs.TakenEnds.{sent_is}
 use Rattle.mp_team_verdicts.proofs.TakingEnds.{due_holds}
@@ -285,13 +285,13 @@ module _ (team : Team) (is_team : IsTeam team) (publics : ℕ) (of_team : IsTeam
     pub near_next : (rounds : ℕ) → Near w rounds → Near next rounds
     near_next rounds (told agent ended some) =
         told agent (ended_stays value publics tasks of_team w (is_known w at).team event next step agent ended) some
-    near_next rounds (asked from to messages asks some) = by (asked_on from to messages asks)
-      where
-        by : IsAsked n publics next from to messages ⊎ ((rounds : ℕ) → messages + 2 ≤ suc rounds → Near next rounds) → Near next rounds
-        by (inl still) = asked from to messages still some
-        by (inr nearer) = nearer rounds (omega arith)
-    near_next rounds (chosen to pick some) = by (picked_on to pick)
-      where
-        by : IsPickedOut n publics next to ⊎ ((rounds : ℕ) → 17 * 2 ^ 46 + 2 ≤ suc rounds → Near next rounds) → Near next rounds
-        by (inl still) = chosen to still some
-        by (inr nearer) = nearer rounds (omega arith)
+    near_next rounds (asked from to messages asks some) =
+        elim (asked_on from to messages asks) [
+          | inl still ↦ asked from to messages still some
+          | inr nearer ↦ nearer rounds (omega arith)
+        ]
+    near_next rounds (chosen to pick some) =
+        elim (picked_on to pick) [
+          | inl still ↦ chosen to still some
+          | inr nearer ↦ nearer rounds (omega arith)
+        ]

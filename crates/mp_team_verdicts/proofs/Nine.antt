@@ -194,23 +194,14 @@ module _ (team : Team) (is_team : IsTeam team) (publics : ℕ) (of_team : IsTeam
     at3 : At w3
     at3 = reach w2 w3 at2 q3
 
-    at4 : At w4
-    at4 = reach w3 w4 at3 q4
-
     at5 : At w5
-    at5 = reach w4 w5 at4 q5
+    at5 = reach w4 w5 (reach w3 w4 at3 q4) q5
 
     at6 : At w6
     at6 = reach w5 w6 at5 q6
 
-    at7 : At w7
-    at7 = reach w6 w7 at6 q7
-
-    at8 : At w8
-    at8 = reach w7 w8 at7 q8
-
     at9 : At w9
-    at9 = reach w8 w9 at8 q9
+    at9 = reach w8 w9 (reach w7 w8 (reach w6 w7 at6 q7) q8) q9
 
     go2 : Go w2
     go2 = goes_in w2 s2

@@ -1,6 +1,6 @@
 -- An agent has one entry for each path: so no two of its entries are of the same message.
 use Rattle.std.proofs.Common.{◌≡◌, ◌≢◌, ℕ, ◌+◌, ◌*◌, ◌≤◌, ◌<◌, ◌^◌, Bool, true, false, List, [], ◌∷◌, length, map, get_or, Option, Some, None, All, refl, sym, ap, subst, ◌∙◌, arith}
-use Rattle.std.specs.Prelude.{AllPairs, IsSomeAnd, filter, slice_get}
+use Rattle.std.specs.Prelude.{AllPairs, IsSomeAnd, filter, if◌then◌else◌, slice_get}
 use Rattle.std.specs.Cmp.{unsigned_Decides}
 use Rattle.std.proofs.lemmas.List.{get_or-map, length-map}
 use Rattle.std.proofs.lemmas.List.Elements.{All-contains, All-filter, All-map, filter_passes}
@@ -109,29 +109,23 @@ abbrev pub heard_in : List (Entry AgentState) → List (Entry AgentState)
 heard_in es = filter (λ e. is_heard e.origin) es
 
 -- an entry is of a message or it is not
+own_or_heard : (o : Origin) → own_one o + (if is_heard o then 1 else 0) ≡ 1
+own_or_heard Root = refl
+own_or_heard (Own action parent) = refl
+own_or_heard (From agent sent) = refl
+
 pub count_both : (es : List (Entry AgentState)) → length es ≡ own_count es + length (heard_in es)
 count_both [] = refl
-count_both (e ∷ es) = by (e.origin) refl (count_both es)
+count_both (e ∷ es) =
+    let both = own_or_heard e.origin in
+    let own = sum_by-cons (λ (e : Entry AgentState). own_one e.origin) e es in
+    let heard : length (heard_in (e ∷ es)) ≡ (if is_heard e.origin then 1 else 0) + length (heard_in es) = by (is_heard e.origin) in
+    let rest = count_both es in
+    omega arith
   where
-    by : (o : Origin) → e.origin ≡ o → length es ≡ own_count es + length (heard_in es) → length (e ∷ es) ≡ own_count (e ∷ es) + length (heard_in (e ∷ es))
-    by Root is rest =
-        let first = sum_by-cons (λ (e : Entry AgentState). own_one e.origin) e es in
-        let one : own_one e.origin ≡ 1 = ap own_one is in
-        let none : heard_in (e ∷ es) ≡ heard_in es = rw is refl in
-        let same = ap length none in
-        omega arith
-    by (Own action parent) is rest =
-        let first = sum_by-cons (λ (e : Entry AgentState). own_one e.origin) e es in
-        let one : own_one e.origin ≡ 1 = ap own_one is in
-        let none : heard_in (e ∷ es) ≡ heard_in es = rw is refl in
-        let same = ap length none in
-        omega arith
-    by (From agent sent) is rest =
-        let first = sum_by-cons (λ (e : Entry AgentState). own_one e.origin) e es in
-        let one : own_one e.origin ≡ 0 = ap own_one is in
-        let some : heard_in (e ∷ es) ≡ e ∷ heard_in es = rw is refl in
-        let same = ap length some in
-        omega arith
+    by : (b : Bool) → length (if b then e ∷ heard_in es else heard_in es) ≡ (if b then 1 else 0) + length (heard_in es)
+    by true = omega arith
+    by false = omega arith
 
 -- the numbers in it are small
 abbrev HasSmall : Origin → Type 0

@@ -1,10 +1,7 @@
 -- The other agents of a team, and origins that are none of the agent itself.
-use Rattle.std.proofs.Common.{◌≡◌, ◌≢◌, ℕ, zero, suc, ◌+◌, ◌<◌, ◌⊎◌, Bool, true, false, [], length, Option, Some, None, refl, sym, subst, ◌∙◌, arith, inl, inr}
+use Rattle.std.proofs.Common.{◌≡◌, ℕ, zero, suc, ◌+◌, ◌⊎◌, [], length, Option, Some, None, refl, sym, subst, ◌∙◌, inl, inr}
 use Rattle.std.specs.Prelude.{Contains, not, slice_get, ◌==◌}
-use Rattle.std.specs.List.{range_with_len}
 use Rattle.std.specs.Option.{option_map_or}
-use Rattle.std.proofs.lemmas.Bool.{eqb-false}
-use Rattle.std.proofs.lemmas.List.FromFn.{get_or-range_with_len, length-range_with_len}
 use Rattle.std.proofs.lemmas.Option.{none-some}
 use Rattle.mp_sets.specs.Numbers.{Numbers}
 use Rattle.mp_task.specs.AgentTask.{AgentTask}
@@ -13,7 +10,6 @@ use Rattle.mp_store.specs.declared.entry.Entry.{Entry}
 use Rattle.mp_store.specs.declared.entry.Origin.{Origin}
 use Rattle.mp_store.specs.declared.entry.Origin.TheVariants.{Root, Own, From}
 use Rattle.mp_store.specs.Record.{Record, empty}
-use Rattle.mp_store.proofs.RankLemmas.{member_passes}
 use Rattle.mp_search.specs.AgentState.{AgentState}
 use Rattle.mp_search.specs.Expansion.{expanded}
 use Rattle.mp_search.specs.Offering.{start_record}
@@ -23,31 +19,14 @@ use Rattle.mp_trail.specs.declared.steps.Walked.{Walked}
 use Rattle.mp_trail.specs.declared.steps.Walked.TheVariants as ends
 use Rattle.mp_trail.specs.Walk.{origin_of, walk_from, walk_within}
 use Rattle.mp_machine.specs.Outgoing.{others}
-use Rattle.mp_team_states.proofs.Joint.{IsReceiver}
+use Rattle.mp_team_states.proofs.Joint.{IsReceiver, listed_is, not_equal}
 use Rattle.mp_team_states.proofs.Entries.{IsNew, IsOld, changes_entry}
 use Rattle.mp_team_states.proofs.Expanding.{IsFirst, IsReceived, Led, expanded_changes, received_changes, start_changes}
 
 -- ---- all others
 
-pub not_same : (a b : ℕ) → not (a == b) ≡ true → a ≢ b
-not_same a b test = eqb-false a b (flipped (a == b) test)
-  where
-    flipped : (same : Bool) → not same ≡ true → same ≡ false
-    flipped true h = sym h
-    flipped false h = refl
-
 pub another_is : (t : AgentTask) (agent : ℕ) → Contains (others t.me t.agents) agent → IsReceiver t agent
-another_is t agent here =
-    let both = member_passes (λ other. not (other == t.me)) (range_with_len 1 t.agents) agent here in
-    let place = both.0 in
-    let many = length-range_with_len 1 t.agents in
-    let inside : place.0 < t.agents = let lt = place.1 in omega arith in
-    let number : 1 + place.0 ≡ agent = sym (get_or-range_with_len 1 t.agents place.0 agent inside) ∙ place.2 in
-    record {
-      from_1 = omega arith;
-      in_team = omega arith;
-      another = not_same agent t.me both.1;
-    }
+another_is t agent = listed_is t (λ other. not (other == t.me)) agent (not_equal agent t.me)
 
 -- ---- origins
 

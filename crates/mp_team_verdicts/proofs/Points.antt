@@ -193,38 +193,29 @@ module _ (value : Values) where
     holds = no_longer (Take by from) w last events a;
   }
 
-  did_not_expand : (agent : ℕ) (w last : World) (events : List Event) → are_quiet events ≡ true → IfItMay value (Expand agent) w events last
-      → GoesThrough (MayNot (Expand agent)) w events last
-  did_not_expand agent w last events quiet (not_now _ test) = record {
+  -- here, at the start of the part
+  at_start : (Holds : World → List Event → Type 0) (w last : World) (events : List Event)
+      → run_of (after_event value) w events ≡ Some last → Holds w events → GoesThrough Holds w events last
+  at_start Holds w last events goes holds = record {
     at = w;
     before = [];
-    after = [];
+    after = events;
     is = refl;
     ran = run-none (after_event value) w;
-    goes = run-none (after_event value) w;
-    holds = test;
+    goes = goes;
+    holds = holds;
   }
+
+  did_not_expand : (agent : ℕ) (w last : World) (events : List Event) → are_quiet events ≡ true → IfItMay value (Expand agent) w events last
+      → GoesThrough (MayNot (Expand agent)) w events last
+  did_not_expand agent w last events quiet (not_now _ test) =
+      at_start (MayNot (Expand agent)) w w [] (run-none (after_event value) w) test
   did_not_expand agent w last events quiet (now _ next leads) = absurd (false≢true quiet)
 
   tried : (w last : World) (events : List Event) → IfItMay value Start w events last → GoesThrough TriesToStart w events last
-  tried w last events (not_now _ test) = record {
-    at = w;
-    before = [];
-    after = [];
-    is = refl;
-    ran = run-none (after_event value) w;
-    goes = run-none (after_event value) w;
-    holds = inl test;
-  }
-  tried w last events (now _ next leads) = record {
-    at = w;
-    before = [];
-    after = Start ∷ [];
-    is = refl;
-    ran = run-none (after_event value) w;
-    goes = run-one (after_event value) w Start ∙ leads;
-    holds = inr ([], refl);
-  }
+  tried w last events (not_now _ test) = at_start TriesToStart w w [] (run-none (after_event value) w) (inl test)
+  tried w last events (now _ next leads) =
+      at_start TriesToStart w next (Start ∷ []) (run-one (after_event value) w Start ∙ leads) (inr ([], refl))
 
   first_tried : (w last : World) (events : List Event) → StartsIfFirst value 1 w events last → GoesThrough TriesToStart w events last
   first_tried w last events (first is starts) = tried w last events starts

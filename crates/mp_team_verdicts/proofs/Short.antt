@@ -1,11 +1,9 @@
 -- The path to each entry has at most as many steps as all agents have expanded entries.
-use Rattle.std.proofs.Common.{◌≡◌, ℕ, zero, suc, ◌+◌, ◌-◌, ◌≤◌, ◌⊎◌, List, [], ◌∷◌, ◌++◌, length, get_or, Option, Some, None, refl, sym, ap, subst, ◌∙◌, arith, inl, inr}
-use Rattle.std.specs.Prelude.{IsSomeAnd, slice_get, slice_set}
-use Rattle.std.specs.List.{sum_by}
+use Rattle.std.proofs.Common.{◌≡◌, ℕ, ◌+◌, ◌-◌, ◌≤◌, ◌⊎◌, List, [], ◌∷◌, ◌++◌, length, Some, sym, ap, subst, ◌∙◌, arith, inl, inr}
+use Rattle.std.specs.Prelude.{slice_get}
 use Rattle.std.proofs.lemmas.Bool.{cases_eq}
 use Rattle.std.proofs.lemmas.List.{length-append}
-use Rattle.std.proofs.lemmas.List.Sums.{sum_by-set}
-use Rattle.std.proofs.lemmas.Option.{get_or_from_slice_get, none-some, same_Some, slice_get_within}
+use Rattle.std.proofs.lemmas.Option.{none-some, same_Some}
 use Rattle.mp_task.specs.AgentTask.{AgentTask}
 use Rattle.mp_task.specs.Plan.{TaskStep}
 use Rattle.mp_messages.specs.declared.history.Event.{Event}
@@ -16,59 +14,22 @@ use Rattle.mp_search.specs.Offering.{start_record}
 use Rattle.mp_machine.specs.AgentRecord.{AgentRecord}
 use Rattle.mp_world.specs.Team.{AreTeamTasks, IsTeam, Team}
 use Rattle.mp_world.specs.Values.{Values}
-use Rattle.mp_world.specs.World.{IsTeamWorld, World, agent_at, start_world, with_agent}
+use Rattle.mp_world.specs.World.{IsTeamWorld, World, agent_at, start_world}
 use Rattle.mp_world.specs.Events.{agent_of}
 use Rattle.mp_world.specs.Steps.{IsStepOf}
-use Rattle.mp_world.proofs.Mail.{agent_at-other, agent_at-same}
 use Rattle.mp_team_states.specs.Further.{HaveGrown}
-use Rattle.mp_team_states.specs.Paths.{AreReached, IsEntryAt, IsPath, IsSentAt}
+use Rattle.mp_team_states.specs.Paths.{AreReached, IsEntryAt, IsPath}
 use Rattle.mp_team_states.specs.Paths.IsPath.{at_root, by_action, by_message}
 use Rattle.mp_team_states.specs.Room.{expanded_by_all}
 use Rattle.mp_team_states.specs.Sound.{AreStatesSound}
 use Rattle.mp_team_states.proofs.Entries.{IsNew, IsOld, changes_entry}
 use Rattle.mp_team_states.proofs.Expanding.{IsFirst, start_changes}
-use Rattle.mp_team_states.proofs.Growth.{stays_at}
 use Rattle.mp_team_states.proofs.NewEntries.{Comes, IsHeardIn, IsLedIn, entry_comes}
-use Rattle.mp_team_states.proofs.Reached.{HasIt, entry_in, has_it, one_path, path_stays, told_rightly}
-use Rattle.mp_team_states.proofs.RoomLemmas.{counts_grow}
+use Rattle.mp_team_states.proofs.Reached.{HasIt, entry_in, has_it, one_path, path_stays, sent_at_stays, told_rightly}
+use Rattle.mp_team_states.proofs.RoomLemmas.{counts_grow, sum_more}
 use Rattle.mp_team_states.proofs.StartReached.{task_is}
 use Rattle.mp_team_states.proofs.WorldsGrow.{step_grows}
 use Rattle.mp_team_verdicts.specs.Few.{ArePathsShort}
-
--- ---- sums over all agents
-
-same_by_get : {X : Type 0} (xs ys : List X) → ((k : ℕ) → slice_get xs k ≡ slice_get ys k) → xs ≡ ys
-same_by_get [] [] same = refl
-same_by_get [] (y ∷ ys) same = absurd (none-some y (same 0))
-same_by_get (x ∷ xs) [] same = absurd (none-some x (sym (same 0)))
-same_by_get (x ∷ xs) (y ∷ ys) same =
-    let first = same_Some x y (same 0) in
-    let rest = same_by_get xs ys (λ k. same (suc k)) in
-    λ j. first j ∷ rest j
-
-module _ (value : Values) (w next : World) (event : Event) (is : IsStepOf value w event next) where
-  pub agents_are : next.agents ≡ (with_agent w (agent_of event) is.step.after).agents
-  agents_are = same_by_get next.agents (with_agent w (agent_of event) is.step.after).agents (λ k. by k (cases_eq (suc k) (agent_of event)))
-    where
-      by : (k : ℕ) → (suc k ≡ agent_of event) ⊎ (suc k ≡ agent_of event → ⊥) → agent_at next (suc k) ≡ agent_at (with_agent w (agent_of event) is.step.after) (suc k)
-      by k (inl same) =
-          ap (agent_at next) same ∙ is.after
-          ∙ sym (ap (agent_at (with_agent w (agent_of event) is.step.after)) same ∙ agent_at-same w (agent_of event) is.agent is.step.after is.there)
-      by k (inr other) = is.others (suc k) other ∙ sym (agent_at-other w (agent_of event) (suc k) is.agent is.step.after is.there other)
-
-  -- a sum over all agents changes as the event's agent does
-  pub sum_more : (count : AgentRecord → ℕ) → sum_by count next.agents + count is.agent ≡ sum_by count w.agents + count is.step.after
-  sum_more count =
-      ap (λ (rs : List AgentRecord). sum_by count rs + count is.agent) agents_are ∙ by (agent_of event) is.there
-    where
-      by : (a : ℕ) → agent_at w a ≡ Some is.agent → sum_by count (slice_set w.agents (a - 1) is.step.after) + count is.agent ≡ sum_by count w.agents + count is.step.after
-      by zero there = absurd (none-some is.agent there)
-      by (suc k) there =
-          let place : suc k - 1 ≡ k = omega arith in
-          let inside = slice_get_within w.agents k is.agent there in
-          let at : get_or w.agents (suc k - 1) is.agent ≡ is.agent = ap (λ (i : ℕ). get_or w.agents i is.agent) place ∙ get_or_from_slice_get w.agents k is.agent is.agent there in
-          ap (λ (r : AgentRecord). sum_by count (slice_set w.agents (suc k - 1) is.step.after) + count r) (sym at)
-          ∙ sum_by-set count w.agents (suc k - 1) is.step.after is.agent (omega arith)
 
 -- ---- paths
 
@@ -77,17 +38,6 @@ pub path_entry : (w : World) (agent number : ℕ) (steps : List TaskStep) → Is
 path_entry w agent number steps (at_root _ _ e is root) = (e, is)
 path_entry w agent number steps (by_action _ _ e action parent before is own path) = (e, is)
 path_entry w agent number steps (by_message _ _ e sender sent there _ is from given path) = (e, is)
-
--- a sent number stays that of its entry
-pub sent_at_stays : (w next : World) → HaveGrown w next → (agent sent number : ℕ) → IsSentAt w agent sent number → IsSentAt next agent sent number
-sent_at_stays w next grown agent sent number is = by (agent_at w agent) refl is
-  where
-    by : (o : Option AgentRecord) → agent_at w agent ≡ o → IsSomeAnd o (λ r. slice_get r.search.kept.sent sent ≡ Some number) → IsSentAt next agent sent number
-    by None there is = absurd is
-    by (Some r) there is =
-        let later = grown agent r there in
-        subst (λ (o : Option AgentRecord). IsSomeAnd o (λ r. slice_get r.search.kept.sent sent ≡ Some number)) (sym later.1)
-        (ap (λ (ns : List ℕ). slice_get ns sent) later.2.kept.sent.is ∙ stays_at r.search.kept.sent later.2.kept.sent.more sent number is)
 
 module _ (tasks : List AgentTask) (are : AreTeamTasks tasks) (w : World) (team : IsTeamWorld tasks w) (sound : AreStatesSound tasks w)
     (reached : AreReached tasks w) (short : ArePathsShort w) (value : Values) (next : World) (event : Event)

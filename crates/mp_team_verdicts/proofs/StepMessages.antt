@@ -19,11 +19,11 @@ use Rattle.mp_machine.specs.Snapshots.{findings, judged, judged_or_reported, wit
 use Rattle.mp_machine.specs.Taking.{took_message, with_state}
 use Rattle.mp_machine.proofs.NotesLemmas.{given_at_first}
 use Rattle.mp_world.proofs.LocalCases.{ActingCases, either_holds, event_holds, from_goal_holds, judged_holds, judges_first, message_holds, walked_holds}
-use Rattle.mp_team_states.proofs.Joint.{IsReceiver}
 use Rattle.mp_team_verdicts.proofs.CountedStates.{counted_has}
 use Rattle.mp_team_verdicts.proofs.Expansions.{GoOut, all_others_go, both_go, expansion_goes, none_goes, one_goes}
 use Rattle.mp_team_verdicts.proofs.Named.{NamesOne, given_names}
-use Rattle.mp_team_verdicts.proofs.Others.{AreOfOthers, EndsAtOther, expanded_of_others, not_same, received_of_others, walk_to_other}
+use Rattle.mp_team_states.proofs.Joint.{IsReceiver, not_equal}
+use Rattle.mp_team_verdicts.proofs.Others.{AreOfOthers, EndsAtOther, expanded_of_others, received_of_others, walk_to_other}
 
 -- an agent of a team that knows how many there are, and hears of states from other agents alone
 pub record HasOthers (t : AgentTask) (agents : ℕ) (kept : Record AgentState) : Type 0 where
@@ -105,7 +105,7 @@ taken_from_other r from allowed =
     record {
       from_1 = leb-true 1 from range.0;
       in_team = leb-true from r.task.agents range.1;
-      another = not_same from r.task.me other.1;
+      another = not_equal from r.task.me other.1;
     }
 
 pub local_goes : (value : Numbers → Numbers → Option ℕ) (r : AgentRecord) (s : Step) (event : Local) (bytes : List ℕ)

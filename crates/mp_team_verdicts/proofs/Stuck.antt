@@ -10,6 +10,7 @@ use Rattle.mp_task.specs.Plan.{TaskStep}
 use Rattle.mp_messages.specs.declared.history.Event.{Event}
 use Rattle.mp_messages.specs.declared.history.Event.TheVariants.{Expand, Take, Start}
 use Rattle.mp_messages.specs.declared.message.EndKind.{EndKind}
+use Rattle.mp_messages.specs.declared.message.Message.{Message}
 use Rattle.mp_messages.specs.declared.message.Message.TheVariants.{Pick, Trace, Length, Done}
 use Rattle.mp_messages.specs.Reading.{message_of}
 use Rattle.mp_search.specs.Search.{may_expand}
@@ -26,13 +27,14 @@ use Rattle.mp_world.proofs.Agents.{agent_there, member_of}
 use Rattle.mp_world.proofs.LogOfRun.{new_at}
 use Rattle.mp_world.proofs.LocalCases.{not_false}
 use Rattle.mp_team_snapshots.specs.Messages.{marker_of, messages, report_of}
+use Rattle.mp_team_snapshots.specs.Snapshots.{one_if_due}
 use Rattle.mp_team_snapshots.specs.Team.{IsTeamOf}
 use Rattle.mp_team_snapshots.proofs.Protocol.{IsOf, Sound}
 use Rattle.mp_team_snapshots.proofs.Worlds.{is_agent_of, is_of_agent, is_of_there, note_at, note_of, team_numbers, to_view, view}
 use Rattle.mp_team_states.proofs.Reached.{has_it}
-use Rattle.mp_team_verdicts.specs.Ending.{IsAt, Stage, due, is_of_end}
+use Rattle.mp_team_verdicts.specs.Ending.{HasEnded, IsAt, Stage, due, is_of_end}
 use Rattle.mp_team_verdicts.specs.Ending.Stage.{over, picking, searching, walking, without_plan}
-use Rattle.mp_team_verdicts.proofs.EachAgent.{each_agent}
+use Rattle.mp_team_states.proofs.EachAgent.{each_agent}
 use Rattle.mp_team_verdicts.proofs.Frames.{IsKnownWorld}
 use Rattle.mp_team_verdicts.proofs.InRuns.{EndsSoFar, ends_so_far}
 use Rattle.mp_team_verdicts.proofs.Short.{path_entry}
@@ -58,6 +60,9 @@ HasNumberLeft w = (first : AgentRecord) → agent_at w 1 ≡ Some first → firs
 and_on : (a : Bool) → (a && true) ≡ false → a ≡ false
 and_on true is = is
 and_on false is = refl
+
+pub both_same : (i j : ℕ) → (i == i && j == j) ≡ true
+both_same i j = and_from (i == i) (j == j) (eq-eqb i i refl) (eq-eqb j j refl)
 
 no_bytes : (xs : List (List ℕ)) → not (length xs == 0) ≡ false → xs ≡ []
 no_bytes [] is = refl
@@ -198,36 +203,28 @@ module _ (team : Team) (is_team : IsTeam team) (publics : ℕ) (of_team : IsTeam
       none_to i j r there going of off =
           nothing_left w i j r there going (another_at i j r there of off) (stuck.take j i (of_there j r there) of off)
 
-      -- the end of a search does not stop short
-      not_without : (kind : EndKind) → IsAt publics w (without_plan kind) → (j : ℕ) (r : AgentRecord) → agent_at w j ≡ Some r
-          → is_going r.ending ≡ true → ⊥
-      not_without kind a j r there going =
-          let teller = a.verdict.teller in
-          let off : 1 ≢ j = λ same.
-          false≢true (sym teller.ended
-          ∙ ap (λ (x : AgentRecord). is_going x.ending) (same_Some teller.who r (sym teller.there ∙ ap (agent_at w) same ∙ there))
-          ∙ going) in
-          false≢true (sym (other_false (1 == 1) (is_going r.ending)
-          (not_due (1 == 1 && is_going r.ending) (Done kind)
-          (no_end (without_plan kind) a 1 j r (is_agent 1 is_first) there (none_to 1 j r there going is_first off)))
-          (eq-eqb 1 1 refl)) ∙ going)
-
-      not_over : (teller : ℕ) (plan : List TaskStep) → IsAt publics w (over teller plan) → (j : ℕ) (r : AgentRecord) → agent_at w j ≡ Some r
-          → is_going r.ending ≡ true → ⊥
-      not_over teller plan a j r there going =
-          let ended = a.verdict.teller in
+      -- the end of a search does not stop short: who goes on is told by one that has ended
+      not_told : (teller : ℕ) (m : Message) → HasEnded w teller → (j : ℕ) (r : AgentRecord) → agent_at w j ≡ Some r → is_going r.ending ≡ true
+          → (IsAgent w teller → under_way w teller j ≡ [] → one_if_due (teller == teller && is_going r.ending) m ≡ []) → ⊥
+      not_told teller m ended j r there going due =
           let of = of_there teller ended.who ended.there in
           let off : teller ≢ j = λ same.
           false≢true (sym ended.ended
           ∙ ap (λ (x : AgentRecord). is_going x.ending) (same_Some ended.who r (sym ended.there ∙ ap (agent_at w) same ∙ there))
           ∙ going) in
           false≢true (sym (other_false (teller == teller) (is_going r.ending)
-          (not_due (teller == teller && is_going r.ending) (Length (length plan))
-          (no_end (over teller plan) a teller j r (is_agent teller of) there (none_to teller j r there going of off)))
+          (not_due (teller == teller && is_going r.ending) m (due (is_agent teller of) (none_to teller j r there going of off)))
           (eq-eqb teller teller refl)) ∙ going)
 
-      both_same : (i j : ℕ) → (i == i && j == j) ≡ true
-      both_same i j = and_from (i == i) (j == j) (eq-eqb i i refl) (eq-eqb j j refl)
+      not_without : (kind : EndKind) → IsAt publics w (without_plan kind) → (j : ℕ) (r : AgentRecord) → agent_at w j ≡ Some r
+          → is_going r.ending ≡ true → ⊥
+      not_without kind a j r there going =
+          not_told 1 (Done kind) a.verdict.teller j r there going (λ agent. no_end (without_plan kind) a 1 j r agent there)
+
+      not_over : (teller : ℕ) (plan : List TaskStep) → IsAt publics w (over teller plan) → (j : ℕ) (r : AgentRecord) → agent_at w j ≡ Some r
+          → is_going r.ending ≡ true → ⊥
+      not_over teller plan a j r there going =
+          not_told teller (Length (length plan)) a.verdict.teller j r there going (λ agent. no_end (over teller plan) a teller j r agent there)
 
       not_picking : (agent number : ℕ) (plan : List TaskStep) → IsAt publics w (picking agent number plan) → ⊥
       not_picking agent number plan a =

@@ -31,7 +31,7 @@ use Rattle.mp_team_states.specs.Paths.{IsPath, IsSentAt}
 use Rattle.mp_team_verdicts.specs.Ending.{AgentAt, IsAt, IsProved, Stage, due, is_of_end}
 use Rattle.mp_team_verdicts.specs.Ending.Stage.{over, picking, walking, without_plan}
 use Rattle.mp_team_verdicts.proofs.Calmly.{IsSameVerdict, first_now, verdict_now}
-use Rattle.mp_team_verdicts.proofs.EachAgent.{each_agent}
+use Rattle.mp_team_states.proofs.EachAgent.{each_agent}
 use Rattle.mp_team_verdicts.proofs.Frames.{IsKnownWorld}
 use Rattle.mp_team_verdicts.proofs.TakingEnds.{due_holds, due_is, fits_all, mail_now, none_left, walks_on}
 use Rattle.mp_team_verdicts.proofs.WalkOn.{ComesTo}

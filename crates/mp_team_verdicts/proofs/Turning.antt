@@ -3,21 +3,18 @@ use Rattle.std.proofs.Common.{◌≡◌, ◌≢◌, ℕ, Bool, true, false, ◌|
 use Rattle.std.specs.Prelude.{◌==◌}
 use Rattle.std.specs.List.{range_with_len}
 use Rattle.std.proofs.lemmas.Bool.{eqb-true, false≢true}
-use Rattle.std.proofs.lemmas.Option.{same_Some}
-use Rattle.mp_runs.proofs.Runs.{run-none, run_parts}
 use Rattle.mp_messages.specs.declared.history.Event.{Event}
 use Rattle.mp_messages.specs.declared.history.Event.TheVariants.{Take}
 use Rattle.mp_machine.specs.Outgoing.{others}
-use Rattle.mp_world.specs.Events.{after_event, is_legal}
+use Rattle.mp_world.specs.Events.{is_legal}
 use Rattle.mp_world.specs.RoundRobin.{AsLongAsItMay, ForEach, Round, Then, Turn}
 use Rattle.mp_world.specs.Steps.{IsStepOf}
 use Rattle.mp_world.specs.Team.{IsTeam, Team}
 use Rattle.mp_world.specs.World.{World}
 use Rattle.mp_team_snapshots.specs.Team.{IsTeamOf}
 use Rattle.mp_team_snapshots.proofs.Protocol.{IsOf}
-use Rattle.mp_team_verdicts.proofs.Calm.{Goes, Reached, goes_reached}
+use Rattle.mp_team_verdicts.proofs.Calm.{Goes, Reached, goes_reached, stays_on}
 use Rattle.mp_team_verdicts.proofs.Points.{Alone, IsRunOf, Part, TakesFrom, alone_runs, as_long_runs, each_runs, in_others, in_range, is_listed, no_longer, takes_run, turn_runs}
-use Rattle.mp_team_verdicts.proofs.Reached.{reached_next, step_of}
 
 module _ (team : Team) (is_team : IsTeam team) (publics : ℕ) (of_team : IsTeamOf publics team.tasks)
     (Before After : World → Type 0) where
@@ -38,25 +35,18 @@ module _ (team : Team) (is_team : IsTeam team) (publics : ℕ) (of_team : IsTeam
   module _
       (goes : (v next : World) (event : Event) → At v → At next → IsStepOf value v event next → Before v → Before next ⊎ After next)
       (stays : (v next : World) (event : Event) → At v → At next → IsStepOf value v event next → After v → After next) where
-    one_on : (v next : World) (event : Event) → At v → At next → IsStepOf value v event next → Before v ⊎ After v → Before next ⊎ After next
-    one_on v next event at at_next step (inl before) = goes v next event at at_next step before
-    one_on v next event at at_next step (inr after) = inr (stays v next event at at_next step after)
-
     carry : (events : List Event) (u w : World) → At u → Leads u events w → Before u ⊎ After u → Before w ⊎ After w
-    carry [] u w at leads is = subst (λ v. Before v ⊎ After v) (same_Some u w (sym (run-none (after_event value) u) ∙ leads)) is
-    carry (e ∷ events) u w at leads is =
-        let parts = run_parts (after_event value) u w e events leads in
-        let at_v = reached_next team is_team publics of_team u parts.0 e at parts.1 in
-        carry events parts.0 w at_v parts.2
-        (one_on u parts.0 e at at_v (step_of team is_team publics of_team u parts.0 e at parts.1) is)
+    carry events u w at leads is =
+        stays_on team is_team publics of_team (λ v. Before v ⊎ After v)
+        (λ v event next at_v at_next step old.
+        elim old [
+          | inl before ↦ goes v next event at_v at_next step before
+          | inr after ↦ inr (stays v next event at_v at_next step after)
+        ]) events u w at is leads
 
     keep : (events : List Event) (u w : World) → At u → Leads u events w → After u → After w
-    keep [] u w at leads is = subst After (same_Some u w (sym (run-none (after_event value) u) ∙ leads)) is
-    keep (e ∷ events) u w at leads is =
-        let parts = run_parts (after_event value) u w e events leads in
-        let at_v = reached_next team is_team publics of_team u parts.0 e at parts.1 in
-        keep events parts.0 w at_v parts.2
-        (stays u parts.0 e at at_v (step_of team is_team publics of_team u parts.0 e at parts.1) is)
+    keep events u w at leads is =
+        stays_on team is_team publics of_team After (λ v event next at_v at_next step. stays v next event at_v at_next step) events u w at is leads
 
     -- a part after which the later is so
     abbrev Turns : Part → Type 0

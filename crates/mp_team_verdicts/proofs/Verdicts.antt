@@ -1,8 +1,7 @@
 -- The verdict of agent 1 is right.
 use Rattle.std.proofs.Common.{◌≡◌, ℕ, suc, ◌+◌, ◌<◌, ◌≤◌, ◌⊎◌, true, List, map, Option, Some, None, refl, sym, ap, subst, ◌∙◌, arith, inl, inr}
-use Rattle.std.specs.Prelude.{Contains, IsSomeAnd, IsTrue, option_map, slice_get, ◌&&◌}
-use Rattle.std.proofs.lemmas.Bool.{and_parts, eqb-true, false≢true}
-use Rattle.std.proofs.lemmas.Option.{none-some, same_Some, slice_get-map}
+use Rattle.std.specs.Prelude.{Contains, IsSomeAnd, IsTrue, slice_get, ◌&&◌}
+use Rattle.std.proofs.lemmas.Bool.{and_parts, eqb-true}
 use Rattle.mp_task.specs.AgentTask.{AgentTask}
 use Rattle.mp_task.specs.Plan.{JointState, TaskSolves, TaskStep, goals_hold, task_cost}
 use Rattle.mp_messages.specs.declared.history.Event.{Event}
@@ -36,12 +35,14 @@ use Rattle.mp_team_snapshots.specs.Cut.{cut_schedule}
 use Rattle.mp_team_snapshots.specs.Found.{findings_in}
 use Rattle.mp_team_snapshots.specs.Verdicts.{HasVerdictWorld}
 use Rattle.mp_team_snapshots.proofs.Teams.{has_verdict_world}
+use Rattle.mp_team_snapshots.proofs.Unnumbered.{found_by}
 use Rattle.mp_team_verdicts.specs.Right.{CostsAtLeast, HasExpanded, IsLeast, IsOptimal, IsReachedAt, IsRightVerdict, IsAtLimit, IsUndecided, IsUnsolvable}
 use Rattle.mp_team_verdicts.proofs.Cases.{IsAbove, IsNoneBelow, SaysSpent, says_no_plan, says_proved_cost, says_spent}
 use Rattle.mp_team_verdicts.proofs.Counted.{goal_counted, open_counted, state_counted, witness_counted}
 use Rattle.mp_team_verdicts.proofs.Counts.{AreCounted, count_cut, counted_in_runs}
 use Rattle.mp_team_verdicts.proofs.LeastEntries.{HasOpenAt, least_f_there}
 use Rattle.mp_team_verdicts.proofs.Least.{IsAtMost, at_most_is, none_at_most}
+use Rattle.mp_team_verdicts.proofs.Proving.{cost_found}
 use Rattle.mp_team_verdicts.proofs.ToOthers.{HaveNoneToThemselves, none_to_themselves}
 
 -- what is left to do is at most a cost, and nothing left to do is below another one
@@ -52,10 +53,6 @@ below_most cost n (Some f) below most = omega arith
 above_most : (f n : ℕ) (o : Option ℕ) → IsAbove f o → IsAtMost n o → f < n
 above_most f n None above most = absurd most
 above_most f n (Some c) above most = omega arith
-
-cost_is_some : (f : ℕ) (o : Option ℕ) → is_cost f o ≡ true → o ≡ Some f
-cost_is_some f None is = absurd (false≢true is)
-cost_is_some f (Some c) is = ap Some (eqb-true c f is)
 
 module _ (team : Team) (is_team : IsTeam team) (heuristic : IsHeuristic team.value team.tasks) (t : AgentTask)
     (member : Contains team.tasks t) where
@@ -85,7 +82,7 @@ module _ (team : Team) (is_team : IsTeam team) (heuristic : IsHeuristic team.val
     -- each plan shows in what is found
     plan_counted : (plan : List TaskStep) → TaskSolves tasks plan → IsAtMost (task_cost tasks plan) (least_f found) ⊎ IsAtMost (task_cost tasks plan) (least_goal found)
     plan_counted plan solves =
-        witness_counted tasks is_team.tasks w all.team all.sound none flags (task_cost tasks plan) (plan_witness tasks t (found_of w) plan is_team.tasks.agree member all.explored solves)
+        witness_counted tasks is_team.tasks w all.team all.sound none flags (task_cost tasks plan) (plan_witness tasks t (found_of w) plan (record { agree = is_team.tasks.agree; in_team = member }) all.explored solves)
 
     pub costs_at_least : (cost : ℕ) → (least_goal found ≡ Some cost) × IsNoneBelow cost (least_f found) → CostsAtLeast tasks cost
     costs_at_least cost said plan solves =
@@ -125,18 +122,9 @@ module _ (team : Team) (is_team : IsTeam team) (heuristic : IsHeuristic team.val
       count : who.search.expansions ≡ limit
       own : HasOpenAt who.search.kept f
 
-    named_there : (place : ℕ) (x : Findings) → slice_get (map (findings_in w) w.agents) place ≡ Some x
-        → (r : AgentRecord) × (slice_get w.agents place ≡ Some r) × (findings_in w r ≡ x)
-    named_there place x here = by (slice_get w.agents place) refl (sym (slice_get-map (findings_in w) w.agents place) ∙ here)
-      where
-        by : (o : Option AgentRecord) → slice_get w.agents place ≡ o → option_map (findings_in w) o ≡ Some x
-            → (r : AgentRecord) × (slice_get w.agents place ≡ Some r) × (findings_in w r ≡ x)
-        by None at same = absurd (none-some x same)
-        by (Some r) at same = (r, at, same_Some (findings_in w r) x same)
-
     spent_there : (agent : ℕ) (s : SaysSpent found agent) → IsSpentAt agent s.f
     spent_there agent s =
-        let r = named_there s.named.place s.named.found s.named.there in
+        let r = found_by (findings_in w) w.agents s.named.place s.named.found s.named.there in
         let is = s.named.is in
         let place : agent ≡ suc s.named.place = omega arith in
         let there : agent_at w agent ≡ Some r.0 = ap (agent_at w) place ∙ r.1 in
@@ -146,7 +134,7 @@ module _ (team : Team) (is_team : IsTeam team) (heuristic : IsHeuristic team.val
           who = r.0;
           there = there;
           count = eqb-true r.0.search.expansions r.0.limit passes.0 ∙ (counted agent r.0 there).limit_is;
-          own = least_f_there r.0.search.kept s.f (cost_is_some s.f (findings_in w r.0).least passes.1);
+          own = least_f_there r.0.search.kept s.f (cost_found s.f (findings_in w r.0).least passes.1);
         }
 
     is_at_limit : (agent : ℕ) → SaysSpent found agent → (at_limit : IsAtLimit limit w agent) × CostsAtLeast tasks at_limit.least

@@ -41,7 +41,7 @@ use Rattle.mp_team_verdicts.specs.Ending.{AgentAt, EndsWith, HasWalked, IsAt, Is
 use Rattle.mp_team_verdicts.specs.Ending.Stage.{over, walking}
 use Rattle.mp_team_verdicts.proofs.EndMessages.{HasNoEnds, IsNoEnd, due_both, ends_behind, ends_to, one_end, others_end}
 use Rattle.mp_team_verdicts.proofs.Fitting.{AllFit, HasEndRoom, ends_next, no_end_has_room, step_fits}
-use Rattle.mp_team_verdicts.proofs.EachAgent.{each_agent}
+use Rattle.mp_team_states.proofs.EachAgent.{each_agent}
 use Rattle.mp_team_verdicts.proofs.Frames.{IsKnownWorld, me_before, of_agent_next, of_next}
 use Rattle.mp_team_verdicts.proofs.Heard.{EndsElsewhere, walk_elsewhere}
 use Rattle.mp_team_verdicts.proofs.NotesOfPlans.{notes_other, notes_own}

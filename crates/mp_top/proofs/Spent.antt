@@ -14,7 +14,7 @@ use Rattle.mp_messages.specs.declared.history.Entry.{Entry}
 use Rattle.mp_messages.specs.declared.history.Entry.TheVariants.{Act, Put, Took}
 use Rattle.mp_messages.specs.declared.history.Event.{Event}
 use Rattle.mp_messages.specs.declared.history.Kind.TheVariants.{Expand, Start}
-use Rattle.mp_optimality.proofs.Tasks.{agreeing, as_many_tasks, within}
+use Rattle.mp_optimality.proofs.Tasks.{as_many_tasks, within}
 use Rattle.mp_outside.specs.Source.{Files}
 use Rattle.mp_snapshot.specs.declared.verdict.Verdict.{Verdict}
 use Rattle.mp_snapshot.specs.declared.verdict.Verdict.TheVariants.{Continue, NoPlan, Proved, Spent}
@@ -23,6 +23,7 @@ use Rattle.mp_solutions.specs.Solution.{IsFound}
 use Rattle.mp_solutions.specs.declared.solution.Solution.{Solution}
 use Rattle.mp_split.specs.Team.{AreTasksOf}
 use Rattle.mp_split.specs.declared.team.Tasks.{Tasks}
+use Rattle.mp_stands.proofs.Files.{files_stand}
 use Rattle.mp_task.specs.AgentTask.{AgentTask}
 use Rattle.mp_task.specs.Limits.{IsWithinLimits}
 use Rattle.mp_team_states.specs.Expansions.{nothing_known}
@@ -208,7 +209,7 @@ module _ (law : TeamLaw) (one_tasks : OneTasks) (held : Option Files) (request :
         not_both s.limit (2 ^ (all.task.publics + all.task.privates))
         (few_expanded s.limit outcome.team by_team.0 (reported report told) found nothing
         (record {
-          tasks = record { agree = agreeing outcome.team found.tasks checked found.are_tasks; within = keep_limits found.tasks found.are_tasks };
+          tasks = record { agree = (files_stand outcome.team found.tasks checked found.are_tasks).2.agree; within = keep_limits found.tasks found.are_tasks };
           most = few_entries request s is keeps;
         }) all.task alone)
         all.room
@@ -222,7 +223,7 @@ module _ (law : TeamLaw) (one_tasks : OneTasks) (held : Option Files) (request :
               subst (λ n. HasSpent n s.limit report.log) (of_each held request report status.Undecided text outcome)
               (has_spent (values_of s.heuristic) s.limit outcome.team by_team.0 (reported report told) by_team.1 nothing
               (record {
-                tasks = record { agree = agreeing outcome.team t checked are; within = keep_limits t are };
+                tasks = record { agree = (files_stand outcome.team t checked are).2.agree; within = keep_limits t are };
                 most = few_entries request s is keeps;
               }) (as_many_tasks outcome.team t checked are));
           few = few;

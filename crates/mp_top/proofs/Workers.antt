@@ -2,7 +2,6 @@
 use Rattle.std.proofs.Common.{◌≡◌, ◌≤◌, ℕ, true, false, List, length, map, All, Some, sym, ap, subst, ◌∙◌}
 use Rattle.std.specs.Prelude.{IfErr, IfOk, OnOk, Result, Ok, Err}
 use Rattle.mp_factor.specs.declared.factor.Factor.{Factor}
-use Rattle.mp_task.specs.Agree.{Agree}
 use Rattle.mp_task.specs.AgentTask.{AgentTask}
 use Rattle.mp_task.specs.Limits.{IsWithinLimits}
 use Rattle.mp_grounder.specs.Checked.{IsChecked}
@@ -25,7 +24,7 @@ use Rattle.mp_world.specs.Answers.{answer_of, outcome_of}
 use Rattle.mp_world.specs.Events.{run}
 use Rattle.mp_world.specs.Logs.{IsLog}
 use Rattle.mp_world.specs.RoundRobin.{is_over}
-use Rattle.mp_world.specs.Team.{most_expansions, team_with}
+use Rattle.mp_world.specs.Team.{AreTeamTasks, most_expansions, team_with}
 use Rattle.mp_world.specs.Values.{Values}
 use Rattle.mp_world.specs.World.{World}
 use Rattle.mp_top.specs.Asked.{values_of}
@@ -40,18 +39,18 @@ pub by_given : (ms : List AgentMachine) (limit : ℕ) (ts : List AgentTask) → 
 by_given ms limit ts limits tasks P h = subst (λ n. P n ts) limits (subst (λ us. P (limit_of ms) us) tasks h)
 
 module _ (value : Values) (limit : ℕ) (ts : List AgentTask)
-    (within : All IsWithinLimits ts) (few_entries : limit ≤ most_expansions)
+    (few_entries : limit ≤ most_expansions)
     (ms : List AgentMachine) (log : List Entry) (last : World)
     (leads : run (team_with value limit ts) (schedule_of log) ≡ Some last)
     (agents : last.agents ≡ map (λ m. m.done) ms)
   where
-    pub are_of_run : Agree ts → AreOfRun value ms
-    are_of_run agree = record {
+    pub are_of_run : AreTeamTasks ts → AreOfRun value ms
+    are_of_run team = record {
       limit = limit;
       tasks = ts;
       schedule = schedule_of log;
       last = last;
-      run = record { is_team = record { tasks = record { agree = agree; within = within }; most = few_entries }; leads = leads };
+      run = record { is_team = record { tasks = team; most = few_entries }; leads = leads };
       agents = agents;
     }
 

@@ -5,9 +5,9 @@ ghost use Rattle.mp_outcome.specs.Names.{names_of};
 ghost use Rattle.mp_schedule.specs.Finished.{AreOfRun};
 ghost use Rattle.mp_schedule.specs.Machines.{AreNew, limit_of, tasks_of};
 ghost use Rattle.mp_solutions.specs.Solution.{IsFoundToEnd};
+ghost use Rattle.mp_solve.specs.Machines.{MayBegin};
 ghost use Rattle.mp_solve.specs.Refused.{AreWithin};
 ghost use Rattle.mp_split.specs.Team.{AreTasksOf, IsFirstRefusal};
-ghost use Rattle.mp_task.specs.Agree.{Agree};
 ghost use Rattle.mp_task.specs.Limits.{IsWithinLimits};
 ghost use Rattle.mp_text.specs.Outcome.{outcome_text};
 ghost use Rattle.mp_top.specs.Asked.{values_of};
@@ -59,11 +59,7 @@ fn new_team<H: Heuristic>(
     tasks: TaskList,
     limit: u64,
 ) -> Result<Vec<Machine<H>>, OutOfMemory>
-    requires from_1 { 1 ≤ limit }
-    requires limit { limit ≤ most_expansions }
-    requires agree { Agree tasks }
-    requires some { 1 ≤ length tasks }
-    requires at_most { length tasks ≤ 16 }
+    requires { MayBegin limit tasks }
     ensures new { IfOk result (λ machines. AreNew H.value machines.items) }
     ensures limit { IfOk result (λ machines. limit_of machines.items ≡ limit) }
     ensures tasks { IfOk result (λ machines. tasks_of machines.items ≡ tasks) }

@@ -1,25 +1,18 @@
 -- The agents of a team and their tasks, and that the agents of an event are of the team.
 use Rattle.std.proofs.Common.{◌≡◌, ◌≢◌, ℕ, zero, suc, ◌<◌, Bool, true, false, ◌&&◌, List, [], ◌∷◌, length, get_or, Some, refl, sym, ap, ◌∙◌, arith}
-use Rattle.std.specs.Prelude.{◌==◌, All, Contains, nat_le, not, option_map, slice_get}
+use Rattle.std.specs.Prelude.{◌==◌, Contains, nat_le, not, option_map, slice_get}
 use Rattle.std.proofs.lemmas.Bool.{and_parts, eqb-false, leb-true}
 use Rattle.std.proofs.lemmas.List.{get_or-map, length-map}
-use Rattle.std.proofs.lemmas.List.Elements.{All-contains, All-weaker}
+use Rattle.std.proofs.lemmas.List.Elements.{All-contains}
 use Rattle.std.proofs.lemmas.List.FromFn.{get_or-range_with_len}
 use Rattle.std.proofs.lemmas.Option.{get_or_from_slice_get, none-some, slice_get-map, slice_get_within}
-use Rattle.mp_task.specs.Agree.{Agree, FitsTeam}
 use Rattle.mp_task.specs.AgentTask.{AgentTask}
 use Rattle.mp_task.proofs.Agreeing.{Contains-slice_get}
+pub use Rattle.mp_task.proofs.Agreeing.{agree_numbered}
 use Rattle.mp_machine.specs.declared.event.Local.TheVariants as locals
 use Rattle.mp_machine.specs.AgentRecord.{AgentRecord, is_going}
 use Rattle.mp_machine.specs.LocalStep.{is_another, may}
 use Rattle.mp_world.specs.World.{AreNumbered, IsAgent, IsTeamWorld, World, agent_at}
-
--- tasks that agree are numbered
-pub agree_numbered : (tasks : List AgentTask) → Agree tasks → AreNumbered tasks
-agree_numbered tasks agree = record { numbered = agree.numbered; team = by tasks agree.team }
-  where
-    by : (ts : List AgentTask) → All (FitsTeam tasks) ts → All (λ t. t.agents ≡ length tasks) ts
-    by ts fits = All-weaker (FitsTeam tasks) (λ t. t.agents ≡ length tasks) (λ t fit. fit.agents) ts fits
 
 -- what holds of an agent of a team's world
 pub record IsMemberOf (tasks : List AgentTask) (agent : ℕ) (r : AgentRecord) : Type 0 where

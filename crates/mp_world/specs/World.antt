@@ -1,8 +1,8 @@
 -- A team that runs: what each agent has done so far, and the messages that are under way (MAD-A*, Nissim and Brafman
 -- 2014).
 use Rattle.std.specs.Prelude.{◌≡◌, ◌≤◌, ℕ, zero, suc, ◌-◌, List, [], length, map, replicate, Option, None, slice_get, slice_index_or, slice_set, All}
-use Rattle.std.specs.List.{range_with_len}
 use Rattle.mp_task.specs.AgentTask.{AgentTask}
+pub use Rattle.mp_task.specs.Agreement.{AreNumbered}
 use Rattle.mp_machine.specs.AgentRecord.{AgentRecord, new_record}
 use Rattle.mp_world.specs.Team.{Team}
 
@@ -44,11 +44,6 @@ start_world team = record {
   agents = map (λ t. new_record t (team.value t) team.limit) team.tasks;
   mail = replicate (length team.tasks) (replicate (length team.tasks) []);
 }
-
--- tasks of a team's agents, from agent 1 on, each of which knows how many there are
-pub record AreNumbered (tasks : List AgentTask) : Type 0 where
-  pub numbered : map (λ t. t.me) tasks ≡ range_with_len 1 (length tasks)
-  pub team : All (λ t. t.agents ≡ length tasks) tasks
 
 -- A world of a team: each agent has its task, and there is a list for each sender and each receiver.
 pub record IsTeamWorld (tasks : List AgentTask) (w : World) : Type 0 where

@@ -3,7 +3,7 @@ use Rattle.mp_audit.proofs.AuditLemmas.{once_verdict}
 use Rattle.mp_audit.proofs.auditing.audit_once.Goals as goal
 
 pub first_failure-requires : goal.first_failure-requires
-first_failure-requires c = record { agree = c.requires.agree; fits = c.requires.fits; all = c.requires.all; once = c.requires.once; finders = c.in_ok-finders.ensures }
+first_failure-requires c = record { team = λ t here. record { agree = c.requires.bounds.agree; in_team = here }; fits = c.requires.bounds.fits; all = c.requires.all; once = c.requires.once; finders = c.in_ok-finders.ensures }
 
 pub returns : goal.returns
 returns c =

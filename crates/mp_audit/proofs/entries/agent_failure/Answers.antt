@@ -5,7 +5,7 @@ use Rattle.mp_audit.proofs.entries.agent_failure.Goals as goal
 
 pub find_actions-requires-clause-sizes : goal.find_actions-requires-clause-sizes
 find_actions-requires-clause-sizes c =
-    sizes_of_task c.args.known.now.tasks.now c.args.task.now c.args.state.now c.requires.ready.agree c.requires.team c.requires.sizes
+    sizes_of_task c.args.known.now.tasks.now c.args.task.now c.args.state.now (c.requires.ready.team c.args.task.now c.requires.team) c.requires.sizes
 
 pub copy_state-requires-clause-publics : goal.copy_state-requires-clause-publics
 copy_state-requires-clause-publics c = c.requires.reached.publics ∙ sym c.requires.sizes.publics

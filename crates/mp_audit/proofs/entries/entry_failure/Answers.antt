@@ -1,7 +1,12 @@
 use Rattle.std.proofs.Common.{ℕ, ◌≤◌, ◌-◌, slice_get, sym, ap, subst, ◌∙◌}
 use Rattle.mp_audit.specs.States.{joint_of}
 use Rattle.mp_audit.proofs.EntryLemmas.{by_task, no_task}
+use Rattle.mp_audit.proofs.SizeLemmas.{sizes_of_task}
 use Rattle.mp_audit.proofs.entries.entry_failure.Goals as goal
+
+pub has_goals-requires : goal.has_goals-requires
+has_goals-requires c = λ t here.
+    sizes_of_task c.args.known.now.tasks.now t c.args.state.now (c.requires.ready.team t here) c.requires.sizes
 
 pub task_failure-requires-clause-task : goal.task_failure-requires-clause-task
 task_failure-requires-clause-task c = sym c.in-Some.ensures

@@ -9,11 +9,11 @@ use Rattle.mp_audit.proofs.leading.cheap_lead.Goals as goal
 
 pub is_visible-requires-clause-before : goal.is_visible-requires-clause-before
 is_visible-requires-clause-before c =
-    sizes_of_task c.args.known.now.tasks.now c.args.task.now c.args.state.now c.requires.ready.agree c.requires.team c.requires.sizes
+    sizes_of_task c.args.known.now.tasks.now c.args.task.now c.args.state.now (c.requires.ready.team c.args.task.now c.requires.team) c.requires.sizes
 
 pub is_visible-requires-clause-after : goal.is_visible-requires-clause-after
 is_visible-requires-clause-after c =
-    sizes_of_task c.args.known.now.tasks.now c.args.task.now c.args.reached.now c.requires.ready.agree c.requires.team c.requires.reached
+    sizes_of_task c.args.known.now.tasks.now c.args.task.now c.args.reached.now (c.requires.ready.team c.args.task.now c.requires.team) c.requires.reached
 
 pub returns-in-Some : goal.returns-in-Some
 returns-in-Some c =

@@ -5,7 +5,7 @@ use Rattle.mp_audit.proofs.leading.cheap_step.Goals as goal
 
 pub reach-requires-clause-sizes : goal.reach-requires-clause-sizes
 reach-requires-clause-sizes c =
-    sizes_of_task c.args.known.now.tasks.now c.args.task.now c.args.state.now c.requires.ready.agree c.requires.team c.requires.sizes
+    sizes_of_task c.args.known.now.tasks.now c.args.task.now c.args.state.now (c.requires.ready.team c.args.task.now c.requires.team) c.requires.sizes
 
 pub cheap_lead-requires-clause-cost : goal.cheap_lead-requires-clause-cost
 cheap_lead-requires-clause-cost c = c.keeps_limits.ensures.cost

@@ -1,11 +1,10 @@
 use Rattle.std.proofs.Common.{◌≡◌, ◌≤◌, length, subst, sym, arith}
 use Rattle.mp_audit.specs.Failures.{verdict_on}
-use Rattle.mp_audit.specs.Fits.{CertificateFits}
+use Rattle.mp_audit.specs.Fits.{CertificateFits, IsCertificateFor}
 use Rattle.mp_audit.specs.FlatCertificates.{certificate_of}
 use Rattle.mp_certificates.specs.Accepted.{IsTextOf}
 use Rattle.mp_plan_verdict.specs.Verdict.{verdict}
 use Rattle.mp_plans.proofs.PlanSizes.{short_plan}
-use Rattle.mp_task.specs.Agree.{Agree}
 use Rattle.mp_optimality.specs.Audits.{Tells}
 use Rattle.mp_optimality.specs.Reading.{IsCertificateUnread}
 use Rattle.mp_optimality.proofs.Audited.{audited_by, certificate_refused, plan_refused}
@@ -24,16 +23,14 @@ audited-requires-clause-short c =
     let most = c.requires.short in
     omega (arith, few, most)
 
-pub audited-requires-clause-agree : goal.audited-requires-clause-agree
-audited-requires-clause-agree c =
+pub audited-requires-clause-certificate : goal.audited-requires-clause-certificate
+audited-requires-clause-certificate c =
     let stands = c.tasks_stand_for_files.ensures c.args.factors.now c.in-Ok.given c.checked_factors_are_checked.ensures c.in-Ok.ensures.tasks in
-    subst Agree (sym c.as_slice-2.ensures) stands.2.agree
-
-pub audited-requires-clause-fits : goal.audited-requires-clause-fits
-audited-requires-clause-fits c =
     let certificate = certificate_of c.in-Ok-certificate_in.certificate in
-    subst (λ ts. CertificateFits ts certificate) (sym c.as_slice-2.ensures)
-    (subst (λ ts. CertificateFits ts certificate) c.as_slice.ensures c.in-Ok-certificate_in.ensures.found.certificate_fits.fits)
+    subst (λ ts. IsCertificateFor ts certificate) (sym c.as_slice-2.ensures) (record {
+      agree = stands.2.agree;
+      fits = subst (λ ts. CertificateFits ts certificate) c.as_slice.ensures c.in-Ok-certificate_in.ensures.found.certificate_fits.fits;
+    })
 
 pub returns-in-Err-certificate_in-clause-refused : goal.returns-in-Err-certificate_in-clause-refused
 returns-in-Err-certificate_in-clause-refused c =

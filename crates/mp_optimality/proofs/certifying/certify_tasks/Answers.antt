@@ -1,5 +1,6 @@
-use Rattle.std.proofs.Common.{◌≡◌, ◌≤◌, length, refl, subst, sym}
+use Rattle.std.proofs.Common.{◌≡◌, refl, subst, sym}
 use Rattle.mp_outcome.specs.Names.{names_of}
+use Rattle.mp_solve.proofs.Begins.{may_begin}
 use Rattle.mp_solve.proofs.Ends.{of_itself}
 use Rattle.mp_solve.proofs.Finds.{are_of_run}
 use Rattle.mp_text.specs.Outcome.{outcome_text}
@@ -11,14 +12,7 @@ use Rattle.mp_optimality.proofs.certifying.certify_tasks.Goals as goal
 pub ended-requires : goal.ended-requires
 ended-requires c =
     let stands = c.tasks_stand_for_files.ensures c.args.factors.now c.args.given c.checked_factors_are_checked.ensures c.requires.tasks in
-    let size : length c.args.given.tasks ≡ length c.args.factors.now = stands.2.one_each in
-    record {
-      from_1 = c.requires.from_1;
-      limit = c.requires.limit;
-      agree = stands.2.agree;
-      some = subst (λ n. 1 ≤ n) (sym size) c.requires.some;
-      at_most = subst (λ n. n ≤ 16) (sym size) c.requires.at_most;
-    }
+    may_begin c.args.limit c.args.factors.now stands.0 c.args.given.tasks stands.2 c.requires.from_1 c.requires.limit c.requires.some c.requires.at_most
 
 pub told-requires : goal.told-requires
 told-requires c =

@@ -11,18 +11,18 @@ use Rattle.mp_reach.proofs.laws.values_are_bounds_of_ways.Goals as goal
 
 pub returns : goal.returns
 returns g c = record {
-  bounds = λ tasks t k h agree limits here joint is cost last way ends.
+  bounds = λ tasks t k h are here joint is cost last way ends.
       let p = way_plan tasks k last cost way ends in
-      let within = All-contains IsWithinLimits tasks t limits here in
+      let within = All-contains IsWithinLimits tasks t are.within here in
       let most =
-      value_at_most (seen_system t) (StandsForAll (IsSeenAs tasks t) p.0) (seen_state t k.state) (task_cost tasks p.0) (seen_plan tasks agree limits t here k.state p.0 joint p.1) _
+      value_at_most (seen_system t) (StandsForAll (IsSeenAs tasks t) p.0) (seen_state t k.state) (task_cost tasks p.0) (seen_plan tasks are t here k.state p.0 joint p.1) _
       (g.met.H.Heuristic.admissible t k.state.publics (private_of k.state t.me) within) in
       let bound = subst (λ o. IfSome o (λ x. x ≤ task_cost tasks p.0)) is most in
       let same = p.2 in
       omega arith;
-  hopeless = λ tasks t k agree limits here joint none cost last way ends.
+  hopeless = λ tasks t k are here joint none cost last way ends.
       let p = way_plan tasks k last cost way ends in
-      let within = All-contains IsWithinLimits tasks t limits here in
-      let seen = seen_plan tasks agree limits t here k.state p.0 joint p.1 in
+      let within = All-contains IsWithinLimits tasks t are.within here in
+      let seen = seen_plan tasks are t here k.state p.0 joint p.1 in
       g.met.H.Heuristic.dead t k.state.publics (private_of k.state t.me) within none seen.plan seen.plans;
 }

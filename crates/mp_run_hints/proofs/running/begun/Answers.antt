@@ -6,7 +6,7 @@ use Rattle.mp_run_hints.proofs.running.begun.Goals as goal
 pub new-requires : goal.new-requires
 new-requires g c =
     are_new g.H.Heuristic.value c.args.limit c.args.tasks c.requires.some c.in_ok-machines.machines.items
-    c.in_ok-machines.ensures c.requires.at_most c.requires.limit
+    c.in_ok-machines.ensures c.requires.at_most c.requires.most
     (record { agree = c.requires.agree; within = subst (All IsWithinLimits) c.as_slice.ensures c.are_within_limits.ensures })
 
 pub returns-clause-start : goal.returns-clause-start

@@ -1,5 +1,6 @@
-use Rattle.std.proofs.Common.{◌≡◌, ◌≤◌, length, subst, sym}
+use Rattle.std.proofs.Common.{◌≡◌, subst}
 use Rattle.mp_schedule.specs.TeamRun.{TeamRun}
+use Rattle.mp_solve.proofs.Begins.{may_begin}
 use Rattle.mp_run_hints.specs.Answered.{IsAnswerOf}
 use Rattle.mp_run_hints.proofs.AnswerLemmas.{is_answered}
 use Rattle.mp_run_hints.proofs.running.run_tasks.Goals as goal
@@ -7,14 +8,7 @@ use Rattle.mp_run_hints.proofs.running.run_tasks.Goals as goal
 pub begun-requires : goal.begun-requires
 begun-requires g c =
     let stands = c.tasks_stand_for_files.ensures c.args.factors.now c.args.given c.checked_factors_are_checked.ensures c.requires.tasks in
-    let size : length c.args.given.tasks ≡ length c.args.factors.now = stands.2.one_each in
-    record {
-      from_1 = c.requires.from_1;
-      limit = c.requires.limit;
-      agree = stands.2.agree;
-      some = subst (λ n. 1 ≤ n) (sym size) c.requires.some;
-      at_most = subst (λ n. n ≤ 16) (sym size) c.requires.at_most;
-    }
+    may_begin c.args.limit c.args.factors.now stands.0 c.args.given.tasks stands.2 c.requires.from_1 c.requires.limit c.requires.some c.requires.at_most
 
 pub returns : goal.returns
 returns g c =

@@ -1,9 +1,10 @@
-use Rattle.std.proofs.Common.{◌≡◌, ◌≤◌, length, subst, sym}
+use Rattle.std.proofs.Common.{◌≡◌, subst}
 use Rattle.std.specs.Prelude.{IfOk}
 use Rattle.mp_text.specs.Outcome.{outcome_text}
 use Rattle.mp_world.specs.Answers.{outcome_of}
 use Rattle.mp_outcome.specs.Names.{names_of}
 use Rattle.mp_solutions.specs.declared.solution.Solution.{Solution}
+use Rattle.mp_solve.proofs.Begins.{may_begin}
 use Rattle.mp_solve.proofs.Ends.{of_itself}
 use Rattle.mp_solve.proofs.Found.{AnswersAreRight}
 use Rattle.mp_solve.proofs.Solutions.{if_solution}
@@ -12,14 +13,7 @@ use Rattle.mp_solve.proofs.solving.solved.Goals as goal
 pub ended-requires : goal.ended-requires
 ended-requires g c =
     let stands = c.tasks_stand_for_files.ensures c.args.factors.now c.args.given c.checked_factors_are_checked.ensures c.requires.tasks in
-    let size : length c.args.given.tasks ≡ length c.args.factors.now = stands.2.one_each in
-    record {
-      from_1 = c.requires.from_1;
-      limit = c.requires.limit;
-      agree = stands.2.agree;
-      some = subst (λ n. 1 ≤ n) (sym size) c.requires.some;
-      at_most = subst (λ n. n ≤ 16) (sym size) c.requires.at_most;
-    }
+    may_begin c.args.limit c.args.factors.now stands.0 c.args.given.tasks stands.2 c.requires.from_1 c.requires.limit c.requires.some c.requires.at_most
 
 pub solution_of-requires : goal.solution_of-requires
 solution_of-requires g c =

@@ -2,4 +2,4 @@ use Rattle.mp_team_snapshots.proofs.Agreeing.{agreeing_team}
 use Rattle.mp_team_snapshots.proofs.snapshots.tasks_that_agree_are_of_a_team.Goals as goal
 
 pub returns : goal.returns
-returns c = λ tasks t agree member limits. agreeing_team tasks t agree member limits
+returns c = agreeing_team

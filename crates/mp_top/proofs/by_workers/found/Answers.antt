@@ -1,10 +1,11 @@
-use Rattle.std.proofs.Common.{◌≡◌, ◌≤◌, length, map, subst, sym}
+use Rattle.std.proofs.Common.{◌≡◌, map, subst}
 use Rattle.std.specs.Prelude.{IfOk}
 use Rattle.mp_text.specs.Outcome.{outcome_text}
 use Rattle.mp_world.specs.Answers.{outcome_of}
 use Rattle.mp_world.specs.World.{World}
 use Rattle.mp_outcome.specs.Names.{names_of}
 use Rattle.mp_solutions.specs.declared.solution.Solution.{Solution}
+use Rattle.mp_solve.proofs.Begins.{may_begin}
 use Rattle.mp_solve.proofs.Found.{AnswersAreRight}
 use Rattle.mp_team.specs.Finished.{HasFinished}
 use Rattle.mp_top.proofs.Workers.{are_of_run, by_given, if_to_end}
@@ -13,14 +14,7 @@ use Rattle.mp_top.proofs.by_workers.found.Goals as goal
 pub new_team-requires : goal.new_team-requires
 new_team-requires g c =
     let stands = c.tasks_stand_for_files.ensures c.args.team.now c.args.given c.checked_factors_are_checked.ensures c.requires.tasks in
-    let size : length c.args.given.tasks ≡ length c.args.team.now = stands.2.one_each in
-    record {
-      from_1 = c.requires.from_1;
-      limit = c.requires.limit;
-      agree = stands.2.agree;
-      some = subst (λ n. 1 ≤ n) (sym size) c.requires.some;
-      at_most = subst (λ n. n ≤ 16) (sym size) c.requires.at_most;
-    }
+    may_begin c.args.limit c.args.team.now stands.0 c.args.given.tasks stands.2 c.requires.from_1 c.requires.limit c.requires.some c.requires.at_most
 
 pub solution_of-requires : goal.solution_of-requires
 solution_of-requires g c =
@@ -32,8 +26,8 @@ solution_of-requires g c =
     record {
       team = c.requires.at_most;
       run =
-          are_of_run g.H.Heuristic.value c.args.limit c.args.given.tasks made.within c.requires.limit
-          c.in_ok-finished.finished.machines.items c.in_ok-finished.finished.log f.last f.leads f.agents stands.2.agree;
+          are_of_run g.H.Heuristic.value c.args.limit c.args.given.tasks c.requires.limit
+          c.in_ok-finished.finished.machines.items c.in_ok-finished.finished.log f.last f.leads f.agents (record { agree = stands.2.agree; within = made.within });
     }
 
 pub returns : goal.returns

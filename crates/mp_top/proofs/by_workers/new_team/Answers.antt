@@ -7,7 +7,7 @@ use Rattle.mp_top.proofs.by_workers.new_team.Goals as goal
 pub returns-clause-new : goal.returns-clause-new
 returns-clause-new g c =
     are_new g.H.Heuristic.value c.args.limit c.args.tasks c.requires.some c.in_ok-machines.machines.items
-    c.in_ok-machines.ensures c.requires.at_most c.requires.limit
+    c.in_ok-machines.ensures c.requires.at_most c.requires.most
     (record { agree = c.requires.agree; within = subst (All IsWithinLimits) c.as_slice.ensures c.are_within_limits.ensures })
 
 pub returns-clause-limit : goal.returns-clause-limit

@@ -4,6 +4,7 @@ use Rattle.std.specs.List.{AllPairs, range_with_len}
 use Rattle.mp_task.specs.declared.act.Act.{Act}
 use Rattle.mp_task.specs.declared.act.Far.{Far}
 use Rattle.mp_task.specs.AgentTask.{AgentTask}
+use Rattle.mp_task.specs.Limits.{IsWithinLimits}
 use Rattle.mp_task.specs.Met.{met_at_start}
 use Rattle.mp_task.specs.Public.{is_public, part_of}
 
@@ -43,3 +44,18 @@ pub record Agree (tasks : List AgentTask) : Type 0 where
   pub numbered : map (λ t. t.me) tasks ≡ range_with_len 1 (length tasks)
   pub team : All (FitsTeam tasks) tasks
   pub alike : (t u : AgentTask) → Contains tasks t → Contains tasks u → SayAlike t u
+
+-- The tasks of a team: they agree, and each is within the limits.
+pub record AreTeamTasks (tasks : List AgentTask) : Type 0 where
+  pub agree : Agree tasks
+  pub within : All IsWithinLimits tasks
+
+-- one of the tasks of a team, which agree
+pub record IsTeamMember (tasks : List AgentTask) (t : AgentTask) : Type 0 where
+  pub agree : Agree tasks
+  pub in_team : Contains tasks t
+
+-- Less than agreement: tasks are those of the agents from 1 on in their order, and each counts the team right.
+pub record AreNumbered (tasks : List AgentTask) : Type 0 where
+  pub numbered : map (λ t. t.me) tasks ≡ range_with_len 1 (length tasks)
+  pub team : All (λ t. t.agents ≡ length tasks) tasks
