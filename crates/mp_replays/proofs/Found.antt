@@ -54,7 +54,7 @@ module _ (value : Values) (limit : ℕ) (schedule : List Event)
       pub same_search : AreSameSearches found its
       same_search = record {
         alike = logs_alike (team_with value limit f.tasks.tasks) numbered found.log its.log f.is_log other_log one_schedule;
-        told = tell_the_same (team_with value limit f.tasks.tasks) numbered found.log its.log f.is_log other_log one_schedule;
+        texts = tell_the_same (team_with value limit f.tasks.tasks) numbered found.log its.log f.is_log other_log one_schedule;
         answer = same_answer;
       }
 
@@ -74,8 +74,8 @@ module _ (value : Values) (limit : ℕ) (schedule : List Event)
     same_text =
         let last = same_world team team f g tasks in
         let names = one_names law team checked f.tasks g.tasks f.are_tasks g.are_tasks in
-        g.told ∙ (λ i. outcome_text (outcome_of (last i)) (names i) its.log)
-        ∙ search.told.outcomes (outcome_of f.last) (names_of team f.tasks.steps) ∙ sym f.told
+        g.text_is ∙ (λ i. outcome_text (outcome_of (last i)) (names i) its.log)
+        ∙ search.texts.outcomes (outcome_of f.last) (names_of team f.tasks.steps) ∙ sym f.text_is
 
     pub found_again : IsFoundAgain found its
     found_again = record {

@@ -8,7 +8,7 @@ use Rattle.mp_text.specs.Alike.{TellTheSame}
 -- answer.
 pub record AreSameSearches (found its : Solution) : Type 0 where
   pub alike : AreAlike found.log its.log
-  pub told : TellTheSame found.log its.log
+  pub texts : TellTheSame found.log its.log
   pub answer : its.answer ≡ found.answer
 
 -- The same was found again for the same files: one text, too, and the same views.

@@ -21,7 +21,7 @@ use Rattle.mp_world.specs.Values.{Values}
 use Rattle.mp_world.specs.World.{World, agent_at, with_agent}
 use Rattle.mp_schedule.specs.Machines.{world_of}
 use Rattle.mp_schedule.specs.UnderWay.{Mail, world_with}
-use Rattle.mp_schedule.proofs.Places.{agent_there, may_is}
+use Rattle.mp_schedule.proofs.MachinePlaces.{agent_there, may_is}
 
 module _ (value : Values) (ms : List AgentMachine) (mail : Mail) (event : Event) where
   abbrev world : World

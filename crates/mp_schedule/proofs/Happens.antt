@@ -19,7 +19,7 @@ use Rattle.mp_schedule.specs.Machines.{IsFree, limit_of, tasks_of, world_of}
 use Rattle.mp_schedule.specs.Steps.{AreAfter, HasStepped, IsDone, Parts}
 use Rattle.mp_schedule.specs.UnderWay.{Mail, world_with}
 use Rattle.mp_schedule.proofs.Events.{Ready, bad_step, leads_on, logs, never_refused, taken_step}
-use Rattle.mp_schedule.proofs.Places.{limit_again, same_again}
+use Rattle.mp_schedule.proofs.MachinePlaces.{limit_again, same_again}
 
 -- what holds of all holds of each
 of_each : {X : Type 0} (P : X → Type 0) (xs : List X) (k : ℕ) (x : X) → All P xs → slice_get xs k ≡ Some x → P x

@@ -2,7 +2,7 @@
 -- team; the run goes on; a team at the start; answers; messages that are
 -- taken get fewer; parts of a schedule; a round is more events, and rounds are few; how agent 1 has ended, and
 -- what a team found; the laws of runs
-pub mod Places
+pub mod MachinePlaces
 pub mod Events
 pub mod Happens
 pub mod Goes

@@ -59,7 +59,7 @@ module _
       pub is_log : IsLog (team_with value limit tasks.tasks) found.log
       pub logged : schedule_of found.log ≡ schedule
       pub answer : found.answer ≡ answer_of last
-      pub told : found.text ≡ outcome_text (outcome_of last) (names_of team tasks.steps) found.log
+      pub text_is : found.text ≡ outcome_text (outcome_of last) (names_of team tasks.steps) found.log
       pub right : is_over last ≡ true → IsRightFor last found
       pub goes_on : is_over last ≡ false → (found.answer ≡ Nothing) × (found.text ≡ [])
 

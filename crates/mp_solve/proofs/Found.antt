@@ -78,7 +78,7 @@ module _ (value : Values) (limit : ℕ) (team : List Factor) (tasks : Tasks)
       logged = logged;
       is_log = is_log;
       answer = answer;
-      told = text;
+      text_is = text;
       right = right_for;
       goes_on = λ over.
           let none = no_answer last over in

@@ -1,24 +1,11 @@
 -- What a step of an agent changes of what it noted of its last snapshot.
-use Rattle.std.proofs.Common.{◌≡◌, ◌≢◌, ℕ, ◌+◌, ◌-◌, ◌≤◌, ◌<◌, Bool, true, false, List, [], ◌++◌, length, Option, Some}
-use Rattle.std.proofs.Common.{None, refl, sym, ap, ◌∙◌, arith, ◌⊎◌, inl, inr}
-use Rattle.std.specs.Prelude.{Ok, if◌then◌else◌}
-use Rattle.std.proofs.lemmas.List.{get_or-set_same}
-use Rattle.mp_sets.specs.Numbers.{Numbers}
-use Rattle.mp_messages.specs.declared.message.Findings.{Findings}
-use Rattle.mp_messages.specs.declared.message.Message.{Message}
-use Rattle.mp_messages.specs.declared.message.Message.TheVariants.{Marker}
-use Rattle.mp_messages.specs.Reading.{message_of}
-use Rattle.mp_search.specs.Search.{SearchRecord}
-use Rattle.mp_snapshot.specs.Minima.{lesser}
-use Rattle.mp_snapshot.specs.Notes.{Notes}
-use Rattle.mp_snapshot.specs.Rules.{after_report, begun, is_counted, noted as noted_findings, nothing, own, with_marker}
+use Rattle.mp_world.proofs.Basics.{◌≡◌, ◌≢◌, ℕ, ◌+◌, ◌-◌, ◌≤◌, ◌<◌, Bool, true, false, List, [], ◌++◌, length, Option, Some, None, refl, sym, ap, ◌∙◌, arith, ◌⊎◌, inl, inr, Ok, if◌then◌else◌, get_or-set_same}
 use Rattle.mp_snapshot.specs.Rules.{with_state as with_counted}
 use Rattle.mp_machine.specs.declared.event.Ending.TheVariants.{Going}
-use Rattle.mp_machine.specs.AgentRecord.{AgentRecord}
-use Rattle.mp_machine.specs.Outgoing.{Outgoing, Step, to_others}
-use Rattle.mp_machine.specs.Snapshots.{findings, goal_entry, judged, judged_or_reported, started, with_notes}
-use Rattle.mp_machine.specs.Taking.{took, with_state}
 use Rattle.mp_machine.proofs.NotesLemmas.{own_begun, own_reported}
+use Rattle.mp_world.specs.AgentWords.{Findings, Message, Marker, message_of, lesser, Notes, after_report, begun, is_counted, noted as noted_findings, nothing, own, with_marker, AgentRecord, Outgoing, Step, to_others, findings, goal_entry, judged, judged_or_reported}
+use Rattle.mp_world.specs.AgentWords.{started, with_notes, took, with_state}
+use Rattle.mp_world.specs.SearchWords.{Numbers, SearchRecord}
 use Rattle.mp_world.proofs.LocalCases.{ActingCases, MessageCases, either_holds, from_goal_holds, judged_holds}
 use Rattle.mp_world.proofs.LocalCases.{message_holds, walked_holds}
 use Rattle.mp_team_snapshots.specs.Messages.{marker_of}
@@ -106,7 +93,7 @@ pub record Starts (r s : AgentRecord) : Type 0 where
   pub number : s.snapshot.number ≡ r.snapshot.number + 1
   pub noted : s.noted ≡ length r.search.kept.entries
   pub goal : s.goal ≡ goal_entry r.search.kept
-  pub mine : own s.snapshot ≡ noted_findings (r.snapshot.number + 1) (findings r)
+  pub own_findings : own s.snapshot ≡ noted_findings (r.snapshot.number + 1) (findings r)
 
 -- what an agent does with a message
 abbrev pub Took : AgentRecord → ℕ → Message → Step → Type 0
@@ -153,7 +140,7 @@ module _ (agents b : ℕ) (small : agents ≤ 16) (r : AgentRecord) (notes : Are
     number = ap (λ t. t.number) begins.snapshot ∙ is_number ∙ begins.next;
     noted = ap (λ t. t.noted) begins.after;
     goal = ap (λ t. t.goal) begins.after;
-    mine =
+    own_findings =
         ap own begins.snapshot ∙ mine ∙ own_begun r.snapshot number (findings r) low high
         ∙ ap (λ m. noted_findings m (findings r)) begins.next;
   }

@@ -1,11 +1,7 @@
 -- Tasks that agree, of which one is within the limits, are those of a team.
-use Rattle.std.proofs.Common.{◌≤◌, List, subst, arith}
-use Rattle.std.specs.Prelude.{Contains, slice_index_or}
-use Rattle.std.proofs.lemmas.List.{get_or_default}
-use Rattle.std.proofs.lemmas.List.Elements.{All-contains}
-use Rattle.mp_task.specs.Agreement.{FitsTeam, IsTeamMember}
-use Rattle.mp_task.specs.AgentTask.{AgentTask}
-use Rattle.mp_task.specs.Limits.{IsWithinLimits}
+use Rattle.mp_world.proofs.Basics.{◌≤◌, List, subst, arith, Contains, slice_index_or, get_or_default, All-contains}
+use Rattle.mp_task.specs.Agreement.{IsTeamMember}
+use Rattle.mp_world.specs.AgentWords.{FitsTeam, AgentTask, IsWithinLimits}
 use Rattle.mp_world.specs.Team.{AreTeamTasks}
 use Rattle.mp_world.proofs.Agents.{agree_numbered}
 use Rattle.mp_team_snapshots.specs.Team.{IsTeamOf}

@@ -1,15 +1,11 @@
 -- A marker is taken by which a snapshot begins at its receiver, which is not agent 1. The receiver sends a marker to all
 -- others.
-use Rattle.std.proofs.Common.{◌≡◌, ◌≢◌, ℕ, ◌+◌, ◌-◌, ◌≤◌, ◌<◌, Bool, true, false, ◌&&◌, List, [], ◌∷◌, ◌++◌, length, replicate, sym, ap, subst, ◌∙◌, arith, ◌⊎◌, inl, inr}
-use Rattle.std.specs.Prelude.{nat_lt, not, slice_set}
-use Rattle.std.proofs.lemmas.Bool.{and_from, and_left, and_parts, and_right, false_from_ne_true}
-use Rattle.std.proofs.lemmas.List.{get_or-set_same, length-replicate, length-set}
-use Rattle.mp_messages.specs.declared.message.Findings.{Findings}
-use Rattle.mp_snapshot.specs.Notes.{Notes}
-use Rattle.mp_snapshot.specs.Rules.{begun, has, is_whole, noted, nothing, own, with_marker}
+use Rattle.mp_world.proofs.Basics.{◌≡◌, ◌≢◌, ℕ, ◌+◌, ◌-◌, ◌≤◌, ◌<◌, Bool, true, false, ◌&&◌, List, [], ◌∷◌, ◌++◌, length, replicate, sym, ap, subst, ◌∙◌, arith, ◌⊎◌, inl, inr, nat_lt, not, slice_set, and_from, and_left, and_parts, and_right, false_from_ne_true}
+use Rattle.mp_world.proofs.Basics.{get_or-set_same, length-replicate, length-set}
+use Rattle.mp_world.specs.AgentWords.{Findings, Notes, begun, has, is_whole, noted, nothing, own, with_marker}
 use Rattle.mp_team_snapshots.specs.Snapshots.{AreNotesOf, one_if_due}
 use Rattle.mp_team_snapshots.proofs.Due.{IsMarker, apart_bools, begun_in, begun_is, begun_some, due_marker, due_report, marker_again, marker_there, no_marker_begun, no_marker_taken, no_report_done, not_begun, one_marker, report_whole}
-use Rattle.mp_team_snapshots.proofs.Places.{has_nobody, has_set_other, has_set_same}
+use Rattle.mp_team_snapshots.proofs.NotePlaces.{has_nobody, has_set_other, has_set_same}
 use Rattle.mp_team_snapshots.proofs.Protocol.{Follows, HasFound, IsOf, Sound, View, each, first_of, follows_again}
 
 -- the markers that are due where the receiver has not taken one, however that is

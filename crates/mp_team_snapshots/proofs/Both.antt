@@ -1,11 +1,6 @@
 -- A schedule and its cut side by side, over the notes of agents and the messages under way alone.
-use Rattle.std.proofs.Common.{◌≡◌, ◌≢◌, ℕ, Bool, true, false, ◌&&◌, eqb, List, [], map, Option, refl, sym, ap, subst}
-use Rattle.std.proofs.Common.{◌∙◌}
-use Rattle.std.specs.Prelude.{nat_le}
-use Rattle.std.proofs.lemmas.Bool.{eqb-false, eqb-true}
-use Rattle.mp_snapshot.specs.Minima.{least_of}
-use Rattle.mp_snapshot.specs.Notes.{Notes}
-use Rattle.mp_snapshot.specs.Rules.{has, own}
+use Rattle.mp_world.proofs.Basics.{◌≡◌, ◌≢◌, ℕ, Bool, true, false, ◌&&◌, eqb, List, [], map, Option, refl, sym, ap, subst, ◌∙◌, nat_le, eqb-false, eqb-true}
+use Rattle.mp_world.specs.AgentWords.{least_of, Notes, has, own}
 use Rattle.mp_team_snapshots.specs.CutMail.{AreCut}
 use Rattle.mp_team_snapshots.proofs.CutMail.{cut_again}
 use Rattle.mp_team_snapshots.proofs.Leasts.{least_again}

@@ -1,17 +1,8 @@
 -- What an event changes in the notes of agents and in the messages under way.
-use Rattle.std.proofs.Common.{◌≡◌, ◌≢◌, ℕ, suc, Bool, true, false, eqb, List, [], ◌∷◌, ◌++◌, length, Option, Some, refl, sym, ap, subst, ◌∙◌, append-nil}
-use Rattle.std.specs.Prelude.{◌==◌, if◌then◌else◌, is_some, slice_get}
-use Rattle.std.specs.List.{filter_map}
-use Rattle.std.specs.Option.{option_map_or}
-use Rattle.std.proofs.lemmas.Bool.{eq-eqb, eqb-false, eqb-true}
-use Rattle.std.proofs.lemmas.List.Elements.{filter_map-append}
-use Rattle.std.proofs.lemmas.Option.{same_Some}
-use Rattle.mp_task.specs.AgentTask.{AgentTask}
-use Rattle.mp_messages.specs.declared.history.Event.{Event}
-use Rattle.mp_messages.specs.declared.message.Message.{Message}
-use Rattle.mp_messages.specs.Reading.{message_of}
-use Rattle.mp_snapshot.specs.Rules.{before_all}
-use Rattle.mp_machine.specs.AgentRecord.{AgentRecord}
+use Rattle.mp_world.proofs.Basics.{◌≡◌, ◌≢◌, ℕ, suc, Bool, true, false, eqb, List, [], ◌∷◌, ◌++◌, length, Option, Some, refl, sym, ap, subst, ◌∙◌, append-nil, ◌==◌, if◌then◌else◌, slice_get, filter_map, option_map_or, eq-eqb, eqb-false, eqb-true, filter_map-append}
+use Rattle.mp_world.proofs.Basics.{same_Some}
+use Rattle.std.specs.Prelude.{is_some}
+use Rattle.mp_world.specs.AgentWords.{AgentTask, Event, Message, message_of, before_all, AgentRecord}
 use Rattle.mp_world.specs.Events.{agent_of, local_of, sent_in, taken, without_taken}
 use Rattle.mp_world.specs.Steps.{IsStepOf, sent_to}
 use Rattle.mp_world.specs.Values.{Values}

@@ -1,12 +1,6 @@
 -- What follows in a world whose snapshots are sound.
-use Rattle.std.proofs.Common.{◌≡◌, ℕ, false, List, length, map, Some, sym, ap, ◌∙◌}
-use Rattle.std.specs.Prelude.{Contains}
-use Rattle.mp_task.specs.AgentTask.{AgentTask}
-use Rattle.mp_messages.specs.declared.message.Findings.{Findings}
-use Rattle.mp_snapshot.specs.declared.verdict.Verdict.{Verdict}
-use Rattle.mp_snapshot.specs.Rules.{is_strange_marker, is_strange_report, own}
-use Rattle.mp_snapshot.specs.VerdictRule.{verdict_of}
-use Rattle.mp_machine.specs.AgentRecord.{AgentRecord, given_verdict}
+use Rattle.mp_world.proofs.Basics.{◌≡◌, ℕ, false, List, length, map, Some, sym, ap, ◌∙◌, Contains}
+use Rattle.mp_world.specs.AgentWords.{AgentTask, Findings, Verdict, is_strange_marker, is_strange_report, own, verdict_of, AgentRecord, given_verdict}
 use Rattle.mp_world.specs.World.{IsTeamWorld, World, agent_at}
 use Rattle.mp_team_snapshots.specs.Messages.{markers, reports}
 use Rattle.mp_team_snapshots.specs.Snapshots.{AreSnapshotsSound, AreTwo, IsSnapshotOver}

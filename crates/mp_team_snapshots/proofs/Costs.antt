@@ -1,27 +1,14 @@
 -- The costs of all entries stay such as messages have room for, and so is what an agent finds of them.
-use Rattle.std.proofs.Common.{◌≡◌, ℕ, ◌+◌, ◌<◌, ◌^◌, Bool, List, [], Option, Some, None, All, refl, subst, arith}
-use Rattle.std.specs.Prelude.{IfSome, option_map}
+use Rattle.mp_world.proofs.Basics.{◌≡◌, ℕ, ◌+◌, ◌<◌, ◌^◌, Bool, List, [], Option, Some, None, All, refl, subst, arith, IfSome, option_map, All-nil}
 use Rattle.std.specs.Cmp.{nat_cmp_total, on_total, then_total}
-use Rattle.std.proofs.lemmas.List.Elements.{All-nil}
 use Rattle.mp_list.specs.First.{IsStrictOrder, leftmost}
 use Rattle.mp_list.proofs.Orders.{strict_from_total}
 use Rattle.mp_list.proofs.FirstLemmas.{found_first}
-use Rattle.mp_sets.specs.Numbers.{Numbers}
-use Rattle.mp_task.specs.AgentTask.{AgentTask}
-use Rattle.mp_messages.specs.declared.message.State.{State}
-use Rattle.mp_messages.specs.Spelling.{AreFindings}
-use Rattle.mp_store.specs.declared.entry.Entry.{Entry}
-use Rattle.mp_store.specs.Minima.{Numbered, first_open, is_cheaper, is_nearer, least_f, nearer_cmp, those}
-use Rattle.mp_store.specs.Record.{Record, empty, f, is_open}
+use Rattle.mp_store.specs.Minima.{least_f, nearer_cmp}
 use Rattle.mp_store.proofs.RankLemmas.{IsThat, cheaper_strict, those_have}
-use Rattle.mp_search.specs.AgentState.{AgentState}
-use Rattle.mp_search.specs.declared.answer.Sending.{Sending}
-use Rattle.mp_search.specs.Expansion.{expanded}
-use Rattle.mp_search.specs.Offering.{start_record}
-use Rattle.mp_search.specs.Receipt.{received}
-use Rattle.mp_search.specs.Search.{SearchRecord, bound}
-use Rattle.mp_snapshot.specs.Rules.{noted}
 use Rattle.mp_machine.specs.Snapshots.{found_by}
+use Rattle.mp_world.specs.AgentWords.{AgentTask, State, AreFindings, noted}
+use Rattle.mp_world.specs.SearchWords.{Numbers, Entry, Numbered, first_open, is_cheaper, is_nearer, those, Record, empty, f, is_open, AgentState, Sending, expanded, start_record, received, SearchRecord, bound}
 use Rattle.mp_team_states.proofs.Changes.{Changes, changes_have}
 use Rattle.mp_team_states.proofs.Expanding.{IsFirst, IsReceived, Led, expanded_changes, received_changes, start_changes}
 

@@ -1,13 +1,9 @@
 -- A step in which no agent takes a marker or a report, and no snapshot begins: states may be counted.
-use Rattle.std.proofs.Common.{◌≡◌, ◌≢◌, ℕ, ◌-◌, true, false, ◌&&◌, length, take, sym, ap, ◌∙◌, arith, ◌⊎◌, inl, inr}
-use Rattle.std.specs.Prelude.{nat_lt, slice_index_or}
-use Rattle.std.specs.List.{list_all}
-use Rattle.std.proofs.lemmas.Bool.{and_right}
-use Rattle.mp_snapshot.specs.Notes.{Notes}
-use Rattle.mp_snapshot.specs.Rules.{has, is_whole, nothing, own}
+use Rattle.mp_world.proofs.Basics.{◌≡◌, ◌≢◌, ℕ, ◌-◌, true, false, ◌&&◌, length, take, sym, ap, ◌∙◌, arith, ◌⊎◌, inl, inr, nat_lt, slice_index_or, list_all, and_right}
+use Rattle.mp_world.specs.AgentWords.{Notes, has, is_whole, nothing, own}
 use Rattle.mp_team_snapshots.specs.Snapshots.{AreNotesOf}
 use Rattle.mp_team_snapshots.proofs.Due.{apart_bools, begun_in, due_report, marker_again, no_report_done, report_again}
-use Rattle.mp_team_snapshots.proofs.Places.{apart_places}
+use Rattle.mp_team_snapshots.proofs.NotePlaces.{apart_places}
 use Rattle.mp_team_snapshots.proofs.Protocol.{HasFound, IsOf, Sound, View, first_of, follows_again, found_again}
 
 -- An agent may have counted a state, where it awaits a marker.
@@ -19,7 +15,7 @@ pub record Counts (s s' : Notes) : Type 0 where
   pub reported : s'.reported ≡ s.reported
   pub places : length s'.found ≡ length s.found
   pub others : (k : ℕ) → k ≢ s.me - 1 → slice_index_or s'.found k nothing ≡ slice_index_or s.found k nothing
-  pub mine : (own s' ≡ own s) ⊎ (is_whole s ≡ false)
+  pub own_findings : (own s' ≡ own s) ⊎ (is_whole s ≡ false)
   pub own_number : (own s').number ≡ (own s).number
 
 pub counts_nothing : (s s' : Notes) → s' ≡ s → Counts s s'
@@ -31,7 +27,7 @@ counts_nothing s s' same = record {
   reported = ap (λ t. t.reported) same;
   places = ap (λ t. length t.found) same;
   others = λ k other. ap (λ t. slice_index_or t.found k nothing) same;
-  mine = inl (ap own same);
+  own_findings = inl (ap own same);
   own_number = ap (λ t. (own t).number) same;
 }
 
@@ -83,7 +79,7 @@ module _ (agents : ℕ) (v v' : View) (before : Sound agents v)
 
   report_kept : (i : ℕ) → IsOf agents i → i ≢ 1
       → v'.reports i ≡ due_report (v'.note 1).number (v'.note i).number (is_whole (v'.note i)) (has (v'.note 1).reported i) (own (v'.note i))
-  report_kept i is other = reports i is other ∙ before.report i is other ∙ by (counts i is).mine
+  report_kept i is other = reports i is other ∙ before.report i is other ∙ by (counts i is).own_findings
     where
       by : (own (v'.note i) ≡ own (v.note i)) ⊎ (is_whole (v.note i) ≡ false)
           → due_report (v.note 1).number (v.note i).number (is_whole (v.note i)) (has (v.note 1).reported i) (own (v.note i))
@@ -99,7 +95,7 @@ module _ (agents : ℕ) (v v' : View) (before : Sound agents v)
 
   reported_kept : (i : ℕ) → IsOf agents i → i ≢ 1
       → (nat_lt 0 (v'.note 1).number && has (v'.note 1).reported i) ≡ true → HasFound (v'.note 1) i (v'.note i)
-  reported_kept i is other here = by (counts i is).mine
+  reported_kept i is other here = by (counts i is).own_findings
     where
       last : (v'.note 1).number ≡ (v.note 1).number
       last = last_same i is

@@ -1,15 +1,8 @@
 -- The cut of each legal schedule is legal, and leads to a world that stays beside that of the schedule.
-use Rattle.std.proofs.Common.{◌≡◌, ℕ, ◌≤◌, Bool, true, false, eqb, List, [], ◌∷◌, ◌++◌, length, Some, refl, sym}
-use Rattle.std.proofs.Common.{ap, ◌∙◌, append-nil, arith}
-use Rattle.std.specs.Option.{option_and_then}
-use Rattle.std.proofs.lemmas.Bool.{and_left, eqb-false, eqb-true, false_from_ne_true, false≢true, leb-true}
+use Rattle.mp_world.proofs.Basics.{◌≡◌, ℕ, ◌≤◌, Bool, true, false, eqb, List, [], ◌∷◌, ◌++◌, length, Some, refl, sym, ap, ◌∙◌, append-nil, arith, option_and_then, and_left, eqb-false, eqb-true, false_from_ne_true, false≢true, leb-true}
 use Rattle.mp_runs.specs.Run.{run as run_of}
 use Rattle.mp_runs.proofs.Runs.{run-more, run-none, run_keeps_history}
-use Rattle.mp_messages.specs.declared.history.Event.{Event}
-use Rattle.mp_messages.specs.declared.message.Message.TheVariants.{Marker}
-use Rattle.mp_messages.specs.Spelling.{spelling}
-use Rattle.mp_snapshot.specs.Rules.{has}
-use Rattle.mp_machine.specs.AgentRecord.{AgentRecord}
+use Rattle.mp_world.specs.AgentWords.{Event, Marker, spelling, has, AgentRecord}
 use Rattle.mp_world.specs.Events.{after_event, agent_of}
 use Rattle.mp_world.specs.Steps.{IsStepOf}
 use Rattle.mp_world.specs.Team.{Team}

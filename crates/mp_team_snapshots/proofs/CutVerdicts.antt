@@ -1,30 +1,13 @@
 -- The verdict of agent 1 is that of the rule on the world after the cut.
-use Rattle.std.proofs.Common.{◌≡◌, ◌≢◌, ℕ, suc, ◌≤◌, ◌<◌, true, List, length, map, Option, Some, None, refl, sym, ap}
-use Rattle.std.proofs.Common.{subst, ◌∙◌, arith}
-use Rattle.std.specs.Prelude.{option_map, slice_get, slice_index_or}
-use Rattle.std.proofs.lemmas.Bool.{and_from, eqb-true, false≢true, le-leb}
-use Rattle.std.proofs.lemmas.List.{get_or-map, length-map, same_lists}
-use Rattle.std.proofs.lemmas.Option.{get_or_from_slice_get, same_Some, slice_get-get_or}
+use Rattle.mp_world.proofs.Basics.{◌≡◌, ◌≢◌, ℕ, suc, ◌≤◌, ◌<◌, true, List, length, map, Option, Some, None, refl, sym, ap, subst, ◌∙◌, arith, option_map, slice_get, slice_index_or, and_from, eqb-true, false≢true, le-leb, get_or-map, length-map, same_lists}
+use Rattle.mp_world.proofs.Basics.{get_or_from_slice_get, same_Some, slice_get-get_or}
 use Rattle.mp_list.specs.First.{leftmost}
 use Rattle.mp_list.proofs.FirstLemmas.{found_first}
 use Rattle.mp_runs.specs.Run.{run as run_of}
-use Rattle.mp_messages.specs.declared.history.Event.{Event}
-use Rattle.mp_messages.specs.declared.message.Findings.{Findings}
-use Rattle.mp_messages.specs.declared.message.Message.TheVariants.{Marker}
-use Rattle.mp_messages.specs.Spelling.{spelling}
-use Rattle.mp_snapshot.specs.declared.verdict.Verdict.{Verdict}
-use Rattle.mp_snapshot.specs.declared.verdict.Verdict.TheVariants.{Proved}
-use Rattle.mp_snapshot.specs.Minima.{least_of}
-use Rattle.mp_snapshot.specs.Rules.{has, own}
-use Rattle.mp_snapshot.specs.VerdictRule.{is_cost, verdict_of}
-use Rattle.mp_store.specs.declared.entry.Entry.{Entry}
-use Rattle.mp_store.specs.Minima.{Numbered, is_cheaper, least_goal, those}
-use Rattle.mp_store.specs.Record.{Record}
+use Rattle.mp_store.specs.Minima.{least_goal}
 use Rattle.mp_store.proofs.RankLemmas.{cheaper_strict, those_have}
-use Rattle.mp_search.specs.AgentState.{AgentState}
-use Rattle.mp_search.specs.Search.{bound}
-use Rattle.mp_machine.specs.AgentRecord.{AgentRecord, given_verdict}
-use Rattle.mp_machine.specs.Outgoing.{others}
+use Rattle.mp_world.specs.AgentWords.{Event, Findings, Marker, spelling, Verdict, Proved, least_of, has, own, is_cost, verdict_of, AgentRecord, given_verdict, others}
+use Rattle.mp_world.specs.SearchWords.{Entry, Numbered, is_cheaper, those, Record, AgentState, bound}
 use Rattle.mp_world.specs.Events.{after_event}
 use Rattle.mp_world.specs.Team.{Team}
 use Rattle.mp_world.specs.World.{IsTeamWorld, World, agent_at, start_world, under_way}
@@ -36,7 +19,7 @@ use Rattle.mp_team_snapshots.proofs.Consequences.{verdict_is_over, verdict_is_ru
 use Rattle.mp_team_snapshots.proofs.Due.{begun_number}
 use Rattle.mp_team_snapshots.proofs.InRuns.{HoldsInRuns, holds_in_runs}
 use Rattle.mp_team_snapshots.proofs.Over.{verdict_there}
-use Rattle.mp_team_snapshots.proofs.Places.{whole_has}
+use Rattle.mp_team_snapshots.proofs.NotePlaces.{whole_has}
 use Rattle.mp_team_snapshots.proofs.Protocol.{IsOf}
 use Rattle.mp_team_snapshots.proofs.Worlds.{HasNumbers, at_me, is_agent_of, is_of_there, me_of, note_at, note_of}
 use Rattle.mp_team_snapshots.proofs.Worlds.{team_numbers}

@@ -1,7 +1,6 @@
 -- An event of an agent that has not recorded and does not record by it: it is in the cut, too.
-use Rattle.std.proofs.Common.{◌≡◌, ◌≢◌, ℕ, true, false, List, [], ◌∷◌, ◌++◌, refl, sym, ap, subst, ◌∙◌}
-use Rattle.std.proofs.lemmas.Bool.{and_left, false≢true}
-use Rattle.mp_snapshot.specs.Rules.{has, own}
+use Rattle.mp_world.proofs.Basics.{◌≡◌, ◌≢◌, ℕ, true, false, List, [], ◌∷◌, ◌++◌, refl, sym, ap, subst, ◌∙◌, and_left, false≢true}
+use Rattle.mp_world.specs.AgentWords.{has, own}
 use Rattle.mp_team_snapshots.specs.CutMail.{AreCut}
 use Rattle.mp_team_snapshots.proofs.Both.{Both, ChangesOne, Cutting, IsCut, IsPair, cut_kept, least_counted, recorded}
 use Rattle.mp_team_snapshots.proofs.Both.{taken_in}

@@ -1,8 +1,6 @@
 -- What is due: a marker or a report that is under way exactly where a test says so.
-use Rattle.std.proofs.Common.{◌≡◌, ◌≢◌, ℕ, ◌<◌, Bool, true, false, ◌&&◌, List, [], ◌∷◌, refl, sym, ap, ◌∙◌}
-use Rattle.std.specs.Prelude.{◌==◌, not, nat_lt}
-use Rattle.std.proofs.lemmas.Bool.{and_from, and_left, and_parts, and_right, eq-eqb, eqb-true, false_from_ne_true, lt-ltb, ltb-true}
-use Rattle.mp_messages.specs.declared.message.Findings.{Findings}
+use Rattle.mp_world.proofs.Basics.{◌≡◌, ◌≢◌, ℕ, ◌<◌, Bool, true, false, ◌&&◌, List, [], ◌∷◌, refl, sym, ap, ◌∙◌, ◌==◌, not, nat_lt, and_from, and_left, and_parts, and_right, eq-eqb, eqb-true, false_from_ne_true, lt-ltb, ltb-true}
+use Rattle.mp_world.specs.AgentWords.{Findings}
 use Rattle.mp_team_snapshots.specs.Snapshots.{one_if_due}
 
 -- ---- one item or none

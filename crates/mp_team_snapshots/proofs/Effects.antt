@@ -1,19 +1,10 @@
 -- What an agent does with a message that it takes, as far as snapshots go.
-use Rattle.std.proofs.Common.{◌≡◌, ◌≢◌, ℕ, ◌+◌, ◌<◌, ◌^◌, Bool, true, List, [], ◌∷◌, ◌++◌, Option, Some, None, refl, sym, ap, subst, ◌∙◌, append-nil, ◌⊎◌, inl, inr}
-use Rattle.std.specs.Prelude.{All, Ok}
-use Rattle.mp_sets.specs.Numbers.{Numbers}
-use Rattle.mp_messages.specs.declared.message.Findings.{Findings}
-use Rattle.mp_messages.specs.declared.message.Message.{Message}
-use Rattle.mp_messages.specs.declared.message.Message.TheVariants.{State as AState, Marker, Report, Pick, Trace, Length, Done}
-use Rattle.mp_messages.specs.Reading.{message_of}
-use Rattle.mp_messages.specs.Spelling.{AreFindings}
-use Rattle.mp_snapshot.specs.Rules.{after_report, after_state, begun, is_whole, own, with_marker}
-use Rattle.mp_machine.specs.AgentRecord.{AgentRecord}
-use Rattle.mp_machine.specs.Outgoing.{Step, after_sending, others, to_one, to_others}
-use Rattle.mp_machine.specs.Snapshots.{findings, judged_or_reported, with_notes}
-use Rattle.mp_machine.specs.Taking.{ending_of, took, with_state}
-use Rattle.mp_machine.specs.WalkingBack.{solved}
+use Rattle.mp_world.proofs.Basics.{◌≡◌, ◌≢◌, ℕ, ◌+◌, ◌<◌, ◌^◌, Bool, true, List, [], ◌∷◌, ◌++◌, Option, Some, None, refl, sym, ap, subst, ◌∙◌, append-nil, ◌⊎◌, inl, inr, All, Ok}
+use Rattle.mp_messages.specs.declared.message.Message.TheVariants.{State as AState}
 use Rattle.mp_machine.proofs.NotesLemmas.{report_fair}
+use Rattle.mp_world.specs.AgentWords.{Findings, Message, Marker, Report, Pick, Trace, Length, Done, message_of, AreFindings, after_report, after_state, begun, is_whole, own, with_marker, AgentRecord, Step, after_sending, others, to_one, to_others, findings}
+use Rattle.mp_world.specs.AgentWords.{judged_or_reported, with_notes, ending_of, took, with_state, solved}
+use Rattle.mp_world.specs.SearchWords.{Numbers}
 use Rattle.mp_world.proofs.LocalCases.{Begins, GoesOn, MessageCases, both_such, each_such, either_holds, from_goal_holds}
 use Rattle.mp_world.proofs.LocalCases.{message_holds, none_such, walked_holds}
 use Rattle.mp_team_states.proofs.WorldsGrow.{taking}

@@ -1,14 +1,6 @@
 -- No end is under way from any agent but agent 1.
-use Rattle.std.proofs.Common.{◌≡◌, ◌≢◌, ℕ, Bool, true, false, List, [], ◌∷◌, length, Option, Some, None, refl, sym, ap, subst, ◌∙◌, arith, ◌⊎◌, inl, inr}
-use Rattle.std.specs.Prelude.{◌==◌, Contains, not}
-use Rattle.std.specs.List.{filter_map}
-use Rattle.std.proofs.lemmas.Bool.{eqb-false}
-use Rattle.mp_task.specs.AgentTask.{AgentTask}
-use Rattle.mp_messages.specs.declared.history.Event.{Event}
-use Rattle.mp_messages.specs.declared.history.Event.TheVariants.{Expand, Take, Start}
-use Rattle.mp_messages.specs.declared.message.EndKind.{EndKind}
-use Rattle.mp_messages.specs.declared.message.Message.{Message}
-use Rattle.mp_machine.specs.AgentRecord.{AgentRecord}
+use Rattle.mp_world.proofs.Basics.{◌≡◌, ◌≢◌, ℕ, Bool, true, false, List, [], ◌∷◌, length, Option, Some, None, refl, sym, ap, subst, ◌∙◌, arith, ◌⊎◌, inl, inr, ◌==◌, Contains, not, filter_map, eqb-false}
+use Rattle.mp_world.specs.AgentWords.{AgentTask, Event, Expand, Take, Start, EndKind, Message, AgentRecord}
 use Rattle.mp_world.specs.Events.{agent_of, local_of, taken}
 use Rattle.mp_world.specs.Steps.{IsStepOf}
 use Rattle.mp_world.specs.Team.{Team}

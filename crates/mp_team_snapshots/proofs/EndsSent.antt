@@ -1,17 +1,7 @@
 -- No agent but agent 1 sends an end.
-use Rattle.std.proofs.Common.{◌≡◌, ◌≢◌, ℕ, List, [], ◌∷◌, All, Option, None, refl}
-use Rattle.std.specs.Prelude.{Ok}
-use Rattle.std.specs.List.{filter_map}
-use Rattle.mp_sets.specs.Numbers.{Numbers}
-use Rattle.mp_messages.specs.declared.message.EndKind.{EndKind}
-use Rattle.mp_messages.specs.declared.message.Message.{Message}
-use Rattle.mp_messages.specs.declared.message.Message.TheVariants.{Marker, Report, Pick, Trace, Length}
-use Rattle.mp_search.specs.Expansion.{expanded}
-use Rattle.mp_snapshot.specs.Rules.{own}
-use Rattle.mp_machine.specs.declared.event.Local.{Local}
-use Rattle.mp_machine.specs.AgentRecord.{AgentRecord}
-use Rattle.mp_machine.specs.LocalStep.{local}
-use Rattle.mp_machine.specs.Outgoing.{Outgoing, Step, others, to_others}
+use Rattle.mp_world.proofs.Basics.{◌≡◌, ◌≢◌, ℕ, List, [], ◌∷◌, All, Option, None, refl, Ok, filter_map}
+use Rattle.mp_world.specs.AgentWords.{EndKind, Message, Marker, Report, Pick, Trace, Length, own, Local, AgentRecord, local, Outgoing, Step, others, to_others}
+use Rattle.mp_world.specs.SearchWords.{Numbers, expanded}
 use Rattle.mp_world.proofs.LocalCases.{StepCases, both_such, each_local, each_such, judges_first, none_such, states_such}
 use Rattle.mp_team_snapshots.specs.Messages.{end_of}
 use Rattle.mp_team_snapshots.proofs.Sendings.{messages_to, none_to}
@@ -40,7 +30,7 @@ no_ends = record {
       both_such IsNoEnd (to_others r.task (Marker number)) s.out
       (each_such IsNoEnd (Marker number) refl (others r.task.me r.task.agents)) (none other);
   picked = λ r s none. none;
-  told = λ r ending share other. none_such IsNoEnd;
+  ended = λ r ending share other. none_such IsNoEnd;
 }
 
 pub local_sends : (value : Numbers → Numbers → Option ℕ) (r : AgentRecord) → r.task.me ≢ 1

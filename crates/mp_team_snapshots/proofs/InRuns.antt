@@ -1,13 +1,7 @@
 -- In every world that a legal schedule leads to snapshots are sound, and agent 1 alone has ended the search.
-use Rattle.std.proofs.Common.{◌≡◌, ℕ, zero, suc, ◌-◌, ◌<◌, ◌^◌, Bool, true, false, List, length, Some, eqb, refl, sym, ap, subst, ◌∙◌, lit<}
-use Rattle.std.specs.Prelude.{replicate, slice_index_or}
-use Rattle.std.proofs.lemmas.Bool.{eqb-false, eqb-true}
-use Rattle.std.proofs.lemmas.Option.{same_Some}
-use Rattle.mp_task.specs.AgentTask.{AgentTask}
-use Rattle.mp_messages.specs.declared.history.Event.{Event}
-use Rattle.mp_messages.specs.Spelling.{AreFindings}
-use Rattle.mp_snapshot.specs.Rules.{before_all, nothing, own}
-use Rattle.mp_machine.specs.AgentRecord.{AgentRecord}
+use Rattle.mp_world.proofs.Basics.{◌≡◌, ℕ, zero, suc, ◌-◌, ◌<◌, ◌^◌, Bool, true, false, List, length, Some, eqb, refl, sym, ap, subst, ◌∙◌, replicate, slice_index_or, eqb-false, eqb-true, same_Some}
+use Rattle.std.proofs.Common.{lit<}
+use Rattle.mp_world.specs.AgentWords.{AgentTask, Event, AreFindings, before_all, nothing, own, AgentRecord}
 use Rattle.mp_world.specs.Events.{agent_of, run}
 use Rattle.mp_world.specs.Steps.{IsStepOf}
 use Rattle.mp_world.specs.Team.{Team}

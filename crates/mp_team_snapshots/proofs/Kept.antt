@@ -1,18 +1,8 @@
 -- Snapshots are sound at the start, and each event keeps them so.
-use Rattle.std.proofs.Common.{◌≡◌, ℕ, zero, suc, ◌+◌, ◌-◌, false, List, [], length, replicate, Some, None, refl, sym, ap, subst, ◌∙◌, arith, inl, inr}
-use Rattle.std.specs.Prelude.{nat_lt, slice_index_or}
-use Rattle.std.specs.List.{filter_map}
-use Rattle.std.proofs.lemmas.Bool.{and_left}
-use Rattle.std.proofs.lemmas.List.{get_or-replicate, length-replicate}
-use Rattle.mp_task.specs.AgentTask.{AgentTask}
-use Rattle.mp_messages.specs.declared.history.Event.{Event}
-use Rattle.mp_messages.specs.declared.history.Event.TheVariants.{Expand, Take, Start}
-use Rattle.mp_messages.specs.declared.message.Message.{Message}
-use Rattle.mp_messages.specs.declared.message.Message.TheVariants.{State as AState, Marker, Report, Pick, Trace, Length, Done}
-use Rattle.mp_messages.specs.Reading.{message_of}
-use Rattle.mp_search.specs.Expansion.{expanded}
-use Rattle.mp_snapshot.specs.Rules.{before_all, has, is_whole, nothing, own}
-use Rattle.mp_machine.specs.LocalStep.{with_search}
+use Rattle.mp_world.proofs.Basics.{◌≡◌, ℕ, zero, suc, ◌+◌, ◌-◌, false, List, [], length, replicate, Some, None, refl, sym, ap, subst, ◌∙◌, arith, inl, inr, nat_lt, slice_index_or, filter_map, and_left, get_or-replicate, length-replicate}
+use Rattle.mp_messages.specs.declared.message.Message.TheVariants.{State as AState}
+use Rattle.mp_world.specs.AgentWords.{AgentTask, Event, Expand, Take, Start, Message, Marker, Report, Pick, Trace, Length, Done, message_of, before_all, has, is_whole, nothing, own, with_search}
+use Rattle.mp_world.specs.SearchWords.{expanded}
 use Rattle.mp_world.specs.Events.{taken}
 use Rattle.mp_world.specs.Steps.{IsStepOf}
 use Rattle.mp_world.specs.Team.{Team}

@@ -1,7 +1,6 @@
 -- Which agents have recorded the snapshot of a number, where agent 1 has begun no later one.
-use Rattle.std.proofs.Common.{◌≡◌, ◌≢◌, ℕ, ◌+◌, ◌≤◌, true, false, sym, ◌∙◌, arith, ◌⊎◌, inl, inr}
-use Rattle.std.proofs.lemmas.Bool.{and_from, le-leb, leb-false, leb-true}
-use Rattle.mp_snapshot.specs.Rules.{has, is_whole}
+use Rattle.mp_world.proofs.Basics.{◌≡◌, ◌≢◌, ℕ, ◌+◌, ◌≤◌, true, false, sym, ◌∙◌, arith, ◌⊎◌, inl, inr, and_from, le-leb, leb-false, leb-true}
+use Rattle.mp_world.specs.AgentWords.{has, is_whole}
 use Rattle.mp_team_snapshots.proofs.Due.{begun_in, begun_is, begun_number}
 use Rattle.mp_team_snapshots.proofs.Protocol.{IsOf, Sound, View}
 use Rattle.mp_team_snapshots.proofs.Both.{recorded}

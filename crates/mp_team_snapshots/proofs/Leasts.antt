@@ -1,12 +1,8 @@
 -- The least of costs that may be missing, where one cost more comes.
-use Rattle.std.proofs.Common.{◌≡◌, ◌≢◌, ℕ, zero, suc, ◌+◌, ◌≤◌, Bool, true, false, List, [], ◌∷◌, ◌++◌, map, Option}
-use Rattle.std.proofs.Common.{Some, None, refl, sym, ap, ◌∙◌, arith}
-use Rattle.std.specs.Prelude.{◌==◌, filter, min, nat_le, not, if◌then◌else◌}
-use Rattle.std.specs.List.{range_with_len}
-use Rattle.std.proofs.lemmas.Bool.{eqb-false, eqb-true, leb-false, leb-true}
-use Rattle.std.proofs.lemmas.List.{map-append}
-use Rattle.mp_snapshot.specs.Minima.{least_of, lesser}
-use Rattle.mp_machine.specs.Outgoing.{others}
+use Rattle.mp_world.proofs.Basics.{◌≡◌, ◌≢◌, ℕ, zero, suc, ◌+◌, ◌≤◌, Bool, true, false, List, [], ◌∷◌, ◌++◌, map, Option, Some, None, refl, sym, ap, ◌∙◌, arith, ◌==◌, filter, nat_le, not, if◌then◌else◌, range_with_len, eqb-false, eqb-true, leb-false, leb-true}
+use Rattle.mp_world.proofs.Basics.{map-append}
+use Rattle.std.specs.Prelude.{min}
+use Rattle.mp_world.specs.AgentWords.{least_of, lesser, others}
 
 -- ---- the lesser of two
 

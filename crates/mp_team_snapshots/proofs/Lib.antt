@@ -2,7 +2,7 @@
 -- of step keeps there: states that are counted, a marker of a snapshot that goes on, a marker by which one begins, a report,
 -- a start
 pub mod Due
-pub mod Places
+pub mod NotePlaces
 pub mod Protocol
 pub mod Counting
 pub mod Marking

@@ -1,13 +1,9 @@
 -- A marker is taken, in a snapshot that has begun at its receiver.
-use Rattle.std.proofs.Common.{◌≡◌, ◌≢◌, ℕ, ◌-◌, ◌≤◌, true, false, ◌&&◌, List, ◌∷◌, ◌++◌, length, sym, ap, subst, ◌∙◌, arith, ◌⊎◌, inl, inr}
-use Rattle.std.specs.Prelude.{nat_lt, slice_index_or}
-use Rattle.std.proofs.lemmas.Bool.{and_from, and_parts, and_right, false_from_ne_true}
-use Rattle.std.proofs.lemmas.List.{length-set}
-use Rattle.mp_snapshot.specs.Notes.{Notes}
-use Rattle.mp_snapshot.specs.Rules.{has, is_whole, nothing, own, with_marker}
+use Rattle.mp_world.proofs.Basics.{◌≡◌, ◌≢◌, ℕ, ◌-◌, ◌≤◌, true, false, ◌&&◌, List, ◌∷◌, ◌++◌, length, sym, ap, subst, ◌∙◌, arith, ◌⊎◌, inl, inr, nat_lt, slice_index_or, and_from, and_parts, and_right, false_from_ne_true, length-set}
+use Rattle.mp_world.specs.AgentWords.{Notes, has, is_whole, nothing, own, with_marker}
 use Rattle.mp_team_snapshots.specs.Snapshots.{AreNotesOf, one_if_due}
 use Rattle.mp_team_snapshots.proofs.Due.{IsMarker, apart_bools, begun_in, begun_is, begun_some, due_marker, due_report, marker_again, marker_there, no_marker_taken, no_report_done, report_again, report_whole}
-use Rattle.mp_team_snapshots.proofs.Places.{has_set_other, has_set_same, whole_has}
+use Rattle.mp_team_snapshots.proofs.NotePlaces.{has_set_other, has_set_same, whole_has}
 use Rattle.mp_team_snapshots.proofs.Protocol.{Follows, HasFound, IsOf, Sound, View, each, first_of, follows_again, found_again, pair}
 
 -- notes that differ in the markers that have come alone

@@ -1,13 +1,6 @@
 -- The messages after a schedule and after its cut, by records of agents.
-use Rattle.std.proofs.Common.{◌≡◌, ℕ, Bool, true, false, ◌&&◌, List, length, map, Some, refl, sym, ap, ◌∙◌}
-use Rattle.std.proofs.lemmas.List.Elements.{All-contains}
-use Rattle.mp_task.specs.AgentTask.{AgentTask}
-use Rattle.mp_messages.specs.declared.message.Message.TheVariants.{Marker}
-use Rattle.mp_messages.specs.Spelling.{spelling}
-use Rattle.mp_snapshot.specs.Minima.{least_of}
-use Rattle.mp_snapshot.specs.Rules.{has, own}
-use Rattle.mp_machine.specs.AgentRecord.{AgentRecord}
-use Rattle.mp_machine.specs.Outgoing.{others}
+use Rattle.mp_world.proofs.Basics.{◌≡◌, ℕ, Bool, true, false, ◌&&◌, List, length, map, Some, refl, sym, ap, ◌∙◌, All-contains}
+use Rattle.mp_world.specs.AgentWords.{AgentTask, Marker, spelling, least_of, has, own, AgentRecord, others}
 use Rattle.mp_world.specs.World.{IsTeamWorld, World, agent_at, under_way}
 use Rattle.mp_world.proofs.Agents.{member_of}
 use Rattle.mp_team_snapshots.specs.Team.{IsTeamOf}

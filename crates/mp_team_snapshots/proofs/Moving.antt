@@ -1,11 +1,6 @@
 -- The messages under way between two agents, before and after an event.
-use Rattle.std.proofs.Common.{◌≡◌, ◌≢◌, ℕ, Bool, true, List, [], ◌∷◌, ◌++◌, length, drop, refl, sym, ap, ◌∙◌}
-use Rattle.std.proofs.Common.{append-nil, ◌⊎◌, inl, inr}
-use Rattle.std.specs.Prelude.{◌==◌, not, if◌then◌else◌, slice_index_or}
-use Rattle.std.proofs.lemmas.Bool.{eq-eqb, eqb-true, false_from_ne_true}
-use Rattle.mp_task.specs.AgentTask.{AgentTask}
-use Rattle.mp_messages.specs.declared.history.Event.{Event}
-use Rattle.mp_messages.specs.declared.history.Event.TheVariants.{Expand, Take, Start}
+use Rattle.mp_world.proofs.Basics.{◌≡◌, ◌≢◌, ℕ, Bool, true, List, [], ◌∷◌, ◌++◌, length, drop, refl, sym, ap, ◌∙◌, append-nil, ◌⊎◌, inl, inr, ◌==◌, not, if◌then◌else◌, slice_index_or, eq-eqb, eqb-true, false_from_ne_true}
+use Rattle.mp_world.specs.AgentWords.{AgentTask, Event, Expand, Take, Start}
 use Rattle.mp_world.specs.Events.{agent_of, sent_in, taken, without_taken}
 use Rattle.mp_world.specs.Steps.{IsStepOf, sent_to}
 use Rattle.mp_world.specs.Values.{Values}

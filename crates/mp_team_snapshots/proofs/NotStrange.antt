@@ -1,13 +1,12 @@
 -- A marker and a report that are under way are not strange where they arrive.
-use Rattle.std.proofs.Common.{◌≡◌, ◌≢◌, ℕ, zero, suc, ◌+◌, ◌≤◌, ◌<◌, Bool, true, false, ◌&&◌, take, refl, sym, ap, subst, ◌∙◌, arith, ◌⊎◌, inl, inr}
-use Rattle.std.specs.Prelude.{◌==◌, ◌||◌, Contains, nat_lt, not, if◌then◌else◌}
-use Rattle.std.specs.List.{list_all}
-use Rattle.std.proofs.lemmas.Bool.{and_from, and_left, and_parts, and_right, eq-eqb, eqb-true, false_from_ne_true, lt-ltb, not_from_true, or_from}
-use Rattle.mp_messages.specs.declared.message.Findings.{Findings}
-use Rattle.mp_snapshot.specs.Rules.{all_of, has, is_complete, is_strange_marker, is_strange_report, is_under_way, is_whole, own}
+use Rattle.mp_world.proofs.Basics.{◌≡◌, ◌≢◌, ℕ, zero, suc, ◌+◌, ◌≤◌, ◌<◌, Bool, true, false, ◌&&◌, take, refl, sym, ap, subst, ◌∙◌, arith, ◌⊎◌, inl, inr, ◌==◌, ◌||◌, Contains, nat_lt, not, if◌then◌else◌, list_all, and_from, and_left, and_parts, and_right, eq-eqb}
+use Rattle.mp_world.proofs.Basics.{eqb-true, false_from_ne_true, lt-ltb}
+use Rattle.std.proofs.lemmas.Bool.{not_from_true, or_from}
+use Rattle.mp_snapshot.specs.Rules.{all_of}
+use Rattle.mp_world.specs.AgentWords.{Findings, has, is_complete, is_strange_marker, is_strange_report, is_under_way, is_whole, own}
 use Rattle.mp_team_snapshots.specs.Snapshots.{AreNotesOf, one_if_due}
 use Rattle.mp_team_snapshots.proofs.Due.{apart_bools, begun_in, begun_is, begun_number, begun_some, not_true}
-use Rattle.mp_team_snapshots.proofs.Places.{all_has, whole_has}
+use Rattle.mp_team_snapshots.proofs.NotePlaces.{all_has, whole_has}
 use Rattle.mp_team_snapshots.proofs.Protocol.{IsOf, Sound, View, first_of}
 
 among_due : {A : Type 0} (b : Bool) (x y : A) → Contains (one_if_due b x) y → (b ≡ true) × (y ≡ x)

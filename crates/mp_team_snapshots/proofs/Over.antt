@@ -1,16 +1,8 @@
 -- A snapshot on which agent 1 has a verdict is over.
-use Rattle.std.proofs.Common.{◌≡◌, ℕ, suc, ◌-◌, ◌<◌, Bool, true, false, ◌&&◌, List, length, map, take, Some, None, refl, sym, ap, subst, ◌∙◌, arith}
-use Rattle.std.specs.Prelude.{◌==◌, nat_lt, if◌then◌else◌, slice_index_or}
-use Rattle.std.proofs.lemmas.Bool.{and_parts, ltb-true}
-use Rattle.std.proofs.lemmas.List.{get_or-map, get_or-take, get_or_default, length-map, length-take-le, same_lists}
-use Rattle.std.proofs.lemmas.Option.{get_or_from_slice_get, none-some, same_Some}
-use Rattle.mp_task.specs.AgentTask.{AgentTask}
-use Rattle.mp_messages.specs.declared.message.Findings.{Findings}
-use Rattle.mp_snapshot.specs.declared.verdict.Verdict.{Verdict}
-use Rattle.mp_snapshot.specs.Notes.{Notes}
-use Rattle.mp_snapshot.specs.Rules.{is_complete, is_whole, nothing, own, verdict}
-use Rattle.mp_snapshot.specs.VerdictRule.{verdict_of}
-use Rattle.mp_machine.specs.AgentRecord.{AgentRecord, given_verdict}
+use Rattle.mp_world.proofs.Basics.{◌≡◌, ℕ, suc, ◌-◌, ◌<◌, Bool, true, false, ◌&&◌, List, length, map, take, Some, None, refl, sym, ap, subst, ◌∙◌, arith, ◌==◌, nat_lt, if◌then◌else◌, slice_index_or, and_parts, ltb-true, get_or-map, get_or_default, length-map}
+use Rattle.mp_world.proofs.Basics.{same_lists, get_or_from_slice_get, none-some, same_Some}
+use Rattle.std.proofs.lemmas.List.{get_or-take, length-take-le}
+use Rattle.mp_world.specs.AgentWords.{AgentTask, Findings, Verdict, Notes, is_complete, is_whole, nothing, own, verdict, verdict_of, AgentRecord, given_verdict}
 use Rattle.mp_world.specs.World.{World, agent_at}
 use Rattle.mp_world.proofs.Agents.{agent_there}
 use Rattle.mp_world.proofs.Mail.{one_before}

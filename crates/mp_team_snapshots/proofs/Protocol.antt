@@ -1,10 +1,6 @@
 -- What is so of snapshots, over the notes of agents and the markers and reports under way alone.
-use Rattle.std.proofs.Common.{◌≡◌, ◌≢◌, ℕ, ◌+◌, ◌-◌, ◌≤◌, Bool, true, false, ◌&&◌, eqb, List, refl, sym, ap, subst, ◌∙◌, arith, ◌⊎◌, inl, inr}
-use Rattle.std.specs.Prelude.{nat_lt, slice_index_or}
-use Rattle.std.proofs.lemmas.Bool.{eqb-false, eqb-true}
-use Rattle.mp_messages.specs.declared.message.Findings.{Findings}
-use Rattle.mp_snapshot.specs.Notes.{Notes}
-use Rattle.mp_snapshot.specs.Rules.{has, is_whole, nothing, own}
+use Rattle.mp_world.proofs.Basics.{◌≡◌, ◌≢◌, ℕ, ◌+◌, ◌-◌, ◌≤◌, Bool, true, false, ◌&&◌, eqb, List, refl, sym, ap, subst, ◌∙◌, arith, ◌⊎◌, inl, inr, nat_lt, slice_index_or, eqb-false, eqb-true}
+use Rattle.mp_world.specs.AgentWords.{Findings, Notes, has, is_whole, nothing, own}
 use Rattle.mp_team_snapshots.specs.Snapshots.{AreNotesOf}
 use Rattle.mp_team_snapshots.proofs.Due.{begun_in, due_marker, due_report}
 

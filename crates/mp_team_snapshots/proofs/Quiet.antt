@@ -1,16 +1,7 @@
 -- Steps of an agent that leave its snapshot as it is and send no marker and no report: walks back, verdicts, expansions.
-use Rattle.std.proofs.Common.{◌≡◌, ℕ, List, [], ◌∷◌, None, refl}
-use Rattle.std.specs.List.{flat_map}
-use Rattle.mp_messages.specs.declared.message.Message.{Message}
-use Rattle.mp_messages.specs.declared.message.Message.TheVariants.{Pick, Trace, Length, Done}
-use Rattle.mp_search.specs.declared.answer.Sending.{Sending}
-use Rattle.mp_search.specs.Search.{SearchRecord}
-use Rattle.mp_machine.specs.AgentRecord.{AgentRecord}
-use Rattle.mp_machine.specs.LocalStep.{outgoing_of, with_search}
-use Rattle.mp_machine.specs.Outgoing.{Step, others, to_each, without_messages}
-use Rattle.mp_machine.specs.Snapshots.{judged}
-use Rattle.mp_machine.specs.Taking.{ending_of}
-use Rattle.mp_machine.specs.WalkingBack.{solved}
+use Rattle.mp_world.proofs.Basics.{◌≡◌, ℕ, List, [], ◌∷◌, None, refl, flat_map}
+use Rattle.mp_world.specs.AgentWords.{Message, Pick, Trace, Length, Done, AgentRecord, outgoing_of, with_search, Step, others, to_each, without_messages, judged, ending_of, solved}
+use Rattle.mp_world.specs.SearchWords.{Sending, SearchRecord}
 use Rattle.mp_world.proofs.LocalCases.{ActingCases, judged_holds, on_trail, states_such}
 use Rattle.mp_team_snapshots.specs.Messages.{marker_of, report_of}
 use Rattle.mp_team_snapshots.specs.Team.{HasRoom}

@@ -1,15 +1,8 @@
 -- Events by which no snapshot begins and no marker and no report is taken or sent: expansions, and states and messages of a
 -- walk back that are taken.
-use Rattle.std.proofs.Common.{◌≡◌, ℕ, ◌-◌, ◌≤◌, ◌<◌, Bool, true, false, List, length, Some, refl, sym, ap, subst, ◌∙◌, arith, inr}
-use Rattle.std.specs.Prelude.{nat_lt, not, if◌then◌else◌}
-use Rattle.std.specs.List.{filter_map}
-use Rattle.std.proofs.lemmas.Bool.{and_parts, false_from_ne_true}
-use Rattle.std.proofs.lemmas.List.{get_or-set_other, get_or-set_same, length-set}
-use Rattle.mp_task.specs.AgentTask.{AgentTask}
-use Rattle.mp_messages.specs.declared.history.Event.{Event}
-use Rattle.mp_snapshot.specs.Minima.{lesser}
-use Rattle.mp_snapshot.specs.Notes.{Notes}
-use Rattle.mp_snapshot.specs.Rules.{after_state, has, is_counted, is_whole, nothing, own, with_state}
+use Rattle.mp_world.proofs.Basics.{◌≡◌, ℕ, ◌-◌, ◌≤◌, ◌<◌, Bool, true, false, List, length, Some, refl, sym, ap, subst, ◌∙◌, arith, inr, nat_lt, not, if◌then◌else◌, filter_map, and_parts, false_from_ne_true, get_or-set_other, get_or-set_same, length-set}
+use Rattle.mp_snapshot.specs.Rules.{with_state}
+use Rattle.mp_world.specs.AgentWords.{AgentTask, Event, lesser, Notes, after_state, has, is_counted, is_whole, nothing, own}
 use Rattle.mp_world.specs.Events.{agent_of}
 use Rattle.mp_world.specs.Steps.{IsStepOf}
 use Rattle.mp_world.specs.Values.{Values}
@@ -20,7 +13,7 @@ use Rattle.mp_team_snapshots.specs.Team.{IsTeamOf, SendsFitting}
 use Rattle.mp_team_snapshots.proofs.Changes.{left, markers_part, note_after, note_before, note_other, reports_part, unsent}
 use Rattle.mp_team_snapshots.proofs.Counting.{Counts, counted_sound, counts_nothing}
 use Rattle.mp_team_snapshots.proofs.Due.{apart_bools, not_true}
-use Rattle.mp_team_snapshots.proofs.Places.{whole_has}
+use Rattle.mp_team_snapshots.proofs.NotePlaces.{whole_has}
 use Rattle.mp_team_snapshots.proofs.Protocol.{IsOf, Sound, each, first_of}
 use Rattle.mp_team_snapshots.proofs.Sendings.{IsSilent}
 use Rattle.mp_team_snapshots.proofs.Worlds.{note_at, view}
@@ -46,7 +39,7 @@ counts_state agents small s b from f notes is_b is = by (is_counted s from) refl
       reported = refl;
       places = length-set s.found (s.me - 1) (record (own s) { under_way = lesser (own s).under_way (Some f) });
       others = λ k other. get_or-set_other s.found (s.me - 1) k (record (own s) { under_way = lesser (own s).under_way (Some f) }) nothing other;
-      mine = inr (false_from_ne_true (is_whole s) (λ whole.
+      own_findings = inr (false_from_ne_true (is_whole s) (λ whole.
           apart_bools (has s.marked from) (whole_has s agents from notes.agents notes.marked is.from_1 is.at_most small whole)
           (not_true (has s.marked from) (and_parts (nat_lt 0 s.number) (not (has s.marked from)) test).1)));
       own_number =

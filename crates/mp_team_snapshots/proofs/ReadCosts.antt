@@ -1,12 +1,9 @@
 -- A state that is read has a cost and an estimate that are together below 2 ^ 60.
-use Rattle.std.proofs.Common.{◌≡◌, ℕ, ◌+◌, ◌<◌, ◌^◌, Bool, true, false, List, [], ◌∷◌, length, Option, Some, None, refl, subst}
-use Rattle.std.specs.Prelude.{◌==◌, IfSome, nat_lt, if◌then◌else◌}
-use Rattle.std.proofs.lemmas.Bool.{ltb-true}
-use Rattle.mp_messages.specs.declared.message.Message.{Message}
+use Rattle.mp_world.proofs.Basics.{◌≡◌, ℕ, ◌+◌, ◌<◌, ◌^◌, Bool, true, false, List, [], ◌∷◌, length, Option, Some, None, refl, subst, ◌==◌, IfSome, nat_lt, if◌then◌else◌, ltb-true}
 use Rattle.mp_messages.specs.declared.message.Message.TheVariants as kinds
-use Rattle.mp_messages.specs.declared.message.State.{State}
-use Rattle.mp_messages.specs.Reading.{◌>>=◌, as_kind, costs_at, counted_at, ending_at, fields_at, findings_at, message_at, message_of, number_at, state_at, tags_at, trace_at}
-use Rattle.mp_messages.specs.Spelling.{IfState, limit}
+use Rattle.mp_messages.specs.Reading.{costs_at, counted_at, ending_at, findings_at, state_at, tags_at}
+use Rattle.mp_messages.specs.Spelling.{limit}
+use Rattle.mp_world.specs.AgentWords.{Message, State, ◌>>=◌, as_kind, fields_at, message_at, message_of, number_at, trace_at, IfState}
 
 abbrev IsSmall : State → Type 0
 IsSmall s = s.g + s.h < 2 ^ 60

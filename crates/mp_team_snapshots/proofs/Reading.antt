@@ -1,16 +1,10 @@
 -- The markers, the reports and the ends that go out are read as themselves, and no other message is read as one.
-use Rattle.std.proofs.Common.{◌≡◌, ℕ, ◌<◌, ◌^◌, Bool, true, false, List, [], ◌∷◌, ◌++◌, length, map, Option, Some, None, refl, sym, ap, ◌∙◌}
-use Rattle.std.specs.Prelude.{◌==◌, All, if◌then◌else◌}
-use Rattle.std.specs.List.{cons_option, filter_map}
-use Rattle.std.specs.Option.{option_and_then}
-use Rattle.std.proofs.lemmas.List.Elements.{All-head, All-tail}
-use Rattle.mp_messages.specs.declared.message.Message.{Message}
-use Rattle.mp_messages.specs.declared.message.Message.TheVariants.{State as AState, Marker, Report, Pick, Trace, Length, Done}
-use Rattle.mp_messages.specs.declared.message.State.{State}
-use Rattle.mp_messages.specs.Reading.{◌>>=◌, as_kind, fields_at, message_at, message_of, number_at, state_at, trace_at}
-use Rattle.mp_messages.specs.Spelling.{Fits, number, spelling, state}
+use Rattle.mp_world.proofs.Basics.{◌≡◌, ℕ, ◌<◌, ◌^◌, Bool, true, false, List, [], ◌∷◌, ◌++◌, length, map, Option, Some, None, refl, sym, ap, ◌∙◌, ◌==◌, All, if◌then◌else◌, cons_option, filter_map, option_and_then, All-head, All-tail}
+use Rattle.mp_messages.specs.declared.message.Message.TheVariants.{State as AState}
+use Rattle.mp_messages.specs.Reading.{state_at}
+use Rattle.mp_messages.specs.Spelling.{state}
 use Rattle.mp_messages.proofs.Messages.{all_again}
-use Rattle.mp_machine.specs.Outgoing.{Outgoing, in_bytes}
+use Rattle.mp_world.specs.AgentWords.{Message, Marker, Report, Pick, Trace, Length, Done, State, ◌>>=◌, as_kind, fields_at, message_at, message_of, number_at, trace_at, Fits, number, spelling, Outgoing, in_bytes}
 use Rattle.mp_world.specs.Steps.{sent_to}
 use Rattle.mp_team_snapshots.specs.Team.{HasRoom}
 use Rattle.mp_team_snapshots.proofs.Sendings.{messages_to}

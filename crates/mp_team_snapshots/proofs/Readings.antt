@@ -1,14 +1,7 @@
 -- A marker is read as itself, and the states among bytes.
-use Rattle.std.proofs.Common.{◌≡◌, ℕ, ◌<◌, ◌^◌, List, [], ◌∷◌, ◌++◌, map, Option, Some, None, refl, sym, ap, ◌∙◌}
-use Rattle.std.specs.List.{filter_map}
-use Rattle.std.specs.Option.{option_and_then}
-use Rattle.std.proofs.lemmas.List.Elements.{filter_map-append}
-use Rattle.mp_messages.specs.declared.message.Message.{Message}
-use Rattle.mp_messages.specs.declared.message.Message.TheVariants.{Marker}
-use Rattle.mp_messages.specs.Reading.{message_of}
-use Rattle.mp_messages.specs.Spelling.{spelling}
+use Rattle.mp_world.proofs.Basics.{◌≡◌, ℕ, ◌<◌, ◌^◌, List, [], ◌∷◌, ◌++◌, map, Option, Some, None, refl, sym, ap, ◌∙◌, filter_map, option_and_then, filter_map-append}
 use Rattle.mp_messages.proofs.Messages.{all_again}
-use Rattle.mp_snapshot.specs.Minima.{least_of, lesser}
+use Rattle.mp_world.specs.AgentWords.{Message, Marker, message_of, spelling, least_of, lesser}
 use Rattle.mp_team_snapshots.specs.Messages.{marker_of}
 use Rattle.mp_team_snapshots.proofs.Reading.{read_first}
 use Rattle.mp_team_snapshots.specs.Found.{least_state, messages_in, state_f}

@@ -1,22 +1,8 @@
 -- The event by which an agent records, in a world: the world after the cut stays.
-use Rattle.std.proofs.Common.{◌≡◌, ◌≢◌, ℕ, ◌+◌, ◌-◌, ◌≤◌, ◌<◌, ◌^◌, Bool, true, false, List, [], ◌∷◌, ◌++◌, length, map}
-use Rattle.std.proofs.Common.{replicate, None, refl, sym, ap, subst, ◌∙◌, arith, inl, inr}
-use Rattle.std.specs.Prelude.{◌==◌, slice_set}
-use Rattle.std.specs.List.{filter_map}
-use Rattle.std.proofs.lemmas.Bool.{and_parts, false_from_ne_true, false≢true, le-leb, leb-false, leb-true}
-use Rattle.std.proofs.lemmas.List.{length-replicate, length-set}
-use Rattle.mp_task.specs.AgentTask.{AgentTask}
-use Rattle.mp_messages.specs.declared.history.Event.{Event}
-use Rattle.mp_messages.specs.declared.history.Event.TheVariants.{Expand, Take, Start}
-use Rattle.mp_messages.specs.declared.message.Message.{Message}
-use Rattle.mp_messages.specs.declared.message.Message.TheVariants.{Marker}
-use Rattle.mp_messages.specs.Spelling.{spelling}
-use Rattle.mp_snapshot.specs.Notes.{Notes}
-use Rattle.mp_snapshot.specs.Rules.{begun, has, own, with_marker}
-use Rattle.mp_machine.specs.AgentRecord.{AgentRecord}
-use Rattle.mp_machine.specs.Outgoing.{Outgoing, in_bytes, to_others}
-use Rattle.mp_machine.specs.Snapshots.{findings}
+use Rattle.mp_world.proofs.Basics.{◌≡◌, ◌≢◌, ℕ, ◌+◌, ◌-◌, ◌≤◌, ◌<◌, ◌^◌, Bool, true, false, List, [], ◌∷◌, ◌++◌, length, map, replicate, None, refl, sym, ap, subst, ◌∙◌, arith, inl, inr, ◌==◌, slice_set, filter_map, and_parts, false_from_ne_true, false≢true, le-leb}
+use Rattle.mp_world.proofs.Basics.{leb-false, leb-true, length-replicate, length-set}
 use Rattle.mp_machine.proofs.NotesLemmas.{own_begun}
+use Rattle.mp_world.specs.AgentWords.{AgentTask, Event, Expand, Take, Start, Message, Marker, spelling, Notes, begun, has, own, with_marker, AgentRecord, Outgoing, in_bytes, to_others, findings}
 use Rattle.mp_world.specs.Events.{agent_of, sent_in, taken}
 use Rattle.mp_world.specs.Steps.{IsStepOf, sent_to}
 use Rattle.mp_world.specs.Values.{Values}
@@ -28,7 +14,7 @@ use Rattle.mp_team_snapshots.specs.Team.{IsTeamOf}
 use Rattle.mp_team_snapshots.proofs.Changes.{note_after, note_before, note_other}
 use Rattle.mp_team_snapshots.proofs.Due.{IsMarker, begun_number}
 use Rattle.mp_team_snapshots.proofs.InRuns.{HoldsInRuns}
-use Rattle.mp_team_snapshots.proofs.Places.{has_nobody, has_set_other, has_set_same}
+use Rattle.mp_team_snapshots.proofs.NotePlaces.{has_nobody, has_set_other, has_set_same}
 use Rattle.mp_team_snapshots.proofs.Protocol.{IsOf, Sound}
 use Rattle.mp_team_snapshots.proofs.Sendings.{messages_to, messages_to-append, others_get}
 use Rattle.mp_team_snapshots.proofs.Worlds.{note_at, view}

@@ -1,8 +1,6 @@
 -- The event by which an agent records: it is not in the cut.
-use Rattle.std.proofs.Common.{◌≡◌, ◌≢◌, ℕ, Bool, true, false, ◌&&◌, List, [], ◌∷◌, ◌++◌, None, refl, sym, ap}
-use Rattle.std.proofs.Common.{subst, ◌∙◌}
-use Rattle.std.proofs.lemmas.Bool.{false≢true}
-use Rattle.mp_snapshot.specs.Rules.{has, own}
+use Rattle.mp_world.proofs.Basics.{◌≡◌, ◌≢◌, ℕ, Bool, true, false, ◌&&◌, List, [], ◌∷◌, ◌++◌, None, refl, sym, ap, subst, ◌∙◌, false≢true}
+use Rattle.mp_world.specs.AgentWords.{has, own}
 use Rattle.mp_team_snapshots.specs.CutMail.{AreCut}
 use Rattle.mp_team_snapshots.proofs.Both.{Both, ChangesOne, Cutting, IsCut, IsPair, cut_kept, least_counted, least_in}
 use Rattle.mp_team_snapshots.proofs.Both.{recorded, taken_in}

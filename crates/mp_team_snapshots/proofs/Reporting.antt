@@ -1,14 +1,9 @@
 -- Agent 1 takes a report.
-use Rattle.std.proofs.Common.{◌≡◌, ◌≢◌, ℕ, ◌-◌, ◌≤◌, true, ◌&&◌, List, ◌∷◌, length, sym, ap, ◌∙◌, arith}
-use Rattle.std.specs.Prelude.{nat_lt, slice_index_or}
-use Rattle.std.proofs.lemmas.Bool.{and_from, and_parts, lt-ltb}
-use Rattle.std.proofs.lemmas.List.{get_or-set_other, get_or-set_same, length-set}
-use Rattle.mp_messages.specs.declared.message.Findings.{Findings}
-use Rattle.mp_snapshot.specs.Notes.{Notes}
-use Rattle.mp_snapshot.specs.Rules.{after_report, has, is_whole, nothing, own}
+use Rattle.mp_world.proofs.Basics.{◌≡◌, ◌≢◌, ℕ, ◌-◌, ◌≤◌, true, ◌&&◌, List, ◌∷◌, length, sym, ap, ◌∙◌, arith, nat_lt, slice_index_or, and_from, and_parts, lt-ltb, get_or-set_other, get_or-set_same, length-set}
+use Rattle.mp_world.specs.AgentWords.{Findings, Notes, after_report, has, is_whole, nothing, own}
 use Rattle.mp_team_snapshots.specs.Snapshots.{AreNotesOf}
 use Rattle.mp_team_snapshots.proofs.Due.{IsReport, begun_in, begun_some, due_report, marker_again, no_report_here, report_again, report_there}
-use Rattle.mp_team_snapshots.proofs.Places.{apart_places, has_set_other, has_set_same}
+use Rattle.mp_team_snapshots.proofs.NotePlaces.{apart_places, has_set_other, has_set_same}
 use Rattle.mp_team_snapshots.proofs.Protocol.{HasFound, IsOf, Sound, View, each, first_of, follows_again, found_again}
 
 -- notes that differ in the reports that are here alone

@@ -1,25 +1,12 @@
 -- The numbers of all agents stay such as messages have room for, and so are the markers and the reports that go out.
-use Rattle.std.proofs.Common.{◌≡◌, ℕ, ◌+◌, ◌≤◌, ◌<◌, ◌^◌, Bool, true, false, List, ◌∷◌, length, Some, refl, sym, ap, subst, ◌∙◌, arith, inl, inr}
-use Rattle.std.specs.Prelude.{if◌then◌else◌}
-use Rattle.std.specs.List.{filter_map}
-use Rattle.std.proofs.lemmas.Bool.{and_parts}
-use Rattle.mp_task.specs.AgentTask.{AgentTask}
-use Rattle.mp_messages.specs.declared.history.Event.{Event}
-use Rattle.mp_messages.specs.declared.history.Event.TheVariants.{Expand, Take, Start}
-use Rattle.mp_messages.specs.declared.message.Findings.{Findings}
-use Rattle.mp_messages.specs.declared.message.Message.{Message}
-use Rattle.mp_messages.specs.declared.message.Message.TheVariants.{State as AState, Marker, Report, Pick, Trace, Length, Done}
-use Rattle.mp_messages.specs.Reading.{message_of}
-use Rattle.mp_messages.specs.Spelling.{AreFindings}
-use Rattle.mp_search.specs.Expansion.{expanded}
-use Rattle.mp_snapshot.specs.Notes.{Notes}
-use Rattle.mp_snapshot.specs.Rules.{after_report, after_state, begun, is_counted, own, with_marker, with_state}
-use Rattle.mp_machine.specs.AgentRecord.{AgentRecord, is_going}
-use Rattle.mp_machine.specs.LocalStep.{may_start, with_search}
-use Rattle.mp_machine.specs.Outgoing.{Step}
-use Rattle.mp_machine.specs.Snapshots.{findings, started}
+use Rattle.mp_world.proofs.Basics.{◌≡◌, ℕ, ◌+◌, ◌≤◌, ◌<◌, ◌^◌, Bool, true, false, List, ◌∷◌, length, Some, refl, sym, ap, subst, ◌∙◌, arith, inl, inr, if◌then◌else◌, filter_map, and_parts}
+use Rattle.mp_messages.specs.declared.message.Message.TheVariants.{State as AState}
+use Rattle.mp_snapshot.specs.Rules.{with_state}
 use Rattle.mp_machine.proofs.NotesLemmas.{own_begun, own_fits_state, own_reported}
 use Rattle.mp_machine.proofs.StepLemmas.{start_parts}
+use Rattle.mp_world.specs.AgentWords.{AgentTask, Event, Expand, Take, Start, Findings, Message, Marker, Report, Pick, Trace, Length, Done, message_of, AreFindings, Notes, after_report, after_state, begun, is_counted, own, with_marker, AgentRecord, is_going, may_start}
+use Rattle.mp_world.specs.AgentWords.{with_search, Step, findings, started}
+use Rattle.mp_world.specs.SearchWords.{expanded}
 use Rattle.mp_world.specs.Events.{taken}
 use Rattle.mp_world.specs.Steps.{IsStepOf}
 use Rattle.mp_world.specs.Values.{Values}

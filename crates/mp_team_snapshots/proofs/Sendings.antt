@@ -1,13 +1,8 @@
 -- Markers and reports among the messages that go out in a step.
-use Rattle.std.proofs.Common.{◌≡◌, ◌≢◌, ℕ, zero, suc, ◌+◌, ◌≤◌, ◌<◌, Bool, true, false, List, [], ◌∷◌, ◌++◌, map, Option, None, refl, ap, ◌∙◌, arith}
-use Rattle.std.specs.Prelude.{◌==◌, All, filter, not}
-use Rattle.std.specs.List.{filter_map, range_with_len}
-use Rattle.std.proofs.lemmas.Bool.{eqb-false, eqb-true, false_from_ne_true, not_from_false}
-use Rattle.std.proofs.lemmas.List.{map-append}
-use Rattle.std.proofs.lemmas.List.Elements.{All-head, All-tail, All-weaker, filter-append, filter_map-append}
-use Rattle.mp_messages.specs.declared.message.Findings.{Findings}
-use Rattle.mp_messages.specs.declared.message.Message.{Message}
-use Rattle.mp_machine.specs.Outgoing.{Outgoing, others, to_each}
+use Rattle.mp_world.proofs.Basics.{◌≡◌, ◌≢◌, ℕ, zero, suc, ◌+◌, ◌≤◌, ◌<◌, Bool, true, false, List, [], ◌∷◌, ◌++◌, map, Option, None, refl, ap, ◌∙◌, arith, ◌==◌, All, filter, not, filter_map, range_with_len, eqb-false, eqb-true, false_from_ne_true, map-append}
+use Rattle.mp_world.proofs.Basics.{All-head, All-tail, All-weaker, filter-append, filter_map-append}
+use Rattle.std.proofs.lemmas.Bool.{not_from_false}
+use Rattle.mp_world.specs.AgentWords.{Findings, Message, Outgoing, others, to_each}
 use Rattle.mp_world.proofs.LocalCases.{each_such, none_such}
 use Rattle.mp_team_snapshots.specs.Messages.{marker_of, report_of}
 use Rattle.mp_team_snapshots.specs.Team.{HasRoom}

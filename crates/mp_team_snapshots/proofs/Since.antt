@@ -1,10 +1,6 @@
 -- The agents after a schedule and after its cut, once an event has happened.
-use Rattle.std.proofs.Common.{◌≡◌, ◌≢◌, ℕ, ◌≤◌, Bool, true, false, eqb, Some, refl, sym, ap, subst, ◌∙◌, arith}
-use Rattle.std.proofs.Common.{◌⊎◌, inl, inr}
-use Rattle.std.proofs.lemmas.Bool.{eqb-false, eqb-true, false≢true, le-leb, leb-false, leb-true}
-use Rattle.std.proofs.lemmas.Option.{same_Some}
-use Rattle.mp_messages.specs.declared.history.Event.{Event}
-use Rattle.mp_machine.specs.AgentRecord.{AgentRecord}
+use Rattle.mp_world.proofs.Basics.{◌≡◌, ◌≢◌, ℕ, ◌≤◌, Bool, true, false, eqb, Some, refl, sym, ap, subst, ◌∙◌, arith, ◌⊎◌, inl, inr, eqb-false, eqb-true, false≢true, le-leb, leb-false, leb-true, same_Some}
+use Rattle.mp_world.specs.AgentWords.{Event, AgentRecord}
 use Rattle.mp_world.specs.Events.{agent_of}
 use Rattle.mp_world.specs.Steps.{IsStepOf}
 use Rattle.mp_world.specs.Values.{Values}
@@ -79,9 +75,9 @@ since_now k r s not_was now further (inr starts) = record {
     noted = starts.noted;
     goal = starts.goal;
     found = record {
-      least = ap (λ f. f.least) starts.mine;
-      goal = ap (λ f. f.goal) starts.mine;
-      spent = ap (λ f. f.spent) starts.mine;
+      least = ap (λ f. f.least) starts.own_findings;
+      goal = ap (λ f. f.goal) starts.own_findings;
+      spent = ap (λ f. f.spent) starts.own_findings;
     };
   };
 }

@@ -1,19 +1,7 @@
 -- An event of an agent that has recorded, in a world: the world after the cut stays.
-use Rattle.std.proofs.Common.{◌≡◌, ◌≢◌, ℕ, ◌+◌, ◌≤◌, ◌<◌, ◌^◌, Bool, true, false, ◌&&◌, List, [], ◌∷◌, ◌++◌, length}
-use Rattle.std.proofs.Common.{Some, None, refl, sym, ap, ◌∙◌, arith, inl, inr}
-use Rattle.std.specs.Prelude.{◌==◌, if◌then◌else◌, not}
-use Rattle.std.specs.List.{filter_map}
-use Rattle.std.specs.Option.{option_and_then}
-use Rattle.std.proofs.lemmas.Bool.{and_from, and_left, and_right, eq-eqb, eqb-true, false_from_ne_true, lt-ltb}
-use Rattle.mp_task.specs.AgentTask.{AgentTask}
-use Rattle.mp_messages.specs.declared.history.Event.{Event}
-use Rattle.mp_messages.specs.declared.history.Event.TheVariants.{Expand, Take, Start}
-use Rattle.mp_messages.specs.declared.message.Message.{Message}
-use Rattle.mp_messages.specs.declared.message.Message.TheVariants.{Marker}
-use Rattle.mp_messages.specs.Reading.{message_of}
-use Rattle.mp_messages.specs.Spelling.{spelling}
-use Rattle.mp_snapshot.specs.Minima.{lesser}
-use Rattle.mp_snapshot.specs.Rules.{has, is_counted, own, with_marker}
+use Rattle.mp_world.proofs.Basics.{◌≡◌, ◌≢◌, ℕ, ◌+◌, ◌≤◌, ◌<◌, ◌^◌, Bool, true, false, ◌&&◌, List, [], ◌∷◌, ◌++◌, length, Some, None, refl, sym, ap, ◌∙◌, arith, inl, inr, ◌==◌, if◌then◌else◌, not, filter_map, option_and_then, and_from, and_left, and_right, eq-eqb}
+use Rattle.mp_world.proofs.Basics.{eqb-true, false_from_ne_true, lt-ltb}
+use Rattle.mp_world.specs.AgentWords.{AgentTask, Event, Expand, Take, Start, Message, Marker, message_of, spelling, lesser, has, is_counted, own, with_marker}
 use Rattle.mp_world.specs.Events.{agent_of, sent_in, taken}
 use Rattle.mp_world.specs.Steps.{IsStepOf, sent_to}
 use Rattle.mp_world.specs.Values.{Values}
@@ -24,7 +12,7 @@ use Rattle.mp_team_snapshots.specs.Team.{IsTeamOf}
 use Rattle.mp_team_snapshots.proofs.Changes.{note_after, note_before, note_other}
 use Rattle.mp_team_snapshots.proofs.Due.{IsMarker}
 use Rattle.mp_team_snapshots.proofs.InRuns.{HoldsInRuns}
-use Rattle.mp_team_snapshots.proofs.Places.{has_set_other, has_set_same}
+use Rattle.mp_team_snapshots.proofs.NotePlaces.{has_set_other, has_set_same}
 use Rattle.mp_team_snapshots.proofs.Protocol.{IsOf, Sound}
 use Rattle.mp_team_snapshots.proofs.Sendings.{one_among_others}
 use Rattle.mp_team_snapshots.proofs.Worlds.{note_at, view}

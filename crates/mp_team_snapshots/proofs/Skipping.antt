@@ -1,9 +1,6 @@
 -- An event of an agent that has recorded: it is not in the cut.
-use Rattle.std.proofs.Common.{◌≡◌, ◌≢◌, ℕ, Bool, true, false, ◌&&◌, eqb, List, [], ◌∷◌, ◌++◌, refl, sym, ap, subst, ◌∙◌}
-use Rattle.std.specs.Prelude.{◌==◌, filter}
-use Rattle.std.proofs.lemmas.Bool.{eqb-false, eqb-true, false≢true}
-use Rattle.mp_snapshot.specs.Minima.{lesser}
-use Rattle.mp_snapshot.specs.Rules.{has, own}
+use Rattle.mp_world.proofs.Basics.{◌≡◌, ◌≢◌, ℕ, Bool, true, false, ◌&&◌, eqb, List, [], ◌∷◌, ◌++◌, refl, sym, ap, subst, ◌∙◌, ◌==◌, filter, eqb-false, eqb-true, false≢true}
+use Rattle.mp_world.specs.AgentWords.{lesser, has, own}
 use Rattle.mp_team_snapshots.specs.CutMail.{AreCut}
 use Rattle.mp_team_snapshots.proofs.Both.{Both, ChangesOne, Cutting, IsCut, IsPair, cut_kept, least_counted, least_in}
 use Rattle.mp_team_snapshots.proofs.Both.{pair_again, recorded, taken_in}

@@ -1,17 +1,7 @@
 -- Agent 1 starts a snapshot in a world.
-use Rattle.std.proofs.Common.{◌≡◌, ◌≢◌, ℕ, ◌+◌, ◌≤◌, ◌<◌, ◌^◌, Bool, true, false, ◌&&◌, List, [], ◌∷◌, ◌++◌, length, refl, sym, ap, subst, ◌∙◌, append-nil, arith, ◌⊎◌, inl, inr}
-use Rattle.std.specs.Prelude.{All, ◌==◌, nat_lt, not, if◌then◌else◌}
-use Rattle.std.specs.List.{filter_map}
-use Rattle.std.proofs.lemmas.Bool.{and_parts, eq-eqb, ltb-false, ltb-true}
-use Rattle.mp_task.specs.AgentTask.{AgentTask}
-use Rattle.mp_messages.specs.declared.history.Event.TheVariants.{Start}
-use Rattle.mp_messages.specs.declared.message.Message.TheVariants.{Marker}
-use Rattle.mp_snapshot.specs.Notes.{Notes}
-use Rattle.mp_snapshot.specs.Rules.{begun, is_complete, is_under_way, is_whole}
-use Rattle.mp_machine.specs.AgentRecord.{AgentRecord, is_going}
-use Rattle.mp_machine.specs.LocalStep.{may_start}
-use Rattle.mp_machine.specs.Outgoing.{Step, others, to_others}
-use Rattle.mp_machine.specs.Snapshots.{findings, judged, started, with_notes}
+use Rattle.mp_world.proofs.Basics.{◌≡◌, ◌≢◌, ℕ, ◌+◌, ◌≤◌, ◌<◌, ◌^◌, Bool, true, false, ◌&&◌, List, [], ◌∷◌, ◌++◌, length, refl, sym, ap, subst, ◌∙◌, append-nil, arith, ◌⊎◌, inl, inr, All, ◌==◌, nat_lt, not, if◌then◌else◌, filter_map, and_parts, eq-eqb, ltb-false}
+use Rattle.mp_world.proofs.Basics.{ltb-true}
+use Rattle.mp_world.specs.AgentWords.{AgentTask, Start, Marker, Notes, begun, is_complete, is_under_way, is_whole, AgentRecord, is_going, may_start, Step, others, to_others, findings, judged, started, with_notes}
 use Rattle.mp_world.specs.Steps.{IsStepOf}
 use Rattle.mp_world.specs.Values.{Values}
 use Rattle.mp_world.specs.World.{IsTeamWorld, World}

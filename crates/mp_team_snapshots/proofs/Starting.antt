@@ -1,15 +1,12 @@
 -- Agent 1 starts a snapshot, once all have reported on the last one or there was none, and sends a marker to all others.
-use Rattle.std.proofs.Common.{◌≡◌, ◌≢◌, ℕ, ◌+◌, ◌-◌, ◌≤◌, ◌<◌, Bool, true, false, ◌&&◌, List, [], ◌∷◌, ◌++◌, length, replicate, take, refl, sym, ap, subst, ◌∙◌, arith, ◌⊎◌, inl, inr}
-use Rattle.std.specs.Prelude.{nat_lt, slice_set}
-use Rattle.std.specs.List.{list_all}
-use Rattle.std.proofs.lemmas.Bool.{and_from, and_left, and_parts, and_right, lt-ltb}
-use Rattle.std.proofs.lemmas.List.{length-replicate, length-set}
-use Rattle.mp_messages.specs.declared.message.Findings.{Findings}
-use Rattle.mp_snapshot.specs.Rules.{all_of, begun, has, is_complete, is_whole, noted, nothing, own}
+use Rattle.mp_world.proofs.Basics.{◌≡◌, ◌≢◌, ℕ, ◌+◌, ◌-◌, ◌≤◌, ◌<◌, Bool, true, false, ◌&&◌, List, [], ◌∷◌, ◌++◌, length, replicate, take, refl, sym, ap, subst, ◌∙◌, arith, ◌⊎◌, inl, inr, nat_lt, slice_set, list_all, and_from, and_left, and_parts, and_right, lt-ltb}
+use Rattle.mp_world.proofs.Basics.{length-replicate, length-set}
+use Rattle.mp_snapshot.specs.Rules.{all_of}
+use Rattle.mp_world.specs.AgentWords.{Findings, begun, has, is_complete, is_whole, noted, nothing, own}
 use Rattle.mp_team_snapshots.specs.Snapshots.{AreNotesOf}
 use Rattle.mp_team_snapshots.proofs.Beginning.{own_begun}
 use Rattle.mp_team_snapshots.proofs.Due.{apart_bools, begun_in, begun_is, begun_number, due_marker, due_report, no_marker_begun, no_marker_taken, no_report_done, no_report_here, none_begun, not_begun, one_marker}
-use Rattle.mp_team_snapshots.proofs.Places.{all_has, has_nobody, has_set_other, has_set_same, whole_has}
+use Rattle.mp_team_snapshots.proofs.NotePlaces.{all_has, has_nobody, has_set_other, has_set_same, whole_has}
 use Rattle.mp_team_snapshots.proofs.Protocol.{Follows, HasFound, IsOf, Sound, View, each, first_of}
 
 -- ---- the last snapshot is over

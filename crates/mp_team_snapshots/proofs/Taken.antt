@@ -1,21 +1,7 @@
 -- What an agent of a world does at an event, as far as snapshots go.
-use Rattle.std.proofs.Common.{◌≡◌, ◌≢◌, ℕ, ◌+◌, ◌<◌, ◌^◌, true, List, ◌∷◌, length, Some, refl, sym, ap, subst}
-use Rattle.std.proofs.Common.{◌∙◌, arith, ◌⊎◌, inl, inr}
-use Rattle.std.specs.List.{filter_map}
-use Rattle.std.proofs.lemmas.Bool.{leb-true}
-use Rattle.std.proofs.lemmas.List.Elements.{All-contains}
-use Rattle.mp_task.specs.AgentTask.{AgentTask}
-use Rattle.mp_messages.specs.declared.history.Event.{Event}
-use Rattle.mp_messages.specs.declared.history.Event.TheVariants.{Expand, Take, Start}
-use Rattle.mp_messages.specs.declared.message.Message.TheVariants.{Marker}
-use Rattle.mp_messages.specs.Reading.{message_of}
-use Rattle.mp_messages.specs.Spelling.{spelling}
-use Rattle.mp_search.specs.Expansion.{expanded}
-use Rattle.mp_snapshot.specs.Rules.{begun, has}
-use Rattle.mp_machine.specs.AgentRecord.{AgentRecord}
-use Rattle.mp_machine.specs.LocalStep.{with_search}
-use Rattle.mp_machine.specs.Outgoing.{others}
-use Rattle.mp_machine.specs.Snapshots.{findings, started}
+use Rattle.mp_world.proofs.Basics.{◌≡◌, ◌≢◌, ℕ, ◌+◌, ◌<◌, ◌^◌, true, List, ◌∷◌, length, Some, refl, sym, ap, subst, ◌∙◌, arith, ◌⊎◌, inl, inr, filter_map, leb-true, All-contains}
+use Rattle.mp_world.specs.AgentWords.{AgentTask, Event, Expand, Take, Start, Marker, message_of, spelling, begun, has, AgentRecord, with_search, others, findings, started}
+use Rattle.mp_world.specs.SearchWords.{expanded}
 use Rattle.mp_world.specs.Events.{agent_of, taken}
 use Rattle.mp_world.specs.Steps.{IsStepOf}
 use Rattle.mp_world.specs.Values.{Values}

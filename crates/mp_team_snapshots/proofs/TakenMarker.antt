@@ -1,15 +1,6 @@
 -- A marker is taken in a world.
-use Rattle.std.proofs.Common.{◌≡◌, ◌≢◌, ℕ, ◌+◌, ◌≤◌, List, [], ◌∷◌, ◌++◌, length, Some, refl, sym, ap, subst, ◌∙◌, ◌⊎◌, inr}
-use Rattle.std.specs.List.{filter_map}
-use Rattle.mp_task.specs.AgentTask.{AgentTask}
-use Rattle.mp_messages.specs.declared.history.Event.TheVariants.{Take}
-use Rattle.mp_messages.specs.declared.message.Findings.{Findings}
-use Rattle.mp_messages.specs.declared.message.Message.{Message}
-use Rattle.mp_messages.specs.declared.message.Message.TheVariants.{Marker}
-use Rattle.mp_messages.specs.Reading.{message_of}
-use Rattle.mp_snapshot.specs.Rules.{begun, is_whole, own, with_marker}
-use Rattle.mp_machine.specs.Outgoing.{to_others}
-use Rattle.mp_machine.specs.Snapshots.{findings}
+use Rattle.mp_world.proofs.Basics.{◌≡◌, ◌≢◌, ℕ, ◌+◌, ◌≤◌, List, [], ◌∷◌, ◌++◌, length, Some, refl, sym, ap, subst, ◌∙◌, ◌⊎◌, inr, filter_map}
+use Rattle.mp_world.specs.AgentWords.{AgentTask, Take, Findings, Message, Marker, message_of, begun, is_whole, own, with_marker, to_others, findings}
 use Rattle.mp_world.specs.Events.{taken}
 use Rattle.mp_world.specs.Steps.{IsStepOf}
 use Rattle.mp_world.specs.Values.{Values}

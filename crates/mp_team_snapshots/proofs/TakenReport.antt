@@ -1,13 +1,6 @@
 -- A report is taken in a world.
-use Rattle.std.proofs.Common.{◌≡◌, ◌≢◌, ℕ, List, ◌∷◌, length, Some, refl, sym, ap, subst, ◌∙◌, inl}
-use Rattle.std.specs.List.{filter_map}
-use Rattle.mp_task.specs.AgentTask.{AgentTask}
-use Rattle.mp_messages.specs.declared.history.Event.TheVariants.{Take}
-use Rattle.mp_messages.specs.declared.message.Findings.{Findings}
-use Rattle.mp_messages.specs.declared.message.Message.{Message}
-use Rattle.mp_messages.specs.declared.message.Message.TheVariants.{Report}
-use Rattle.mp_messages.specs.Reading.{message_of}
-use Rattle.mp_snapshot.specs.Rules.{after_report}
+use Rattle.mp_world.proofs.Basics.{◌≡◌, ◌≢◌, ℕ, List, ◌∷◌, length, Some, refl, sym, ap, subst, ◌∙◌, inl, filter_map}
+use Rattle.mp_world.specs.AgentWords.{AgentTask, Take, Findings, Message, Report, message_of, after_report}
 use Rattle.mp_world.specs.Events.{taken}
 use Rattle.mp_world.specs.Steps.{IsStepOf}
 use Rattle.mp_world.specs.Values.{Values}

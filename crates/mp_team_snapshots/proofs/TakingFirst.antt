@@ -1,12 +1,6 @@
 -- The message that an agent takes is the oldest one from its sender; all others are left.
-use Rattle.std.proofs.Common.{◌≡◌, ◌≢◌, ℕ, true, List, [], ◌∷◌, length, drop, Option, Some, None, refl, sym, ap, subst, ◌∙◌, ◌⊎◌, inl, inr}
-use Rattle.std.specs.Prelude.{◌==◌, not, slice_index_or}
-use Rattle.std.specs.List.{filter_map}
-use Rattle.std.proofs.lemmas.List.Elements.{All-contains}
-use Rattle.mp_task.specs.AgentTask.{AgentTask}
-use Rattle.mp_messages.specs.declared.history.Event.TheVariants.{Take}
-use Rattle.mp_messages.specs.declared.message.Message.{Message}
-use Rattle.mp_messages.specs.Reading.{message_of}
+use Rattle.mp_world.proofs.Basics.{◌≡◌, ◌≢◌, ℕ, true, List, [], ◌∷◌, length, drop, Option, Some, None, refl, sym, ap, subst, ◌∙◌, ◌⊎◌, inl, inr, ◌==◌, not, slice_index_or, filter_map, All-contains}
+use Rattle.mp_world.specs.AgentWords.{AgentTask, Take, Message, message_of}
 use Rattle.mp_world.specs.Events.{taken}
 use Rattle.mp_world.specs.Steps.{IsStepOf}
 use Rattle.mp_world.specs.Values.{Values}

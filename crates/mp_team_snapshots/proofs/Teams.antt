@@ -1,14 +1,9 @@
 -- The laws for tasks that agree and are within the limits, of which there may be none.
-use Rattle.std.proofs.Common.{◌≡◌, ℕ, zero, suc, ◌≤◌, Bool, true, false, List, [], ◌∷◌, Some, refl, sym}
-use Rattle.std.proofs.Common.{ap, subst, ◌∙◌, ◌⊎◌, inl, inr}
-use Rattle.std.proofs.lemmas.Option.{none-some, same_Some}
+use Rattle.mp_world.proofs.Basics.{◌≡◌, ℕ, zero, suc, ◌≤◌, Bool, true, false, List, [], ◌∷◌, Some, refl, sym, ap, subst, ◌∙◌, ◌⊎◌, inl, inr, none-some, same_Some}
 use Rattle.mp_list.proofs.Members.{contains_head}
 use Rattle.mp_runs.specs.Run.{run as run_of}
 use Rattle.mp_runs.proofs.Runs.{run-none, run_parts}
-use Rattle.mp_task.specs.AgentTask.{AgentTask}
-use Rattle.mp_messages.specs.declared.history.Event.{Event}
-use Rattle.mp_snapshot.specs.declared.verdict.Verdict.{Verdict}
-use Rattle.mp_machine.specs.AgentRecord.{AgentRecord, given_verdict}
+use Rattle.mp_world.specs.AgentWords.{AgentTask, Event, Verdict, AgentRecord, given_verdict}
 use Rattle.mp_world.specs.Events.{after_event, agent_of, run}
 use Rattle.mp_world.specs.Team.{AreTeamTasks, Team, team_with}
 use Rattle.mp_world.specs.Values.{Values}

@@ -1,11 +1,6 @@
 -- What is so of snapshots in a world, over its notes and messages alone, and back.
-use Rattle.std.proofs.Common.{◌≡◌, ◌≢◌, ℕ, ◌≤◌, true, ◌&&◌, List, length, Some, sym, ap, subst, ◌∙◌, arith}
-use Rattle.std.specs.Prelude.{nat_lt}
-use Rattle.std.specs.Option.{option_map_or}
-use Rattle.mp_task.specs.AgentTask.{AgentTask}
-use Rattle.mp_snapshot.specs.Notes.{Notes}
-use Rattle.mp_snapshot.specs.Rules.{before_all, has, is_whole, own}
-use Rattle.mp_machine.specs.AgentRecord.{AgentRecord}
+use Rattle.mp_world.proofs.Basics.{◌≡◌, ◌≢◌, ℕ, ◌≤◌, true, ◌&&◌, List, length, Some, sym, ap, subst, ◌∙◌, arith, nat_lt, option_map_or}
+use Rattle.mp_world.specs.AgentWords.{AgentTask, Notes, before_all, has, is_whole, own, AgentRecord}
 use Rattle.mp_world.specs.World.{IsAgent, IsTeamWorld, World, agent_at}
 use Rattle.mp_world.proofs.Agents.{agent_there, member_of}
 use Rattle.mp_world.proofs.Mail.{agent_of_team}

@@ -1,17 +1,7 @@
 -- Which entries own actions add, by their costs and estimates.
-use Rattle.std.proofs.Common.{◌≡◌, ℕ, ◌+◌, ◌⊎◌, List, map, Option, Some, refl, sym, subst, ◌∙◌, inl, inr}
-use Rattle.std.specs.Prelude.{slice_get}
-use Rattle.mp_sets.specs.Numbers.{Numbers}
-use Rattle.mp_task.specs.declared.act.Act.{Act}
-use Rattle.mp_task.specs.AgentTask.{AgentTask}
-use Rattle.mp_store.specs.declared.entry.Entry.{Entry}
-use Rattle.mp_store.specs.declared.entry.Mark.TheVariants.{Replaced}
-use Rattle.mp_store.specs.declared.entry.Origin.{Origin}
-use Rattle.mp_store.specs.declared.entry.Origin.TheVariants.{Own}
-use Rattle.mp_store.specs.Record.{Record, gives_way, kept}
-use Rattle.mp_search.specs.AgentState.{AgentState, same_state, successor}
-use Rattle.mp_search.specs.Expansion.{Parent, with_actions}
-use Rattle.mp_search.specs.Offering.{offered_at, own_value}
+use Rattle.mp_world.proofs.Basics.{◌≡◌, ℕ, ◌+◌, ◌⊎◌, List, map, Option, Some, refl, sym, subst, ◌∙◌, inl, inr, slice_get}
+use Rattle.mp_world.specs.AgentWords.{Act, AgentTask}
+use Rattle.mp_world.specs.SearchWords.{Numbers, Entry, Replaced, Origin, Own, Record, gives_way, kept, AgentState, same_state, successor, Parent, with_actions, offered_at, own_value}
 use Rattle.mp_team_states.proofs.Continuing.{gave_way}
 use Rattle.mp_team_states.proofs.Keeping.{IsKeepable, KeepingCases, actions_hold, offered_holds}
 use Rattle.mp_team_states.proofs.Members.{pushed_back}

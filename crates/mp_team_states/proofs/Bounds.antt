@@ -1,22 +1,10 @@
 -- Estimates stay bounds of what is still to be paid, in whichever agent's search, and goals stay flagged.
-use Rattle.std.proofs.Common.{◌≡◌, ℕ, ◌⊎◌, List, [], Option, Some, refl, sym, ap, subst, ◌∙◌, inl, inr}
-use Rattle.std.specs.Prelude.{Contains, slice_get}
-use Rattle.std.proofs.lemmas.Bool.{cases_eq}
-use Rattle.std.proofs.lemmas.Option.{none-some, same_Some}
-use Rattle.mp_sets.specs.Numbers.{Numbers}
-use Rattle.mp_task.specs.AgentTask.{AgentTask}
-use Rattle.mp_task.specs.Plan.{JointState}
-use Rattle.mp_messages.specs.declared.history.Event.{Event}
-use Rattle.mp_store.specs.declared.entry.Entry.{Entry}
-use Rattle.mp_store.specs.declared.entry.Origin.TheVariants.{Root}
-use Rattle.mp_store.specs.Record.{empty}
-use Rattle.mp_search.specs.AgentState.{AgentState, start_state}
-use Rattle.mp_search.specs.Offering.{own_value, start_record}
-use Rattle.mp_search.specs.Receipt.{state_of}
-use Rattle.mp_machine.specs.AgentRecord.{AgentRecord}
+use Rattle.mp_world.proofs.Basics.{◌≡◌, ℕ, ◌⊎◌, List, [], Option, Some, refl, sym, ap, subst, ◌∙◌, inl, inr, Contains, slice_get, cases_eq, none-some, same_Some}
 use Rattle.mp_reach.specs.Found.{Entry as Seen, Message as Sent}
 use Rattle.mp_reach.specs.LeadsOn.{IsTeamBoundFor, Known}
 use Rattle.mp_reach.specs.Explored.{IsAt}
+use Rattle.mp_world.specs.AgentWords.{AgentTask, JointState, Event, AgentRecord}
+use Rattle.mp_world.specs.SearchWords.{Numbers, Entry, Root, empty, AgentState, start_state, own_value, start_record, state_of}
 use Rattle.mp_world.specs.Events.{agent_of}
 use Rattle.mp_world.specs.Joint.{joint, joint_told}
 use Rattle.mp_world.specs.Steps.{IsStepOf}
@@ -30,7 +18,7 @@ use Rattle.mp_team_states.proofs.Entries.{IsNew, IsOld, changes_entry}
 use Rattle.mp_team_states.proofs.Expanding.{IsFirst, start_changes}
 use Rattle.mp_team_states.proofs.GoodStates.{receiver_knows, what_is_read}
 use Rattle.mp_team_states.proofs.NewEntries.{Comes, entry_comes}
-use Rattle.mp_team_states.proofs.Reached.{HasIt, entry_in, has_it}
+use Rattle.mp_team_states.proofs.ReachedEntries.{HasIt, entry_in, has_it}
 use Rattle.mp_team_states.proofs.StartReached.{task_is}
 use Rattle.mp_team_states.proofs.StepsSound.{task_at}
 use Rattle.mp_team_states.specs.Estimates.{AreEstimatesBoundsFor}

@@ -1,21 +1,11 @@
 -- What a search does is one change after another: an entry is closed, kept or sent.
-use Rattle.std.proofs.Common.{◌≡◌, ℕ, zero, suc, get_or, ◌<◌, ◌^◌, Bool, true, false, cond, ◌&&◌, List, [], ◌∷◌, ◌++◌, length, map, All, refl, subst, arith, Option, Some, None}
-use Rattle.std.specs.Prelude.{Contains, slice_get, slice_set}
-use Rattle.std.specs.Option.{option_map_or}
-use Rattle.std.proofs.lemmas.List.Elements.{All-map, All-push, All-set, All-weaker}
-use Rattle.std.proofs.lemmas.Option.{get_or_from_slice_get, slice_get_within}
+use Rattle.mp_world.proofs.Basics.{◌≡◌, ℕ, zero, suc, get_or, ◌<◌, ◌^◌, Bool, true, false, cond, ◌&&◌, List, [], ◌∷◌, ◌++◌, length, map, All, refl, subst, arith, Option, Some, None, Contains, slice_get, slice_set, option_map_or, All-map, All-push, All-set}
+use Rattle.mp_world.proofs.Basics.{All-weaker, get_or_from_slice_get, slice_get_within}
 use Rattle.mp_list.proofs.Members.{no_member}
-use Rattle.mp_task.specs.AgentTask.{AgentTask}
-use Rattle.mp_store.specs.declared.entry.Entry.{Entry}
-use Rattle.mp_store.specs.declared.entry.Mark.{Mark}
-use Rattle.mp_store.specs.declared.entry.Mark.TheVariants.{Expanded, Open, Replaced}
-use Rattle.mp_store.specs.Laws.{IsEarlier, IsSound}
-use Rattle.mp_store.specs.Minima.{closed}
-use Rattle.mp_store.specs.Record.{Record, f, gives_way, is_known, is_open, kept}
 use Rattle.mp_store.proofs.Sound.{closed_sound, kept_sound, sent_sound}
-use Rattle.mp_search.specs.declared.answer.Sending.{Sending}
-use Rattle.mp_search.specs.AgentState.{AgentState, same_state}
 use Rattle.mp_search.specs.Sending.{message_of}
+use Rattle.mp_world.specs.AgentWords.{AgentTask}
+use Rattle.mp_world.specs.SearchWords.{Entry, Mark, Expanded, Open, Replaced, IsEarlier, IsSound, closed, Record, f, gives_way, is_known, is_open, kept, Sending, AgentState, same_state}
 use Rattle.mp_team_states.specs.Growing.{HasGrown}
 use Rattle.mp_team_states.specs.Sent.{IsSentIn}
 use Rattle.mp_team_states.proofs.Growth.{grown_closed, grown_kept, grown_not, grown_sent, grown_then, sent_stays}

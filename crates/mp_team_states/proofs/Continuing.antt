@@ -1,28 +1,11 @@
 -- What own actions and receipts do to what an agent keeps and sent, one after another.
-use Rattle.std.proofs.Common.{◌≡◌, ℕ, ◌+◌, ◌⊎◌, Bool, true, false, cond, ◌&&◌, List, [], ◌∷◌, ◌++◌, length, map, Option, Some, None, refl, sym, ap, subst, ◌∙◌, inl, inr}
-use Rattle.std.specs.Prelude.{Contains, option_map, slice_get}
-use Rattle.std.proofs.lemmas.Bool.{and_right}
-use Rattle.std.proofs.lemmas.List.Elements.{Contains-append_left, Contains-append_right}
-use Rattle.std.proofs.lemmas.Option.{none-some, same_Some, slice_get-map}
+use Rattle.mp_world.proofs.Basics.{◌≡◌, ℕ, ◌+◌, ◌⊎◌, Bool, true, false, cond, ◌&&◌, List, [], ◌∷◌, ◌++◌, length, map, Option, Some, None, refl, sym, ap, subst, ◌∙◌, inl, inr, Contains, option_map, slice_get, and_right, Contains-append_left, Contains-append_right}
+use Rattle.mp_world.proofs.Basics.{none-some, same_Some, slice_get-map}
 use Rattle.mp_list.proofs.Members.{contains_head}
-use Rattle.mp_task.specs.AgentTask.{AgentTask}
-use Rattle.mp_store.specs.declared.entry.Entry.{Entry}
-use Rattle.mp_store.specs.declared.entry.Mark.TheVariants.{Open, Expanded, Replaced}
-use Rattle.mp_store.specs.declared.entry.Origin.{Origin}
-use Rattle.mp_store.specs.Record.{Record, gives_way, is_open, kept}
-use Rattle.mp_search.specs.declared.answer.Sending.{Sending}
-use Rattle.mp_search.specs.AgentState.{AgentState, is_goal_state, same_state}
-use Rattle.mp_search.specs.Concern.{receivers}
-use Rattle.mp_search.specs.Offering.{offered_at}
 use Rattle.mp_search.specs.Sending.{message_of}
+use Rattle.mp_world.specs.AgentWords.{AgentTask, Act}
+use Rattle.mp_world.specs.SearchWords.{Entry, Open, Expanded, Replaced, Origin, Record, gives_way, is_open, kept, Sending, AgentState, is_goal_state, same_state, receivers, offered_at, Numbers, Own, successor, Parent, with_actions, own_value, sent_if_due}
 use Rattle.mp_team_states.specs.Growing.{HasGrown}
-use Rattle.mp_sets.specs.Numbers.{Numbers}
-use Rattle.mp_task.specs.declared.act.Act.{Act}
-use Rattle.mp_store.specs.declared.entry.Origin.TheVariants.{Own}
-use Rattle.mp_search.specs.AgentState.{successor}
-use Rattle.mp_search.specs.Expansion.{Parent, with_actions}
-use Rattle.mp_search.specs.Offering.{own_value}
-use Rattle.mp_search.specs.Sending.{sent_if_due}
 use Rattle.mp_team_states.proofs.Changes.{sending, with_number}
 use Rattle.mp_team_states.proofs.Keeping.{IsKeepable, KeepingCases, actions_hold, due_holds, offered_holds}
 use Rattle.mp_team_states.proofs.Growth.{grown_kept, grown_not, grown_sent, grown_then, stays_at}

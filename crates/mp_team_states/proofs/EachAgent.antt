@@ -1,9 +1,6 @@
 -- What holds of each agent after an event: it holds of the event's agent, and all others are as they were.
-use Rattle.std.proofs.Common.{◌≡◌, ◌≢◌, ℕ, ◌⊎◌, Some, sym, ap, subst, ◌∙◌, inl, inr}
-use Rattle.std.proofs.lemmas.Bool.{cases_eq}
-use Rattle.std.proofs.lemmas.Option.{same_Some}
-use Rattle.mp_messages.specs.declared.history.Event.{Event}
-use Rattle.mp_machine.specs.AgentRecord.{AgentRecord}
+use Rattle.mp_world.proofs.Basics.{◌≡◌, ◌≢◌, ℕ, ◌⊎◌, Some, sym, ap, subst, ◌∙◌, inl, inr, cases_eq, same_Some}
+use Rattle.mp_world.specs.AgentWords.{Event, AgentRecord}
 use Rattle.mp_world.specs.Events.{agent_of}
 use Rattle.mp_world.specs.Steps.{IsStepOf}
 use Rattle.mp_world.specs.Values.{Values}

@@ -1,17 +1,8 @@
 -- Each entry after changes was there before, or came in one of them.
-use Rattle.std.proofs.Common.{◌≡◌, ℕ, zero, suc, ◌⊎◌, List, [], ◌∷◌, ◌++◌, length, map, Option, Some, None, refl, sym, ap, ◌∙◌, subst, inl, inr}
-use Rattle.std.specs.Prelude.{slice_get, slice_set}
-use Rattle.std.specs.Option.{option_map_or}
-use Rattle.std.proofs.lemmas.List.{length-map}
-use Rattle.std.proofs.lemmas.Option.{none-some, same_Some}
-use Rattle.mp_task.specs.AgentTask.{AgentTask}
-use Rattle.mp_store.specs.declared.entry.Entry.{Entry}
-use Rattle.mp_store.specs.declared.entry.Mark.TheVariants.{Expanded}
-use Rattle.mp_store.specs.Minima.{closed}
-use Rattle.mp_store.specs.Record.{Record, gives_way, kept}
+use Rattle.mp_world.proofs.Basics.{◌≡◌, ℕ, zero, suc, ◌⊎◌, List, [], ◌∷◌, ◌++◌, length, map, Option, Some, None, refl, sym, ap, ◌∙◌, subst, inl, inr, slice_get, slice_set, option_map_or, length-map, none-some, same_Some}
 use Rattle.mp_store.proofs.Marks.{SameButMarks, closing_marks, giving_way_marks, turned}
-use Rattle.mp_search.specs.declared.answer.Sending.{Sending}
-use Rattle.mp_search.specs.AgentState.{AgentState, same_state}
+use Rattle.mp_world.specs.AgentWords.{AgentTask}
+use Rattle.mp_world.specs.SearchWords.{Entry, Expanded, closed, Record, gives_way, kept, Sending, AgentState, same_state}
 use Rattle.mp_team_states.specs.Growing.{HasGrown, IsAlike}
 use Rattle.mp_team_states.proofs.Changes.{Changes, changes_grow, with_number}
 use Rattle.mp_team_states.proofs.Changes.Changes.{nothing, closes, keeps, sends}

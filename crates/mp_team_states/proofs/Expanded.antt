@@ -1,26 +1,9 @@
 -- What an expansion and a receipt do to what an agent keeps and sent.
-use Rattle.std.proofs.Common.{◌≡◌, ℕ, zero, suc, ◌+◌, ◌<◌, ◌^◌, ◌⊎◌, Bool, true, false, cond, List, [], ◌∷◌, Option, Some, None, refl, sym, ap, subst, ◌∙◌, inl, inr}
-use Rattle.std.specs.Prelude.{Contains, slice_get, slice_set}
-use Rattle.std.specs.Option.{option_map_or}
-use Rattle.std.proofs.lemmas.Bool.{cases_eq, false≢true}
-use Rattle.std.proofs.lemmas.Option.{none-some, same_Some}
+use Rattle.mp_world.proofs.Basics.{◌≡◌, ℕ, zero, suc, ◌+◌, ◌<◌, ◌^◌, ◌⊎◌, Bool, true, false, cond, List, [], ◌∷◌, Option, Some, None, refl, sym, ap, subst, ◌∙◌, inl, inr, Contains, slice_get, slice_set, option_map_or, cases_eq, false≢true, none-some, same_Some}
 use Rattle.mp_list.proofs.Members.{contains_head, contains_tail}
-use Rattle.mp_sets.specs.Numbers.{Numbers}
-use Rattle.mp_task.specs.declared.act.Act.{Act}
-use Rattle.mp_task.specs.AgentTask.{AgentTask}
-use Rattle.mp_messages.specs.declared.message.State.{State}
-use Rattle.mp_store.specs.declared.entry.Entry.{Entry}
-use Rattle.mp_store.specs.declared.entry.Mark.TheVariants.{Expanded}
-use Rattle.mp_store.specs.declared.entry.Origin.TheVariants.{Own, From}
-use Rattle.mp_store.specs.Minima.{closed, least_open}
-use Rattle.mp_store.specs.Record.{Record}
-use Rattle.mp_search.specs.declared.answer.Sending.{Sending}
-use Rattle.mp_search.specs.AgentState.{AgentState, applies, is_goal_state, successor}
-use Rattle.mp_search.specs.Expansion.{Parent, expanded, expanded_entry, with_action, with_actions, with_successor}
-use Rattle.mp_search.specs.Offering.{offered_at, own_value}
-use Rattle.mp_search.specs.Receipt.{greater_value, received, state_of}
-use Rattle.mp_search.specs.Search.{SearchRecord}
-use Rattle.mp_search.specs.Sending.{is_due, sent_best, sent_if_due}
+use Rattle.mp_world.specs.AgentWords.{Act, AgentTask, State}
+use Rattle.mp_world.specs.SearchWords.{Numbers, Entry, Expanded, Own, From, closed, least_open, Record, Sending, AgentState, applies, is_goal_state, successor, Parent, expanded, expanded_entry, with_action, with_actions, with_successor, offered_at, own_value}
+use Rattle.mp_world.specs.SearchWords.{greater_value, received, state_of, SearchRecord, is_due, sent_best, sent_if_due}
 use Rattle.mp_team_states.specs.Growing.{HasGrown}
 use Rattle.mp_team_states.proofs.Growth.{grown_closed, grown_then}
 use Rattle.mp_team_states.proofs.Continuing.{Continues, GoesOut, HaveFlags, WasExpanded, actions_continue, continues_same, due_continues, offered_continues}

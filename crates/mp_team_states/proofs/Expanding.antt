@@ -1,25 +1,8 @@
 -- Expansions, receipts and starts as changes of a search.
-use Rattle.std.proofs.Common.{◌≡◌, ◌⊎◌, inl, inr, ℕ, ◌+◌, true, List, [], length, Option, Some, None, refl, sym, ap, subst, ◌∙◌, arith}
-use Rattle.std.specs.Prelude.{slice_get}
-use Rattle.std.specs.Option.{option_map_or}
-use Rattle.std.proofs.lemmas.Option.{slice_get_within}
-use Rattle.mp_sets.specs.Numbers.{Numbers}
-use Rattle.mp_task.specs.declared.act.Act.{Act}
-use Rattle.mp_task.specs.AgentTask.{AgentTask}
-use Rattle.mp_messages.specs.declared.message.State.{State}
-use Rattle.mp_store.specs.declared.entry.Entry.{Entry}
-use Rattle.mp_store.specs.declared.entry.Origin.{Origin}
-use Rattle.mp_store.specs.declared.entry.Origin.TheVariants.{Root, Own, From}
-use Rattle.mp_store.specs.Laws.{IsEarlier}
-use Rattle.mp_store.specs.Minima.{closed, least_open}
-use Rattle.mp_store.specs.Record.{Record, empty, kept}
-use Rattle.mp_search.specs.declared.answer.Sending.{Sending}
-use Rattle.mp_search.specs.AgentState.{AgentState, applies, same_state, start_state, successor}
-use Rattle.mp_search.specs.Concern.{receivers}
-use Rattle.mp_search.specs.Expansion.{Parent, expanded, expanded_entry, with_actions}
-use Rattle.mp_search.specs.Offering.{offered_at, own_value, start_record}
-use Rattle.mp_search.specs.Receipt.{greater_value, received, state_of}
-use Rattle.mp_search.specs.Search.{SearchRecord}
+use Rattle.mp_world.proofs.Basics.{◌≡◌, ◌⊎◌, inl, inr, ℕ, ◌+◌, true, List, [], length, Option, Some, None, refl, sym, ap, subst, ◌∙◌, arith, slice_get, option_map_or, slice_get_within}
+use Rattle.mp_world.specs.AgentWords.{Act, AgentTask, State}
+use Rattle.mp_world.specs.SearchWords.{Numbers, Entry, Origin, Root, Own, From, IsEarlier, closed, least_open, Record, empty, kept, Sending, AgentState, applies, same_state, start_state, successor, receivers, Parent, expanded, expanded_entry, with_actions, offered_at}
+use Rattle.mp_world.specs.SearchWords.{own_value, start_record, greater_value, received, state_of, SearchRecord}
 use Rattle.mp_team_states.specs.Growing.{HasGrown}
 use Rattle.mp_team_states.proofs.Growth.{grown_closed}
 use Rattle.mp_team_states.proofs.Keeping.{actions_hold, offered_holds}

@@ -1,30 +1,15 @@
 -- What the agents have found is explored at the start, and stays so at each event.
-use Rattle.std.proofs.Common.{◌≡◌, ℕ, ◌+◌, ◌-◌, ◌<◌, ◌^◌, ◌⊎◌, List, [], get_or, map, Option, Some, None, sym, ap, subst, ◌∙◌, arith, inl, inr}
-use Rattle.std.specs.Prelude.{Contains, slice_get}
+use Rattle.mp_world.proofs.Basics.{◌≡◌, ℕ, ◌+◌, ◌-◌, ◌<◌, ◌^◌, ◌⊎◌, List, [], get_or, map, Option, Some, None, sym, ap, subst, ◌∙◌, arith, inl, inr, Contains, slice_get, cases_eq, get_or-map, none-some, same_Some}
 use Rattle.std.specs.FinSet as set
-use Rattle.std.proofs.lemmas.Bool.{cases_eq}
-use Rattle.std.proofs.lemmas.List.{get_or-map}
-use Rattle.std.proofs.lemmas.Option.{none-some, same_Some}
 use Rattle.mp_list.proofs.Members.{no_member}
-use Rattle.mp_runs.specs.System.{state_after}
 use Rattle.mp_runs.proofs.Runs.{run-none}
-use Rattle.mp_sets.specs.Numbers.{Numbers}
-use Rattle.mp_task.specs.AgentTask.{AgentTask}
-use Rattle.mp_task.specs.Plan.{JointState, after_step, joint_start, private_of, team_system}
 use Rattle.mp_task.proofs.Agreeing.{number_at, public_start-at}
 use Rattle.mp_task.proofs.JointStates.{start_is_joint}
-use Rattle.mp_messages.specs.declared.history.Event.{Event}
-use Rattle.mp_store.specs.declared.entry.Entry.{Entry}
-use Rattle.mp_store.specs.declared.entry.Mark.TheVariants.{Expanded}
-use Rattle.mp_store.specs.declared.entry.Origin.TheVariants.{Root}
-use Rattle.mp_store.specs.Record.{Record, empty}
-use Rattle.mp_search.specs.AgentState.{AgentState, start_state}
-use Rattle.mp_search.specs.Concern.{receivers}
-use Rattle.mp_search.specs.Offering.{own_value, start_record}
-use Rattle.mp_machine.specs.AgentRecord.{AgentRecord, new_record}
 use Rattle.mp_reach.specs.Explored.{HasEntry, HasLiveEntry, IsAt}
 use Rattle.mp_reach.specs.Found.{Entry as Seen, Message as Sent}
 use Rattle.mp_reach.specs.LeadsOn.{IsRoot, IsTeamExploredFor, IsTeamHopelessFor, Known, LeadsOn, TeamReachesFor}
+use Rattle.mp_world.specs.AgentWords.{state_after, AgentTask, JointState, after_step, joint_start, private_of, team_system, Event, AgentRecord, new_record}
+use Rattle.mp_world.specs.SearchWords.{Numbers, Entry, Expanded, Root, Record, empty, AgentState, start_state, receivers, own_value, start_record}
 use Rattle.mp_world.specs.Events.{agent_of}
 use Rattle.mp_world.specs.Joint.{joint}
 use Rattle.mp_world.specs.Steps.{IsStepOf}
@@ -35,7 +20,7 @@ use Rattle.mp_world.proofs.Agents.{task_there, agree_numbered}
 use Rattle.mp_team_states.specs.Paths.IsPath.{at_root}
 use Rattle.mp_team_states.specs.Room.{AreSmall}
 use Rattle.mp_team_states.specs.Sound.{AreStatesSound}
-use Rattle.mp_team_states.proofs.Reached.{entry_in, one_path}
+use Rattle.mp_team_states.proofs.ReachedEntries.{entry_in, one_path}
 use Rattle.mp_team_states.proofs.RoomLemmas.{small_value}
 use Rattle.mp_team_states.proofs.StartReached.{start_reaches, task_is}
 use Rattle.mp_team_states.specs.Estimates.{AreEstimatesBoundsFor}

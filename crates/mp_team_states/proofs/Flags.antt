@@ -1,26 +1,12 @@
 -- An entry's flag says whether all goals of the team are true in its joint state.
-use Rattle.std.proofs.Common.{◌≡◌, ◌≢◌, ℕ, ◌+◌, ◌-◌, ◌<◌, ◌⊎◌, Bool, true, false, ◌&&◌, ◌||◌, List, [], ◌∷◌, length, get_or, Some, refl, sym, ap, subst, ◌∙◌, arith, inl, inr}
-use Rattle.std.specs.Prelude.{Contains, ◌==◌}
-use Rattle.std.specs.List.{enumerate_from, list_all}
-use Rattle.std.proofs.lemmas.Bool.{and_from, and_parts, cases_eq, eq-eqb, false≢true, ne_eqb, or_left, or_right}
-use Rattle.std.proofs.lemmas.List.{get_or_default}
-use Rattle.std.proofs.lemmas.List.Elements.{All-contains}
-use Rattle.std.proofs.lemmas.List.FromFn.{get_or-enumerate_from, length-enumerate_from}
-use Rattle.std.proofs.lemmas.Option.{none-some, same_Some}
+use Rattle.mp_world.proofs.Basics.{◌≡◌, ◌≢◌, ℕ, ◌+◌, ◌-◌, ◌<◌, ◌⊎◌, Bool, true, false, ◌&&◌, ◌||◌, List, [], ◌∷◌, length, get_or, Some, refl, sym, ap, subst, ◌∙◌, arith, inl, inr, Contains, ◌==◌, enumerate_from, list_all, and_from, and_parts, cases_eq, eq-eqb}
+use Rattle.mp_world.proofs.Basics.{false≢true, ne_eqb, get_or_default, All-contains, get_or-enumerate_from, length-enumerate_from, none-some, same_Some}
+use Rattle.std.proofs.lemmas.Bool.{or_left, or_right}
 use Rattle.mp_list.proofs.Members.{all_at, contains_head, contains_tail}
-use Rattle.mp_sets.specs.declared.tag.Tag.{Tag}
-use Rattle.mp_sets.specs.Numbers.{holds}
-use Rattle.mp_task.specs.AgentTask.{AgentTask}
-use Rattle.mp_task.specs.Limits.{IsWithinLimits}
-use Rattle.mp_task.specs.Met.{is_met}
-use Rattle.mp_task.specs.Plan.{goals_hold, private_of}
 use Rattle.mp_task.proofs.Agreeing.{same_number}
-use Rattle.mp_messages.specs.declared.history.Event.{Event}
-use Rattle.mp_store.specs.declared.entry.Origin.TheVariants.{Root}
-use Rattle.mp_store.specs.Record.{empty}
-use Rattle.mp_search.specs.AgentState.{AgentState, is_goal_state, no_tag, others_are_met, start_state}
-use Rattle.mp_search.specs.Offering.{own_value}
-use Rattle.mp_machine.specs.AgentRecord.{AgentRecord}
+use Rattle.mp_search.specs.AgentState.{others_are_met}
+use Rattle.mp_world.specs.AgentWords.{AgentTask, IsWithinLimits, is_met, goals_hold, private_of, Event, AgentRecord}
+use Rattle.mp_world.specs.SearchWords.{Tag, holds, Root, empty, AgentState, is_goal_state, no_tag, start_state, own_value}
 use Rattle.mp_world.specs.Events.{agent_of}
 use Rattle.mp_world.specs.Joint.{joint}
 use Rattle.mp_world.specs.Steps.{IsStepOf}
@@ -30,7 +16,7 @@ use Rattle.mp_world.specs.World.{IsTeamWorld, World, agent_at, start_world}
 use Rattle.mp_world.proofs.Agents.{agree_numbered, task_there}
 use Rattle.mp_team_states.specs.Room.{AreSmall, HasSmallValues}
 use Rattle.mp_team_states.specs.Sound.{AreStatesSound, IsStateOf, tag_of}
-use Rattle.mp_team_states.proofs.Reached.{has_it}
+use Rattle.mp_team_states.proofs.ReachedEntries.{has_it}
 use Rattle.mp_team_states.proofs.StartReached.{task_is}
 use Rattle.mp_team_states.proofs.StepsSound.{limits_of}
 use Rattle.mp_team_states.specs.Estimates.{AreGoalsFlagged}

@@ -1,21 +1,13 @@
 -- What the agents have found, from what their records and the mail have, and back.
-use Rattle.std.proofs.Common.{◌≡◌, ℕ, zero, suc, List, Option, Some, None, refl, sym, ap, subst, ◌∙◌}
-use Rattle.std.specs.Prelude.{Contains, option_and_then, option_map, slice_get}
-use Rattle.std.proofs.lemmas.Option.{none-some, same_Some}
-use Rattle.mp_task.specs.AgentTask.{AgentTask}
+use Rattle.mp_world.proofs.Basics.{◌≡◌, ℕ, zero, suc, List, Option, Some, None, refl, sym, ap, subst, ◌∙◌, Contains, option_and_then, option_map, slice_get, none-some, same_Some}
 use Rattle.mp_task.proofs.Agreeing.{Contains-slice_get}
-use Rattle.mp_messages.specs.declared.message.Message.{Message}
 use Rattle.mp_messages.specs.declared.message.Message.TheVariants as kinds
-use Rattle.mp_messages.specs.declared.message.State.{State}
-use Rattle.mp_messages.specs.Reading.{message_of}
-use Rattle.mp_store.specs.declared.entry.Entry.{Entry}
 use Rattle.mp_store.specs.Sent.{sent_entries}
-use Rattle.mp_search.specs.AgentState.{AgentState}
-use Rattle.mp_search.specs.Concern.{receivers}
-use Rattle.mp_machine.specs.AgentRecord.{AgentRecord}
 use Rattle.mp_reach.specs.Explored.{IsAt}
 use Rattle.mp_reach.specs.Found.{Entry as Seen, Message as Sent}
 use Rattle.mp_reach.specs.LeadsOn.{Known}
+use Rattle.mp_world.specs.AgentWords.{AgentTask, Message, State, message_of, AgentRecord}
+use Rattle.mp_world.specs.SearchWords.{Entry, AgentState, receivers}
 use Rattle.mp_world.specs.World.{AreNumbered, IsTeamWorld, World, agent_at, under_way}
 use Rattle.mp_world.proofs.Agents.{member_of}
 use Rattle.mp_team_states.specs.TeamFound.{found_of, on_its_way, seen_entry, sent_by, sent_of, sent_to, state_in, state_read, states_between, states_from}

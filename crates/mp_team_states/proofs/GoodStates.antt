@@ -1,28 +1,12 @@
 -- What a receiver reads, and which joint states it knows then, in the world of a team.
-use Rattle.std.proofs.Common.{◌≡◌, ℕ, ◌+◌, ◌-◌, Bool, true, cond, List, get_or, Option, Some, refl, sym, ap, subst, ◌∙◌, arith}
-use Rattle.std.specs.Prelude.{Contains, IsSomeAnd, Ok, Err, not, slice_get, if◌then◌else◌}
+use Rattle.mp_world.proofs.Basics.{◌≡◌, ℕ, ◌+◌, ◌-◌, Bool, true, cond, List, get_or, Option, Some, refl, sym, ap, subst, ◌∙◌, arith, Contains, IsSomeAnd, Ok, Err, not, slice_get, if◌then◌else◌, enumerate_from, eq-eqb, length-map, length-enumerate_from, same_Some}
 use Rattle.std.specs.FinSet as set
-use Rattle.std.specs.List.{enumerate_from}
-use Rattle.std.proofs.lemmas.Bool.{eq-eqb}
-use Rattle.std.proofs.lemmas.List.{length-map}
-use Rattle.std.proofs.lemmas.List.FromFn.{length-enumerate_from}
-use Rattle.std.proofs.lemmas.Option.{same_Some}
-use Rattle.mp_sets.specs.Numbers.{Numbers}
-use Rattle.mp_task.specs.AgentTask.{AgentTask}
-use Rattle.mp_task.specs.Plan.{IsJointState, private_of, task_of}
+use Rattle.mp_task.specs.Plan.{IsJointState}
 use Rattle.mp_messages.specs.declared.message.Message.TheVariants as kinds
-use Rattle.mp_messages.specs.declared.message.State.{State}
-use Rattle.mp_messages.specs.Reading.{message_of}
-use Rattle.mp_messages.specs.Spelling.{spelling}
-use Rattle.mp_store.specs.declared.entry.Entry.{Entry}
-use Rattle.mp_search.specs.AgentState.{AgentState, no_tag}
-use Rattle.mp_search.specs.Receipt.{IsStateFor, is_byte_right, is_token_given, state_of}
 use Rattle.mp_search.specs.Sending.{message_of as message_of_entry}
-use Rattle.mp_machine.specs.declared.refusal.BadKind.TheVariants.{UnknownToken, WrongByte}
-use Rattle.mp_machine.specs.AgentRecord.{AgentRecord}
-use Rattle.mp_machine.specs.Outgoing.{without_messages}
-use Rattle.mp_machine.specs.Taking.{took, unless_bad, with_state}
 use Rattle.mp_machine.proofs.TakingLemmas.{took_spelled}
+use Rattle.mp_world.specs.AgentWords.{AgentTask, private_of, task_of, State, message_of, spelling, UnknownToken, WrongByte, AgentRecord, without_messages, took, unless_bad, with_state}
+use Rattle.mp_world.specs.SearchWords.{Numbers, Entry, AgentState, no_tag, IsStateFor, is_byte_right, is_token_given, state_of}
 use Rattle.mp_world.specs.Team.{AreTeamTasks}
 use Rattle.mp_world.specs.World.{IsTeamWorld, World, agent_at, under_way}
 use Rattle.mp_world.specs.Joint.{joint, joint_told, private_facts, told_by}

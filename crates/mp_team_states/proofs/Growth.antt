@@ -1,30 +1,17 @@
 -- What a search keeps and sent grows: what is there stays, and so do tokens and messages.
-use Rattle.std.proofs.Common.{◌≡◌, ℕ, zero, suc, ◌<◌, ◌⊎◌, false, List, [], ◌∷◌, ◌++◌, length, map, get_or, Option, Some, None, All, refl, sym, ap, subst, ◌∙◌, arith, inl, inr}
-use Rattle.std.specs.Prelude.{Contains, filter_map, option_map, slice_get, slice_set}
+use Rattle.mp_world.proofs.Basics.{◌≡◌, ℕ, zero, suc, ◌<◌, ◌⊎◌, false, List, [], ◌∷◌, ◌++◌, length, map, get_or, Option, Some, None, All, refl, sym, ap, subst, ◌∙◌, arith, inl, inr, Contains, filter_map, option_map, slice_get, slice_set, cons_option, option_map_or}
+use Rattle.mp_world.proofs.Basics.{append-nil, All-head, All-tail, filter_map-append, get_or_from_slice_get, none-some, same_Some, slice_get-get_or, slice_get-map, slice_get_within}
 use Rattle.std.specs.FinSet as set
-use Rattle.std.specs.List.{cons_option}
-use Rattle.std.specs.Option.{option_map_or}
-use Rattle.std.proofs.lemmas.List.{append-nil}
-use Rattle.std.proofs.lemmas.List.Elements.{All-head, All-tail, filter_map-append}
-use Rattle.std.proofs.lemmas.Option.{get_or_from_slice_get, none-some, same_Some, slice_get-get_or, slice_get-map, slice_get_within}
-use Rattle.mp_sets.specs.Numbers.{Numbers, listed}
-use Rattle.mp_task.specs.AgentTask.{AgentTask}
-use Rattle.mp_task.specs.Met.{is_met}
-use Rattle.mp_tokens.specs.Order.{place, with_set, with_sets}
+use Rattle.mp_sets.specs.Numbers.{listed}
+use Rattle.mp_tokens.specs.Order.{with_set, with_sets}
 use Rattle.mp_tokens.proofs.Orders.{has_token, keeps, one_after_another}
 use Rattle.mp_tokens.proofs.Places.{old_or_new, with_new, with_old}
-use Rattle.mp_messages.specs.declared.message.State.{State}
-use Rattle.mp_store.specs.declared.entry.Entry.{Entry}
-use Rattle.mp_store.specs.declared.entry.Mark.TheVariants.{Expanded}
-use Rattle.mp_store.specs.declared.entry.Origin.TheVariants.{Root}
-use Rattle.mp_store.specs.Minima.{closed}
-use Rattle.mp_store.specs.Record.{Record, gives_way, kept, new_entry}
 use Rattle.mp_store.proofs.Mapped.{sent-map}
 use Rattle.mp_store.proofs.Marks.{SameButMarks, closing_marks, giving_way_marks, same_at, same_length, unmarked}
-use Rattle.mp_search.specs.AgentState.{AgentState, same_state, with_tag}
-use Rattle.mp_search.specs.Search.{sent_sets, tokens_given}
 use Rattle.mp_search.specs.Sending.{message_of}
 use Rattle.mp_search.proofs.SentSets.{SentInside}
+use Rattle.mp_world.specs.AgentWords.{AgentTask, is_met, State}
+use Rattle.mp_world.specs.SearchWords.{Numbers, place, Entry, Expanded, Root, closed, Record, gives_way, kept, new_entry, AgentState, same_state, with_tag, sent_sets, tokens_given}
 use Rattle.mp_team_states.specs.Growing.{BeginsWith, HasGrown, IsAlike}
 use Rattle.mp_team_states.specs.Sent.{IsSentIn}
 

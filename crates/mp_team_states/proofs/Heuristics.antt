@@ -1,20 +1,15 @@
 -- What the promises of a heuristic say of joint states, and what a heuristic that knows nothing says, whatever counts as a goal.
-use Rattle.std.proofs.Common.{◌≡◌, ℕ, ◌<◌, ◌≤◌, ◌^◌, List, None, sym, subst, arith}
-use Rattle.std.specs.Prelude.{IfSome}
-use Rattle.std.proofs.lemmas.List.Elements.{All-contains}
-use Rattle.std.proofs.lemmas.Option.{none-some, same_Some}
+use Rattle.mp_world.proofs.Basics.{◌≡◌, ℕ, ◌<◌, ◌≤◌, ◌^◌, List, None, sym, subst, arith, IfSome, All-contains, none-some, same_Some}
 use Rattle.mp_runs.specs.Simulation.{StandsForAll}
 use Rattle.mp_runs.specs.System.{IsPlanFrom, plan_cost}
-use Rattle.mp_sets.specs.Numbers.{Numbers}
-use Rattle.mp_task.specs.AgentTask.{AgentTask}
-use Rattle.mp_task.specs.Limits.{IsWithinLimits}
-use Rattle.mp_task.specs.Plan.{private_of, task_cost}
 use Rattle.mp_task.specs.Projected.{projected_state}
 use Rattle.mp_task.specs.Seen.{IsSeenAs, seen_state, seen_system}
 use Rattle.mp_task.proofs.Estimates.{value_at_most}
 use Rattle.mp_task.proofs.SeenPlan.{seen_plan}
 use Rattle.mp_reach.specs.LeadsOn.{Known}
 use Rattle.mp_reach.proofs.WaysArePlans.{way_plan}
+use Rattle.mp_world.specs.AgentWords.{AgentTask, IsWithinLimits, private_of, task_cost}
+use Rattle.mp_world.specs.SearchWords.{Numbers}
 use Rattle.mp_world.specs.Team.{AreTeamTasks, Team}
 use Rattle.mp_world.specs.Values.{Values}
 use Rattle.mp_team_states.specs.Expansions.{nothing_known}

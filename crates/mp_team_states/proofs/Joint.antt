@@ -1,27 +1,17 @@
 -- What an agent's state says of the joint state that it is: whom it concerns, what may be seen, and what own actions lead to.
-use Rattle.std.proofs.Common.{◌≡◌, ◌≢◌, ℕ, zero, suc, ◌+◌, ◌-◌, ◌<◌, ◌≤◌, ◌⊎◌, Bool, true, false, cond, ◌&&◌, length, get_or, Option, Some, refl, sym, ap, subst, ◌∙◌, arith, inl, inr}
-use Rattle.std.specs.Prelude.{Contains, IfSome, IsTrue, filter, not, ◌==◌}
+use Rattle.mp_world.proofs.Basics.{◌≡◌, ◌≢◌, ℕ, zero, suc, ◌+◌, ◌-◌, ◌<◌, ◌≤◌, ◌⊎◌, Bool, true, false, cond, ◌&&◌, length, get_or, Option, Some, refl, sym, ap, subst, ◌∙◌, arith, inl, inr, Contains, IfSome, IsTrue, filter, not, ◌==◌, enumerate_from, range_with_len}
+use Rattle.mp_world.proofs.Basics.{and_from, and_parts, eq-eqb, false≢true, ne_eqb, length-map, Contains-get_or, get_or-enumerate_from, get_or-range_with_len, length-enumerate_from}
 use Rattle.std.specs.FinSet as set
-use Rattle.std.specs.List.{enumerate_from, range_with_len}
-use Rattle.std.proofs.lemmas.Bool.{and_from, and_parts, eq-eqb, false≢true, ne_eqb, not_from_false, or_left, or_right}
-use Rattle.std.proofs.lemmas.List.{length-map}
-use Rattle.std.proofs.lemmas.List.Elements.{Contains-get_or}
-use Rattle.std.proofs.lemmas.List.FromFn.{get_or-enumerate_from, get_or-range_with_len, length-enumerate_from, length-range_with_len}
+use Rattle.std.proofs.lemmas.Bool.{not_from_false, or_left, or_right}
+use Rattle.std.proofs.lemmas.List.FromFn.{length-range_with_len}
 use Rattle.mp_list.proofs.Members.{any_from}
-use Rattle.mp_sets.specs.Numbers.{holds}
-use Rattle.mp_task.specs.declared.act.Act.{Act}
 use Rattle.mp_task.specs.declared.act.Far.{Far}
-use Rattle.mp_task.specs.AgentTask.{AgentTask}
-use Rattle.mp_task.specs.Limits.{IsWithinLimits}
-use Rattle.mp_task.specs.Met.{is_met}
-use Rattle.mp_task.specs.Plan.{private_of}
 use Rattle.mp_task.specs.Public.{is_public}
 use Rattle.mp_store.proofs.RankLemmas.{member_kept, member_passes}
-use Rattle.mp_search.specs.AgentState.{AgentState, no_tag, successor}
-use Rattle.mp_search.specs.Concern.{concerns, is_receiver, is_unmet, is_visible, may_act, receivers}
-use Rattle.mp_search.specs.Sending.{is_due}
-use Rattle.mp_machine.specs.AgentRecord.{AgentRecord}
+use Rattle.mp_search.specs.Concern.{concerns, is_receiver, is_unmet, is_visible, may_act}
 use Rattle.mp_reach.specs.LeadsOn.{Concerns, IsVisible}
+use Rattle.mp_world.specs.AgentWords.{Act, AgentTask, IsWithinLimits, is_met, private_of, AgentRecord}
+use Rattle.mp_world.specs.SearchWords.{holds, AgentState, no_tag, successor, receivers, is_due}
 use Rattle.mp_world.specs.World.{World, agent_at}
 use Rattle.mp_world.specs.Joint.{joint, private_facts, told_by}
 use Rattle.mp_team_states.specs.Sound.{IsTold, tag_of}

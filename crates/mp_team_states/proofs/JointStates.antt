@@ -1,31 +1,16 @@
 -- Which joint states are the states that agents know, sent and receive.
-use Rattle.std.proofs.Common.{◌≡◌, ◌≢◌, ℕ, suc, ◌+◌, ◌-◌, ◌<◌, ◌≤◌, Bool, true, false, cond, List, [], ◌∷◌, length, map, get_or, Option, None, Some, refl, sym, ap, subst, ◌∙◌, arith}
-use Rattle.std.specs.Prelude.{IfSome, slice_get, ◌==◌}
+use Rattle.mp_world.proofs.Basics.{◌≡◌, ◌≢◌, ℕ, suc, ◌+◌, ◌-◌, ◌<◌, ◌≤◌, Bool, true, false, cond, List, [], ◌∷◌, length, map, get_or, Option, None, Some, refl, sym, ap, subst, ◌∙◌, arith, IfSome, slice_get, ◌==◌, enumerate_from, option_map_or, eq-eqb, eqb-false}
+use Rattle.mp_world.proofs.Basics.{eqb-true, get_or-map, get_or_default, length-set, same_lists, get_or-enumerate_from, length-enumerate_from, same_Some}
 use Rattle.std.specs.FinSet as set
-use Rattle.std.specs.List.{enumerate_from}
-use Rattle.std.specs.Option.{option_map_or}
-use Rattle.std.proofs.lemmas.Bool.{eq-eqb, eqb-false, eqb-true}
-use Rattle.std.proofs.lemmas.List.{get_or-map, get_or_default, length-set, same_lists}
-use Rattle.std.proofs.lemmas.List.FromFn.{get_or-enumerate_from, length-enumerate_from}
-use Rattle.std.proofs.lemmas.Option.{same_Some}
-use Rattle.mp_sets.specs.declared.tag.Tag.{Tag}
-use Rattle.mp_sets.specs.Numbers.{Numbers}
 use Rattle.mp_sets.proofs.ListedLemmas.{from_list-listed}
-use Rattle.mp_task.specs.AgentTask.{AgentTask}
-use Rattle.mp_task.specs.Limits.{IsWithinLimits}
-use Rattle.mp_task.specs.Met.{is_met}
-use Rattle.mp_task.specs.Plan.{JointState}
-use Rattle.mp_messages.specs.declared.message.State.{State}
-use Rattle.mp_tokens.specs.Order.{place, set_at}
+use Rattle.mp_tokens.specs.Order.{set_at}
 use Rattle.mp_tokens.proofs.Orders.{order_different}
 use Rattle.mp_tokens.proofs.Places.{at_place}
-use Rattle.mp_store.specs.declared.entry.Entry.{Entry}
-use Rattle.mp_search.specs.AgentState.{AgentState, no_tag, with_tag}
-use Rattle.mp_search.specs.Receipt.{IsStateFor, own_set, state_of}
-use Rattle.mp_search.specs.Search.{sent_sets, tokens_given}
+use Rattle.mp_search.specs.Receipt.{own_set}
 use Rattle.mp_search.specs.Sending.{message_of}
 use Rattle.mp_search.proofs.KeyedStates.{all_get}
-use Rattle.mp_machine.specs.AgentRecord.{AgentRecord}
+use Rattle.mp_world.specs.AgentWords.{AgentTask, IsWithinLimits, is_met, JointState, State, AgentRecord}
+use Rattle.mp_world.specs.SearchWords.{Tag, Numbers, place, Entry, AgentState, no_tag, with_tag, IsStateFor, state_of, sent_sets, tokens_given}
 use Rattle.mp_world.specs.World.{World, agent_at}
 use Rattle.mp_world.specs.Joint.{joint, joint_told, private_facts, sets_of, told_by}
 use Rattle.mp_team_states.specs.Sent.{IsSentIn}

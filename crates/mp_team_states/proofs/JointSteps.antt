@@ -1,17 +1,11 @@
 -- Joint states along own actions, and the joint start.
-use Rattle.std.proofs.Common.{◌≡◌, ℕ, ◌+◌, ◌-◌, ◌<◌, ◌⊎◌, Bool, true, false, cond, List, length, map, get_or, Option, Some, None, refl, sym, ap, ◌∙◌, arith, inl, inr}
-use Rattle.std.specs.Prelude.{option_and_then, slice_get, slice_set, ◌==◌}
+use Rattle.mp_world.proofs.Basics.{◌≡◌, ℕ, ◌+◌, ◌-◌, ◌<◌, ◌⊎◌, Bool, true, false, cond, List, length, map, get_or, Option, Some, None, refl, sym, ap, ◌∙◌, arith, inl, inr, option_and_then, slice_get, slice_set, ◌==◌, enumerate_from, cases_eq, eq-eqb, eqb-true}
+use Rattle.mp_world.proofs.Basics.{get_or-set_other, get_or-set_same, length-map, length-set, same_lists, length-enumerate_from}
 use Rattle.std.specs.FinSet as set
-use Rattle.std.specs.List.{enumerate_from}
-use Rattle.std.proofs.lemmas.Bool.{cases_eq, eq-eqb, eqb-true}
-use Rattle.std.proofs.lemmas.List.{get_or-set_other, get_or-set_same, length-map, length-set, same_lists}
-use Rattle.std.proofs.lemmas.List.FromFn.{length-enumerate_from}
-use Rattle.mp_sets.specs.Numbers.{Numbers, after}
-use Rattle.mp_task.specs.declared.act.Act.{Act}
-use Rattle.mp_task.specs.AgentTask.{AgentTask}
-use Rattle.mp_task.specs.Limits.{IsWithinLimits}
-use Rattle.mp_task.specs.Plan.{TaskStep, act_of, after_act, after_if_applies, after_step, applies as may_apply, private_of, task_of}
-use Rattle.mp_search.specs.AgentState.{AgentState, applies, no_tag, successor}
+use Rattle.mp_sets.specs.Numbers.{after}
+use Rattle.mp_task.specs.Plan.{after_act, after_if_applies, applies as may_apply}
+use Rattle.mp_world.specs.AgentWords.{Act, AgentTask, IsWithinLimits, TaskStep, act_of, after_step, private_of, task_of}
+use Rattle.mp_world.specs.SearchWords.{Numbers, AgentState, applies, no_tag, successor}
 use Rattle.mp_world.specs.World.{World}
 use Rattle.mp_world.specs.Joint.{joint, private_facts, told_by}
 use Rattle.mp_team_states.specs.Sound.{IsStateOf}

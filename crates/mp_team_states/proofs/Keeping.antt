@@ -1,33 +1,15 @@
 -- What own actions and offers do to what an agent keeps and sent, by cases: what holds where nothing changes, where an entry
 -- is kept and where one is sent, and of two after one another, holds of them.
-use Rattle.std.proofs.Common.{◌≡◌, ℕ, suc, ◌+◌, ◌<◌, ◌^◌, Bool, true, false, cond, List, [], ◌∷◌, ◌++◌, length}
-use Rattle.std.proofs.Common.{Option, Some, None, refl, sym, ap, subst, ◌∙◌, arith}
-use Rattle.std.specs.Prelude.{nat_lt, option_map, slice_get}
-use Rattle.std.specs.Option.{option_map_or}
-use Rattle.std.proofs.lemmas.Bool.{ltb-true}
-use Rattle.std.proofs.lemmas.Option.{none-some, same_Some, slice_get-get_or}
+use Rattle.mp_world.proofs.Basics.{◌≡◌, ℕ, suc, ◌+◌, ◌<◌, ◌^◌, Bool, true, false, cond, List, [], ◌∷◌, ◌++◌, length, Option, Some, None, refl, sym, ap, subst, ◌∙◌, arith, nat_lt, option_map, slice_get, option_map_or, ltb-true, none-some, same_Some, slice_get-get_or}
 use Rattle.mp_list.specs.First.{leftmost}
 use Rattle.mp_list.proofs.FirstLemmas.{found_first}
-use Rattle.mp_sets.specs.Numbers.{Numbers}
-use Rattle.mp_task.specs.declared.act.Act.{Act}
-use Rattle.mp_task.specs.AgentTask.{AgentTask}
-use Rattle.mp_store.specs.declared.entry.Entry.{Entry}
-use Rattle.mp_store.specs.declared.entry.Mark.TheVariants.{Open}
-use Rattle.mp_store.specs.declared.entry.Offer.TheVariants.{Kept, Worse}
-use Rattle.mp_store.specs.declared.entry.Origin.{Origin}
-use Rattle.mp_store.specs.declared.entry.Origin.TheVariants.{Own}
-use Rattle.mp_store.specs.Minima.{Numbered, best, is_cheaper, those}
-use Rattle.mp_store.specs.Record.{Record, f, is_known, kept, new_entry, offered}
-use Rattle.mp_store.specs.Sent.{sent_if_new, was_sent}
+use Rattle.mp_store.specs.Record.{offered}
 use Rattle.mp_store.proofs.RankLemmas.{cheaper_strict, those_have}
 use Rattle.mp_search.specs.declared.answer.Received.TheVariants as receptions
-use Rattle.mp_search.specs.declared.answer.Sending.{Sending}
-use Rattle.mp_search.specs.AgentState.{AgentState, applies, is_goal_state, same_state, successor}
-use Rattle.mp_search.specs.Concern.{receivers}
-use Rattle.mp_search.specs.Expansion.{Parent, with_action, with_actions, with_successor}
-use Rattle.mp_search.specs.Offering.{by_keep_rule, offered_at, offered_with, own_value}
-use Rattle.mp_search.specs.Sending.{is_due, sending_of, sent_best, sent_entry_of, sent_if_due}
 use Rattle.mp_search.proofs.KeyedStates.{Decides-state}
+use Rattle.mp_world.specs.AgentWords.{Act, AgentTask}
+use Rattle.mp_world.specs.SearchWords.{Numbers, Entry, Open, Kept, Worse, Origin, Own, Numbered, best, is_cheaper, those, Record, f, is_known, kept, new_entry, sent_if_new, was_sent, Sending, AgentState, applies, is_goal_state, same_state, successor, receivers, Parent}
+use Rattle.mp_world.specs.SearchWords.{with_action, with_actions, with_successor, by_keep_rule, offered_at, offered_with, own_value, is_due, sending_of, sent_best, sent_entry_of, sent_if_due}
 use Rattle.mp_team_states.proofs.Changes.{sending, with_number}
 
 -- an entry is one of a state at a cost, with an estimate and an origin

@@ -1,25 +1,17 @@
 -- What an agent keeps and sent of a state, when states are offered and sent.
-use Rattle.std.proofs.Common.{◌≡◌, ℕ, ◌+◌, ◌<◌, ◌≤◌, ◌^◌, ◌⊎◌, Bool, true, false, cond, ◌&&◌, List, [], length, map, get_or, Option, Some, None, refl, sym, ap, subst, ◌∙◌, arith, inl, inr}
-use Rattle.std.specs.Prelude.{Contains, nat_le, nat_lt, option_map, slice_get}
-use Rattle.std.specs.Option.{option_map_or}
-use Rattle.std.proofs.lemmas.Bool.{and_parts, cases_lt, false≢true, leb-true, lt-ltb}
-use Rattle.std.proofs.lemmas.Option.{get_or_from_slice_get, slice_get-get_or, slice_get_within}
+use Rattle.mp_world.proofs.Basics.{◌≡◌, ℕ, ◌+◌, ◌<◌, ◌≤◌, ◌^◌, ◌⊎◌, Bool, true, false, cond, ◌&&◌, List, [], length, map, get_or, Option, Some, None, refl, sym, ap, subst, ◌∙◌, arith, inl, inr, Contains, nat_le, nat_lt, option_map, slice_get, option_map_or}
+use Rattle.mp_world.proofs.Basics.{and_parts, cases_lt, false≢true, leb-true, lt-ltb, get_or_from_slice_get, slice_get-get_or, slice_get_within}
 use Rattle.mp_list.specs.First.{leftmost}
 use Rattle.mp_list.proofs.FirstLemmas.{found_first, nothing_found}
 use Rattle.mp_list.proofs.Members.{no_member, some_member}
-use Rattle.mp_task.specs.AgentTask.{AgentTask}
-use Rattle.mp_store.specs.declared.entry.Entry.{Entry}
-use Rattle.mp_store.specs.declared.entry.Offer.TheVariants.{Kept, Worse}
-use Rattle.mp_store.specs.declared.entry.Origin.{Origin}
-use Rattle.mp_store.specs.Minima.{Numbered, best, is_cheaper, those}
-use Rattle.mp_store.specs.Record.{Record, gives_way, is_known, kept, new_entry, offered}
-use Rattle.mp_store.specs.Sent.{sent_entries, sent_if_new, was_sent}
+use Rattle.mp_store.specs.Record.{offered}
+use Rattle.mp_store.specs.Sent.{sent_entries}
 use Rattle.mp_store.proofs.RankLemmas.{cheaper_less, cheaper_strict, those_have, those_hold}
 use Rattle.mp_search.specs.declared.answer.Received.TheVariants as receptions
-use Rattle.mp_search.specs.AgentState.{AgentState, is_goal_state, same_state}
-use Rattle.mp_search.specs.Offering.{by_keep_rule, offered_at, offered_with}
-use Rattle.mp_search.specs.Sending.{sending_of, sent_best, sent_entry_of}
 use Rattle.mp_search.proofs.KeyedStates.{Decides-state}
+use Rattle.mp_world.specs.AgentWords.{AgentTask}
+use Rattle.mp_world.specs.SearchWords.{Entry, Kept, Worse, Origin, Numbered, best, is_cheaper, those, Record, gives_way, is_known, kept, new_entry, sent_if_new, was_sent, AgentState, is_goal_state, same_state, by_keep_rule, offered_at, offered_with, sending_of}
+use Rattle.mp_world.specs.SearchWords.{sent_best, sent_entry_of}
 use Rattle.mp_team_states.specs.Growing.{HasGrown}
 use Rattle.mp_team_states.proofs.Changes.{with_number}
 use Rattle.mp_team_states.proofs.Growth.{stays_at}

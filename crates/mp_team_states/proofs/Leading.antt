@@ -1,25 +1,14 @@
 -- What an expanded entry's state leads to is reached: in the agent's own search it is kept, and to others it was sent.
-use Rattle.std.proofs.Common.{◌≡◌, ℕ, ◌+◌, Bool, true, cond, List, Option, Some, None, refl, sym, ap, subst, ◌∙◌, arith, inl, inr}
-use Rattle.std.specs.Prelude.{Contains, option_and_then, slice_get}
-use Rattle.std.proofs.lemmas.List.Elements.{All-contains}
-use Rattle.std.proofs.lemmas.Option.{same_Some}
-use Rattle.mp_sets.specs.Numbers.{Numbers}
-use Rattle.mp_task.specs.declared.act.Act.{Act}
-use Rattle.mp_task.specs.AgentTask.{AgentTask}
-use Rattle.mp_task.specs.Limits.{IsWithinLimits}
-use Rattle.mp_task.specs.Plan.{JointState, TaskStep, act_of, after_act, after_if_applies, after_step, applies as may_apply, task_of}
+use Rattle.mp_world.proofs.Basics.{◌≡◌, ℕ, ◌+◌, Bool, true, cond, List, Option, Some, None, refl, sym, ap, subst, ◌∙◌, arith, inl, inr, Contains, option_and_then, slice_get, All-contains, same_Some}
+use Rattle.mp_task.specs.Plan.{after_act, after_if_applies, applies as may_apply}
 use Rattle.mp_task.proofs.Agreeing.{same_number}
 use Rattle.mp_order.specs.Ordered.{TakesStep}
-use Rattle.mp_store.specs.declared.entry.Entry.{Entry}
-use Rattle.mp_search.specs.AgentState.{AgentState, applies, successor}
-use Rattle.mp_search.specs.Concern.{receivers}
-use Rattle.mp_search.specs.Offering.{own_value}
-use Rattle.mp_search.specs.Sending.{is_due}
-use Rattle.mp_machine.specs.AgentRecord.{AgentRecord}
 use Rattle.mp_reach.specs.Explored.{HasEntry}
 use Rattle.mp_reach.specs.LeadsOn.{Concerns, IsTeamHopelessFor, IsVisible, Known, LeadsOn, TeamReachesFor, any_action}
 use Rattle.mp_reach.specs.LeadsOn.LeadsOn.{alone, to_another}
 use Rattle.mp_reach.proofs.Changing.{reached_at_more}
+use Rattle.mp_world.specs.AgentWords.{Act, AgentTask, IsWithinLimits, JointState, TaskStep, act_of, after_step, task_of, AgentRecord}
+use Rattle.mp_world.specs.SearchWords.{Numbers, Entry, AgentState, applies, successor, receivers, own_value, is_due}
 use Rattle.mp_world.specs.Joint.{joint}
 use Rattle.mp_world.specs.Team.{AreTeamTasks}
 use Rattle.mp_world.specs.Values.{Values}

@@ -16,7 +16,7 @@ pub mod GoodStates
 pub mod Entries
 pub mod JointSteps
 pub mod NewEntries
-pub mod Reached
+pub mod ReachedEntries
 pub mod StartReached
 pub mod RoomLemmas
 pub mod RoomCounts
@@ -42,7 +42,7 @@ pub mod Bounds
 pub mod Explored
 pub mod Flags
 pub mod Runs
-pub mod Shown
+pub mod Witnesses
 pub mod Worth
 pub mod StillExpanded
 pub mod Adding

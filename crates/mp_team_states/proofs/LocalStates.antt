@@ -1,39 +1,20 @@
 -- What a step of an agent does to what it knows and sent.
-use Rattle.std.proofs.Common.{◌≡◌, ◌≢◌, ℕ, ◌*◌, ◌-◌, ◌<◌, ◌≤◌, Bool, true, false, ◌&&◌, ◌||◌, Option, List, [], ◌∷◌, length, get_or, Some, All, refl, sym, ap, subst, ◌∙◌, arith}
-use Rattle.std.specs.Prelude.{not, ◌==◌}
+use Rattle.mp_world.proofs.Basics.{◌≡◌, ◌≢◌, ℕ, ◌*◌, ◌-◌, ◌<◌, ◌≤◌, Bool, true, false, ◌&&◌, ◌||◌, Option, List, [], ◌∷◌, length, get_or, Some, All, refl, sym, ap, subst, ◌∙◌, arith, not, ◌==◌, flat_map, and_parts, eqb-false, length-set, All-append, All-contains}
+use Rattle.mp_world.proofs.Basics.{All-head, All-map, All-nil, All-tail, All-weaker, Contains-get_or}
 use Rattle.std.specs.FinSet as set
-use Rattle.std.specs.List.{flat_map, list_any}
+use Rattle.std.specs.List.{list_any}
 use Rattle.std.specs.List.Sorted.{IsStrictlyIncreasing}
-use Rattle.std.proofs.lemmas.Bool.{and_parts, eqb-false}
-use Rattle.std.proofs.lemmas.List.{length-set}
-use Rattle.std.proofs.lemmas.List.Elements.{All-append, All-contains, All-head, All-map, All-nil, All-tail, All-weaker, Contains-get_or}
-use Rattle.mp_sets.specs.Numbers.{AllBelow, Numbers, after, listed}
+use Rattle.mp_sets.specs.Numbers.{after, listed}
 use Rattle.mp_sets.proofs.ListedLemmas.{passing_below}
 use Rattle.mp_sets.proofs.NumbersLemmas.{All_at, contains-after, listed-IsStrictlyIncreasing}
-use Rattle.mp_task.specs.declared.act.Act.{Act}
-use Rattle.mp_task.specs.AgentTask.{AgentTask}
-use Rattle.mp_task.specs.Limits.{ActFits, IsWithinLimits}
 use Rattle.mp_task.proofs.Agreeing.{Contains-slice_get}
-use Rattle.mp_messages.specs.declared.message.Message.{Message}
 use Rattle.mp_messages.specs.declared.message.Message.TheVariants as kinds
-use Rattle.mp_messages.specs.declared.message.State.{State}
-use Rattle.mp_messages.specs.Spelling.{IfState}
-use Rattle.mp_store.specs.declared.entry.Entry.{Entry}
-use Rattle.mp_store.specs.Laws.{IsSound}
-use Rattle.mp_store.specs.Record.{Record}
-use Rattle.mp_search.specs.declared.answer.Sending.{Sending}
-use Rattle.mp_search.specs.AgentState.{AgentState, same_state, successor}
-use Rattle.mp_search.specs.Expansion.{expanded}
-use Rattle.mp_search.specs.Receipt.{IsStateFor, received}
-use Rattle.mp_search.specs.Search.{SearchRecord, is_open_below, is_spent, may_expand}
 use Rattle.mp_search.specs.Sending.{message_of}
 use Rattle.mp_search.proofs.KeyedStates.{all_get}
-use Rattle.mp_machine.specs.AgentRecord.{AgentRecord}
-use Rattle.mp_machine.specs.LocalStep.{outgoing_of, with_search}
 use Rattle.mp_machine.specs.MemberFields.{EntryFits, SendingFits}
-use Rattle.mp_machine.specs.Outgoing.{Outgoing, Step, without_messages}
-use Rattle.mp_machine.specs.Taking.{with_state}
 use Rattle.mp_machine.proofs.EntriesFit.{FitsUpTo, HasExpanded, expanded_fits, received_fits}
+use Rattle.mp_world.specs.AgentWords.{Act, AgentTask, ActFits, IsWithinLimits, Message, State, IfState, AgentRecord, outgoing_of, with_search, Outgoing, Step, without_messages, with_state}
+use Rattle.mp_world.specs.SearchWords.{AllBelow, Numbers, Entry, IsSound, Record, Sending, AgentState, same_state, successor, expanded, IsStateFor, received, SearchRecord, is_open_below, is_spent, may_expand}
 use Rattle.mp_world.specs.Team.{most_expansions}
 use Rattle.mp_world.specs.World.{World, agent_at}
 use Rattle.mp_team_states.specs.Sent.{IsSentIn}

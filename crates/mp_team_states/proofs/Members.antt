@@ -1,10 +1,6 @@
 -- Members of mapped and joined lists.
-use Rattle.std.proofs.Common.{◌≡◌, ◌≢◌, ℕ, zero, suc, List, [], ◌∷◌, ◌++◌, length, map, Option, Some, None, refl, sym, ap, subst, ◌∙◌, inl, inr}
-use Rattle.std.specs.Prelude.{◌⊎◌, Contains, filter_map, slice_get, slice_set}
-use Rattle.std.specs.List.{cons_option, flat_map}
-use Rattle.std.proofs.lemmas.List.Elements.{Contains-append_cases, Contains-append_left, Contains-append_right}
-use Rattle.std.proofs.lemmas.Bool.{cases_eq}
-use Rattle.std.proofs.lemmas.Option.{same_Some, none-some, slice_get-get_or}
+use Rattle.mp_world.proofs.Basics.{◌≡◌, ◌≢◌, ℕ, zero, suc, List, [], ◌∷◌, ◌++◌, length, map, Option, Some, None, refl, sym, ap, subst, ◌∙◌, inl, inr, ◌⊎◌, Contains, filter_map, slice_get, slice_set, cons_option, flat_map, Contains-append_cases, Contains-append_left}
+use Rattle.mp_world.proofs.Basics.{Contains-append_right, cases_eq, same_Some, none-some, slice_get-get_or}
 use Rattle.mp_list.proofs.Members.{contains_cases, contains_head, contains_tail, no_member}
 
 pub to_map : {X Y : Type 0} (f : X → Y) (xs : List X) (x : X) → Contains xs x → Contains (map f xs) (f x)

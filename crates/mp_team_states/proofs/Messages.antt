@@ -1,17 +1,13 @@
 -- Over how many messages an entry was reached.
-use Rattle.std.proofs.Common.{◌≡◌, ℕ, ◌+◌, ◌<◌, List, refl, sym, ap, subst, ◌∙◌}
-use Rattle.std.proofs.lemmas.Option.{get_or_from_slice_get, slice_get_within}
-use Rattle.mp_task.specs.Plan.{TaskStep}
-use Rattle.mp_store.specs.declared.entry.Entry.{Entry}
-use Rattle.mp_store.specs.declared.entry.Origin.TheVariants.{Root, Own, From}
-use Rattle.mp_store.specs.Laws.{IsEarlier}
-use Rattle.mp_search.specs.AgentState.{AgentState}
+use Rattle.mp_world.proofs.Basics.{◌≡◌, ℕ, ◌+◌, ◌<◌, List, refl, sym, ap, subst, ◌∙◌, get_or_from_slice_get, slice_get_within}
+use Rattle.mp_world.specs.AgentWords.{TaskStep}
+use Rattle.mp_world.specs.SearchWords.{Entry, Root, Own, From, IsEarlier, AgentState}
 use Rattle.mp_world.specs.World.{World}
 use Rattle.mp_team_states.specs.Further.{HaveSoundRecords}
 use Rattle.mp_team_states.specs.Paths.{IsEntryAt, IsOver, IsPath, IsSentAt}
 use Rattle.mp_team_states.specs.Paths.IsOver.{at_start, by_own, over_one}
 use Rattle.mp_team_states.specs.Paths.IsPath.{at_root, by_action, by_message}
-use Rattle.mp_team_states.proofs.Reached.{has_it, origins, same_sent}
+use Rattle.mp_team_states.proofs.ReachedEntries.{has_it, origins, same_sent}
 
 module _ (w : World) (records : HaveSoundRecords w) where
   -- an own action leads from an earlier entry

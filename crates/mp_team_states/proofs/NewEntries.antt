@@ -1,31 +1,9 @@
 -- Which entries come in an event: own actions led to them, or a state that another agent sent.
-use Rattle.std.proofs.Common.{◌≡◌, ℕ, ◌+◌, ◌<◌, ◌⊎◌, true, List, [], Option, Some, sym, ap, ◌∙◌, arith, inl, inr}
-use Rattle.std.specs.Prelude.{Contains, slice_get}
-use Rattle.std.proofs.lemmas.List.Elements.{Contains-get_or}
-use Rattle.std.proofs.lemmas.Option.{slice_get_within}
-use Rattle.mp_sets.specs.Numbers.{Numbers}
-use Rattle.mp_task.specs.declared.act.Act.{Act}
-use Rattle.mp_task.specs.AgentTask.{AgentTask}
-use Rattle.mp_task.specs.Plan.{task_of}
-use Rattle.mp_messages.specs.declared.history.Event.{Event}
-use Rattle.mp_messages.specs.declared.history.Event.TheVariants.{Expand, Take, Start}
+use Rattle.mp_world.proofs.Basics.{◌≡◌, ℕ, ◌+◌, ◌<◌, ◌⊎◌, true, List, [], Option, Some, sym, ap, ◌∙◌, arith, inl, inr, Contains, slice_get, Contains-get_or, slice_get_within}
 use Rattle.mp_messages.specs.declared.message.Message.TheVariants as kinds
-use Rattle.mp_messages.specs.declared.message.State.{State}
-use Rattle.mp_store.specs.declared.entry.Entry.{Entry}
-use Rattle.mp_store.specs.declared.entry.Origin.TheVariants.{Own, From}
-use Rattle.mp_store.specs.Record.{Record}
-use Rattle.mp_search.specs.declared.answer.Sending.{Sending}
-use Rattle.mp_search.specs.AgentState.{AgentState, applies, successor}
-use Rattle.mp_search.specs.Expansion.{expanded}
-use Rattle.mp_search.specs.Offering.{own_value}
-use Rattle.mp_search.specs.Receipt.{greater_value, received, state_of}
-use Rattle.mp_search.specs.Search.{SearchRecord}
-use Rattle.mp_messages.specs.Reading.{message_of}
 use Rattle.mp_machine.specs.declared.event.Local.TheVariants as locals
-use Rattle.mp_machine.specs.AgentRecord.{AgentRecord}
-use Rattle.mp_machine.specs.LocalStep.{with_search}
-use Rattle.mp_machine.specs.Outgoing.{Step, without_messages}
-use Rattle.mp_machine.specs.Taking.{with_state}
+use Rattle.mp_world.specs.AgentWords.{Act, AgentTask, task_of, Event, Expand, Take, Start, State, message_of, AgentRecord, with_search, Step, without_messages, with_state}
+use Rattle.mp_world.specs.SearchWords.{Numbers, Entry, Own, From, Record, Sending, AgentState, applies, successor, expanded, own_value, greater_value, received, state_of, SearchRecord}
 use Rattle.mp_world.specs.Team.{AreTeamTasks}
 use Rattle.mp_world.specs.Values.{Values}
 use Rattle.mp_world.specs.World.{IsTeamWorld, World, under_way}

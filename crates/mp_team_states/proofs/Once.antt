@@ -1,28 +1,9 @@
 -- One agent that knows nothing of what is still to be paid expands no state twice: what it expands costs no less than before.
-use Rattle.std.proofs.Common.{◌≡◌, ℕ, ◌≤◌, ◌⊎◌, true, List, [], length, Option, Some, sym, ap, subst, ◌∙◌, arith, inl, inr}
-use Rattle.std.specs.Prelude.{not, slice_get}
-use Rattle.std.specs.Option.{option_map_or}
-use Rattle.std.proofs.lemmas.Bool.{and_parts}
-use Rattle.std.proofs.lemmas.Option.{none-some, same_Some}
-use Rattle.mp_task.specs.AgentTask.{AgentTask}
-use Rattle.mp_messages.specs.declared.history.Event.{Event}
-use Rattle.mp_store.specs.declared.entry.Entry.{Entry}
-use Rattle.mp_store.specs.declared.entry.Mark.{Mark}
-use Rattle.mp_store.specs.declared.entry.Mark.TheVariants.{Open, Expanded, Replaced}
-use Rattle.mp_store.specs.declared.entry.Origin.TheVariants.{Root}
-use Rattle.mp_store.specs.Laws.{IsSound}
-use Rattle.mp_store.specs.Minima.{closed}
-use Rattle.mp_store.specs.Record.{Record, empty}
-use Rattle.mp_search.specs.AgentState.{AgentState, same_state, start_state, successor}
-use Rattle.mp_search.specs.Expansion.{Parent, expanded, expanded_entry, with_actions}
-use Rattle.mp_search.specs.Offering.{own_value, start_record}
-use Rattle.mp_search.specs.Search.{SearchRecord, is_open_below, is_spent, may_expand}
-use Rattle.mp_machine.specs.AgentRecord.{AgentRecord, is_going}
-use Rattle.mp_machine.specs.declared.event.Local.{Local}
+use Rattle.mp_world.proofs.Basics.{◌≡◌, ℕ, ◌≤◌, ◌⊎◌, true, List, [], length, Option, Some, sym, ap, subst, ◌∙◌, arith, inl, inr, not, slice_get, option_map_or, and_parts, none-some, same_Some}
 use Rattle.mp_machine.specs.declared.event.Local.TheVariants.{Expand}
-use Rattle.mp_machine.specs.LocalStep.{may}
-use Rattle.mp_machine.specs.Outgoing.{Step}
-use Rattle.mp_machine.specs.Taking.{with_state}
+use Rattle.mp_world.specs.AgentWords.{AgentTask, Event, AgentRecord, is_going, Local, may, Step, with_state}
+use Rattle.mp_world.specs.SearchWords.{Entry, Mark, Open, Expanded, Replaced, Root, IsSound, closed, Record, empty, AgentState, same_state, start_state, successor, Parent, expanded, expanded_entry, with_actions, own_value, start_record, SearchRecord, is_open_below}
+use Rattle.mp_world.specs.SearchWords.{is_spent, may_expand}
 use Rattle.mp_world.specs.Events.{agent_of, local_of, run, taken}
 use Rattle.mp_world.specs.Steps.{IsStepOf}
 use Rattle.mp_world.specs.Team.{AreTeamTasks, IsTeam, team_with}
@@ -35,7 +16,7 @@ use Rattle.mp_world.proofs.Stepping.{team_size}
 use Rattle.mp_team_states.specs.Sound.{AreStatesSound}
 use Rattle.mp_team_states.proofs.Growth.{grown_closed, grown_then}
 use Rattle.mp_team_states.proofs.GoodStates.{equal_if_joint}
-use Rattle.mp_team_states.proofs.Reached.{has_it}
+use Rattle.mp_team_states.proofs.ReachedEntries.{has_it}
 use Rattle.mp_team_states.proofs.StartReached.{task_is}
 use Rattle.mp_team_states.proofs.StartSound.{start_states_sound}
 use Rattle.mp_team_states.proofs.StepsSound.{agent_sound, states_stay_sound}

@@ -1,19 +1,7 @@
 -- Steps that leave a search as it is, and send no states: all but expansions and receipts of states.
-use Rattle.std.proofs.Common.{◌≡◌, ℕ, Bool, List, [], ◌∷◌, Option, All, refl, subst}
-use Rattle.std.specs.Prelude.{Ok}
-use Rattle.mp_sets.specs.Numbers.{Numbers}
-use Rattle.mp_task.specs.AgentTask.{AgentTask}
-use Rattle.mp_messages.specs.declared.message.Message.{Message}
-use Rattle.mp_messages.specs.declared.message.Message.TheVariants.{Marker, Report, Pick, Trace, Length, Done}
-use Rattle.mp_messages.specs.Spelling.{IfState}
-use Rattle.mp_search.specs.Search.{SearchRecord}
-use Rattle.mp_snapshot.specs.Rules.{own}
-use Rattle.mp_machine.specs.declared.refusal.BadKind.{BadKind}
-use Rattle.mp_machine.specs.AgentRecord.{AgentRecord}
-use Rattle.mp_machine.specs.Outgoing.{Step, others, to_each, to_others}
-use Rattle.mp_machine.specs.Snapshots.{started}
-use Rattle.mp_machine.specs.Taking.{ending_of, took_message, unless_bad}
-use Rattle.mp_machine.specs.WalkingBack.{solved}
+use Rattle.mp_world.proofs.Basics.{◌≡◌, ℕ, Bool, List, [], ◌∷◌, Option, All, refl, subst, Ok}
+use Rattle.mp_world.specs.AgentWords.{AgentTask, Message, Marker, Report, Pick, Trace, Length, Done, IfState, own, BadKind, AgentRecord, Step, others, to_each, to_others, started, ending_of, took_message, unless_bad, solved}
+use Rattle.mp_world.specs.SearchWords.{Numbers, SearchRecord}
 use Rattle.mp_world.proofs.LocalCases.{StepCases, both_such, each_message, each_started, each_such, good_step, on_trail}
 
 -- a message that is no state
@@ -56,7 +44,7 @@ quiet_cases = record {
         (each_such IsOther (Marker number) tt (others r.task.me r.task.agents)) quiet.out;
   };
   picked = λ r s quiet. quiet;
-  told = λ r ending share. saying (record r { ending = ending; share = share }) [] (Length 0) tt;
+  ended = λ r ending share. saying (record r { ending = ending; share = share }) [] (Length 0) tt;
 }
 
 pub quiet_started : (r : AgentRecord) → Q r (started r)

@@ -1,29 +1,16 @@
 -- What agents know of the states that they and others sent.
-use Rattle.std.proofs.Common.{◌≡◌, ◌≢◌, ℕ, ◌-◌, ◌<◌, ◌≤◌, ◌⊎◌, Bool, true, false, List, [], ◌∷◌, length, get_or, Option, Some, None, All, refl, sym, ap, subst, ◌∙◌, arith, inl, inr}
-use Rattle.std.specs.Prelude.{IfSome, filter_map, not, slice_get, if◌then◌else◌}
+use Rattle.mp_world.proofs.Basics.{◌≡◌, ◌≢◌, ℕ, ◌-◌, ◌<◌, ◌≤◌, ◌⊎◌, Bool, true, false, List, [], ◌∷◌, length, get_or, Option, Some, None, All, refl, sym, ap, subst, ◌∙◌, arith, inl, inr, IfSome, filter_map, not, slice_get, if◌then◌else◌, cons_option, cases_eq}
+use Rattle.mp_world.proofs.Basics.{lt-ltb, get_or-set_other, get_or-set_same, length-set, All-cons, All-contains, All-map, All-nil, Contains-get_or}
 use Rattle.std.specs.FinSet as set
-use Rattle.std.specs.List.{cons_option}
-use Rattle.std.proofs.lemmas.Bool.{cases_eq, lt-ltb}
-use Rattle.std.proofs.lemmas.List.{get_or-set_other, get_or-set_same, length-set}
-use Rattle.std.proofs.lemmas.List.Elements.{All-cons, All-contains, All-map, All-nil, Contains-get_or}
-use Rattle.mp_sets.specs.declared.tag.Tag.{Tag}
-use Rattle.mp_sets.specs.Numbers.{AllBelow, Numbers}
 use Rattle.mp_sets.proofs.NumbersLemmas.{All_at}
-use Rattle.mp_task.specs.AgentTask.{AgentTask}
-use Rattle.mp_task.specs.Limits.{IsWithinLimits}
-use Rattle.mp_task.specs.Met.{is_met}
-use Rattle.mp_messages.specs.declared.message.State.{State}
-use Rattle.mp_tokens.specs.Order.{place, set_at}
+use Rattle.mp_tokens.specs.Order.{set_at}
 use Rattle.mp_tokens.proofs.Orders.{order_only}
 use Rattle.mp_tokens.proofs.Places.{at_place}
-use Rattle.mp_store.specs.declared.entry.Entry.{Entry}
-use Rattle.mp_store.specs.Record.{Record}
-use Rattle.mp_search.specs.AgentState.{AgentState, no_tag, with_tag}
-use Rattle.mp_search.specs.Receipt.{IsStateFor, is_byte_right, is_token_given, own_set, own_tag, state_of}
-use Rattle.mp_search.specs.Search.{sent_sets, tokens_given}
+use Rattle.mp_search.specs.Receipt.{own_set, own_tag}
 use Rattle.mp_search.specs.Sending.{message_of}
 use Rattle.mp_search.proofs.KeyedStates.{all_get}
-use Rattle.mp_machine.specs.AgentRecord.{AgentRecord}
+use Rattle.mp_world.specs.AgentWords.{AgentTask, IsWithinLimits, is_met, State, AgentRecord}
+use Rattle.mp_world.specs.SearchWords.{Tag, AllBelow, Numbers, place, Entry, Record, AgentState, no_tag, with_tag, IsStateFor, is_byte_right, is_token_given, state_of, sent_sets, tokens_given}
 use Rattle.mp_world.specs.World.{World, agent_at}
 use Rattle.mp_world.specs.Joint.{sets_of, told_by}
 use Rattle.mp_team_states.specs.Sent.{IsSentIn}

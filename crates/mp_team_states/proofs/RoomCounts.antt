@@ -1,15 +1,8 @@
 -- Costs and estimates are small at the start, and so is the number of all expansions.
-use Rattle.std.proofs.Common.{◌≡◌, ℕ, suc, ◌+◌, ◌≤◌, ◌^◌, ◌⊎◌, List, [], ◌∷◌, length, get_or, Some, All, refl, sym, ap, subst, ◌∙◌, arith, inl, inr}
-use Rattle.std.specs.Prelude.{Contains, slice_get}
+use Rattle.mp_world.proofs.Basics.{◌≡◌, ℕ, suc, ◌+◌, ◌≤◌, ◌^◌, ◌⊎◌, List, [], ◌∷◌, length, get_or, Some, All, refl, sym, ap, subst, ◌∙◌, arith, inl, inr, Contains, slice_get, none-some, slice_get-get_or}
 use Rattle.std.proofs.lemmas.List.Sums.{sum_by-le}
-use Rattle.std.proofs.lemmas.Option.{none-some, slice_get-get_or}
-use Rattle.mp_task.specs.AgentTask.{AgentTask}
-use Rattle.mp_task.specs.Plan.{task_of}
-use Rattle.mp_store.specs.declared.entry.Entry.{Entry}
-use Rattle.mp_store.specs.Record.{empty}
-use Rattle.mp_search.specs.AgentState.{AgentState, start_state}
-use Rattle.mp_search.specs.Offering.{start_record}
-use Rattle.mp_machine.specs.AgentRecord.{AgentRecord, new_record}
+use Rattle.mp_world.specs.AgentWords.{AgentTask, task_of, AgentRecord, new_record}
+use Rattle.mp_world.specs.SearchWords.{Entry, empty, AgentState, start_state, start_record}
 use Rattle.mp_world.specs.Team.{AreTeamTasks, IsTeam, Team, most_expansions}
 use Rattle.mp_world.specs.World.{IsTeamWorld, World, agent_at, start_world}
 use Rattle.mp_world.proofs.Agents.{agree_numbered, member_of}
@@ -19,7 +12,7 @@ use Rattle.mp_team_states.specs.Room.{AreSmall, HasSmallValues, IsSmall, expande
 use Rattle.mp_team_states.specs.Sound.{AreStatesSound}
 use Rattle.mp_team_states.proofs.Entries.{IsNew, IsOld, changes_entry}
 use Rattle.mp_team_states.proofs.Expanding.{IsFirst, start_changes}
-use Rattle.mp_team_states.proofs.Reached.{HasIt, has_it}
+use Rattle.mp_team_states.proofs.ReachedEntries.{HasIt, has_it}
 use Rattle.mp_team_states.proofs.RoomLemmas.{small_value}
 use Rattle.mp_team_states.proofs.StartReached.{here, task_is}
 use Rattle.mp_team_states.proofs.StepsSound.{agent_sound, limits_of}

@@ -1,27 +1,11 @@
 -- Costs and estimates stay small.
-use Rattle.std.proofs.Common.{◌≡◌, ℕ, zero, suc, ◌+◌, ◌*◌, ◌-◌, ◌<◌, ◌≤◌, ◌^◌, ◌⊎◌, List, [], ◌∷◌, max, get_or, Option, Some, None, refl, sym, ap, subst, ◌∙◌, arith, inl, inr}
-use Rattle.std.specs.Prelude.{Contains, IfSome, IsSomeAnd, Ok, option_map, slice_get, slice_set}
-use Rattle.std.specs.List.{sum_by}
-use Rattle.std.proofs.lemmas.Bool.{cases_eq}
-use Rattle.std.proofs.lemmas.List.Elements.{All-contains}
+use Rattle.mp_world.proofs.Basics.{◌≡◌, ℕ, zero, suc, ◌+◌, ◌*◌, ◌-◌, ◌<◌, ◌≤◌, ◌^◌, ◌⊎◌, List, [], ◌∷◌, get_or, Option, Some, None, refl, sym, ap, subst, ◌∙◌, arith, inl, inr, Contains, IfSome, IsSomeAnd, Ok, option_map, slice_get, slice_set, sum_by, cases_eq}
+use Rattle.mp_world.proofs.Basics.{All-contains, get_or_from_slice_get, none-some, same_Some, slice_get_within}
+use Rattle.std.proofs.Common.{max}
 use Rattle.std.proofs.lemmas.List.Sums.{sum_by-set}
-use Rattle.std.proofs.lemmas.Option.{get_or_from_slice_get, none-some, same_Some, slice_get_within}
-use Rattle.mp_sets.specs.Numbers.{Numbers}
-use Rattle.mp_task.specs.AgentTask.{AgentTask}
-use Rattle.mp_task.specs.Limits.{ActFits, IsWithinLimits}
-use Rattle.mp_task.specs.Plan.{task_of}
 use Rattle.mp_task.proofs.Agreeing.{Contains-slice_get}
-use Rattle.mp_messages.specs.declared.history.Event.{Event}
-use Rattle.mp_messages.specs.declared.message.State.{State}
-use Rattle.mp_store.specs.declared.entry.Entry.{Entry}
-use Rattle.mp_search.specs.AgentState.{AgentState}
-use Rattle.mp_search.specs.Expansion.{expanded}
-use Rattle.mp_search.specs.Search.{SearchRecord}
-use Rattle.mp_machine.specs.declared.event.Local.{Local}
-use Rattle.mp_machine.specs.AgentRecord.{AgentRecord}
-use Rattle.mp_machine.specs.LocalStep.{local}
-use Rattle.mp_machine.specs.Outgoing.{Step}
-use Rattle.mp_machine.specs.Taking.{with_state}
+use Rattle.mp_world.specs.AgentWords.{AgentTask, ActFits, IsWithinLimits, task_of, Event, State, Local, AgentRecord, local, Step, with_state}
+use Rattle.mp_world.specs.SearchWords.{Numbers, Entry, AgentState, expanded, SearchRecord}
 use Rattle.mp_world.specs.Team.{AreTeamTasks}
 use Rattle.mp_world.specs.Values.{Values}
 use Rattle.mp_world.specs.World.{IsTeamWorld, World, agent_at, with_agent}
@@ -35,7 +19,7 @@ use Rattle.mp_team_states.specs.Sound.{AreStatesSound, IsSentState, IsSoundState
 use Rattle.mp_team_states.proofs.Expanding.{expanded_counts}
 use Rattle.mp_team_states.proofs.GoodStates.{tells_of_entry}
 use Rattle.mp_team_states.proofs.NewEntries.{Comes, IsHeardIn, IsLedIn, entry_comes}
-use Rattle.mp_team_states.proofs.Reached.{HasIt, entry_in, has_it}
+use Rattle.mp_team_states.proofs.ReachedEntries.{HasIt, entry_in, has_it}
 use Rattle.mp_team_states.proofs.StepsSound.{agent_of_task, task_at}
 use Rattle.mp_team_states.proofs.WorldsGrow.{search_holds}
 

@@ -1,9 +1,8 @@
 -- What the agents have found in the world after a run.
-use Rattle.std.proofs.Common.{◌≡◌, List, Some, None}
+use Rattle.mp_world.proofs.Basics.{◌≡◌, List, Some, None}
 use Rattle.mp_runs.proofs.Runs.{run_keeps}
-use Rattle.mp_task.specs.AgentTask.{AgentTask}
-use Rattle.mp_messages.specs.declared.history.Event.{Event}
 use Rattle.mp_reach.specs.LeadsOn.{IsGoal, IsTeamExploredFor, Known}
+use Rattle.mp_world.specs.AgentWords.{AgentTask, Event}
 use Rattle.mp_world.specs.Events.{after_event, run}
 use Rattle.mp_world.specs.Team.{AreTeamTasks, IsTeam, Team}
 use Rattle.mp_world.specs.Values.{Values}

@@ -1,21 +1,13 @@
 -- What holds in a world of a team whose states are sound, agent by agent.
-use Rattle.std.proofs.Common.{◌≡◌, ℕ, ◌+◌, ◌*◌, ◌<◌, ◌≤◌, ◌^◌, List, length, max, get_or, Option, Some, None, refl, sym, ap, subst, ◌∙◌, arith}
-use Rattle.std.specs.Prelude.{Contains, IfSome, IsSomeAnd, option_map, slice_get}
-use Rattle.std.proofs.lemmas.Option.{get_or_from_slice_get, none-some, same_Some, slice_get-get_or, slice_get_within}
-use Rattle.mp_task.specs.AgentTask.{AgentTask}
-use Rattle.mp_task.specs.Plan.{IsJointState, private_of, task_of}
-use Rattle.mp_messages.specs.declared.message.State.{State}
-use Rattle.mp_store.specs.declared.entry.Entry.{Entry}
-use Rattle.mp_store.specs.declared.entry.Mark.TheVariants.{Replaced}
-use Rattle.mp_store.specs.Laws.{IsSound}
-use Rattle.mp_store.specs.Minima.{best}
-use Rattle.mp_store.specs.Record.{Record}
-use Rattle.mp_search.specs.AgentState.{AgentState, same_state}
-use Rattle.mp_search.specs.Offering.{own_value}
+use Rattle.mp_world.proofs.Basics.{◌≡◌, ℕ, ◌+◌, ◌*◌, ◌<◌, ◌≤◌, ◌^◌, List, length, get_or, Option, Some, None, refl, sym, ap, subst, ◌∙◌, arith, Contains, IfSome, IsSomeAnd, option_map, slice_get, get_or_from_slice_get, none-some, same_Some, slice_get-get_or}
+use Rattle.mp_world.proofs.Basics.{slice_get_within}
+use Rattle.std.proofs.Common.{max}
+use Rattle.mp_task.specs.Plan.{IsJointState}
 use Rattle.mp_search.proofs.KeyedStates.{Decides-state, all_get}
-use Rattle.mp_machine.specs.AgentRecord.{AgentRecord}
 use Rattle.mp_reach.specs.Explored.{HasLiveEntry}
 use Rattle.mp_reach.specs.LeadsOn.{IsGoal, IsTeamBoundFor, IsTeamHopelessFor, Known}
+use Rattle.mp_world.specs.AgentWords.{AgentTask, private_of, task_of, State, AgentRecord}
+use Rattle.mp_world.specs.SearchWords.{Entry, Replaced, IsSound, best, Record, AgentState, same_state, own_value}
 use Rattle.mp_world.specs.Joint.{joint, joint_told}
 use Rattle.mp_world.specs.Team.{AreTeamTasks}
 use Rattle.mp_world.specs.Values.{Values}
@@ -26,7 +18,7 @@ use Rattle.mp_team_states.specs.Room.{AreSmall, HasSmallValues, expanded_by_all}
 use Rattle.mp_team_states.specs.Sent.{IsSentIn}
 use Rattle.mp_team_states.specs.Sound.{AreStatesSound, IsSoundState, IsStateOf}
 use Rattle.mp_team_states.proofs.GoodStates.{known_is_joint, own_facts, tells_of_entry}
-use Rattle.mp_team_states.proofs.Reached.{entry_in}
+use Rattle.mp_team_states.proofs.ReachedEntries.{entry_in}
 use Rattle.mp_team_states.proofs.RoomCounts.{few_expansions}
 use Rattle.mp_team_states.proofs.RoomLemmas.{sent_small}
 use Rattle.mp_team_states.proofs.StepsSound.{agent_of_task, agent_sound, at_me, task_at}

@@ -1,26 +1,13 @@
 -- At the start each agent's entry is that of the joint start.
-use Rattle.std.proofs.Common.{◌≡◌, ℕ, zero, suc, ◌+◌, ◌-◌, ◌<◌, ◌⊎◌, Bool, true, false, cond, List, [], length, map, get_or, Option, Some, None, refl, sym, ap, subst, ◌∙◌, arith, inl, inr}
-use Rattle.std.specs.Prelude.{Contains, option_map, slice_get, ◌==◌}
+use Rattle.mp_world.proofs.Basics.{◌≡◌, ℕ, zero, suc, ◌+◌, ◌-◌, ◌<◌, ◌⊎◌, Bool, true, false, cond, List, [], length, map, get_or, Option, Some, None, refl, sym, ap, subst, ◌∙◌, arith, inl, inr, Contains, option_map, slice_get, ◌==◌, enumerate_from, eqb-false}
+use Rattle.mp_world.proofs.Basics.{eqb-true, get_or-map, length-map, same_lists, length-enumerate_from, All-contains, get_or_from_slice_get, none-some, same_Some, slice_get-map, slice_get_within}
 use Rattle.std.specs.FinSet as set
-use Rattle.std.specs.List.{enumerate_from}
-use Rattle.std.proofs.lemmas.Bool.{eqb-false, eqb-true}
-use Rattle.std.proofs.lemmas.List.{get_or-map, length-map, same_lists}
-use Rattle.std.proofs.lemmas.List.FromFn.{length-enumerate_from}
-use Rattle.std.proofs.lemmas.List.Elements.{All-contains}
-use Rattle.std.proofs.lemmas.Option.{get_or_from_slice_get, none-some, same_Some, slice_get-map, slice_get_within}
 use Rattle.mp_runs.proofs.Runs.{run-none}
-use Rattle.mp_sets.specs.declared.tag.Tag.{Tag}
-use Rattle.mp_task.specs.Agreement.{FitsTeam}
-use Rattle.mp_task.specs.AgentTask.{AgentTask}
-use Rattle.mp_task.specs.Limits.{IsWithinLimits}
-use Rattle.mp_task.specs.Plan.{JointState, after_step, joint_start, public_start, task_of}
+use Rattle.mp_task.specs.Plan.{public_start}
 use Rattle.mp_task.proofs.Agreeing.{Contains-slice_get, number_at, public_start-at, same_number}
-use Rattle.mp_store.specs.declared.entry.Entry.{Entry}
-use Rattle.mp_store.specs.Record.{empty}
-use Rattle.mp_search.specs.AgentState.{AgentState, no_tag, start_state, start_tag}
-use Rattle.mp_search.specs.Offering.{start_record}
-use Rattle.mp_search.specs.Search.{tokens_given}
-use Rattle.mp_machine.specs.AgentRecord.{AgentRecord, new_record}
+use Rattle.mp_search.specs.AgentState.{start_tag}
+use Rattle.mp_world.specs.AgentWords.{FitsTeam, AgentTask, IsWithinLimits, JointState, after_step, joint_start, task_of, AgentRecord, new_record}
+use Rattle.mp_world.specs.SearchWords.{Tag, Entry, empty, AgentState, no_tag, start_state, start_record, tokens_given}
 use Rattle.mp_world.specs.Team.{IsTeam, Team}
 use Rattle.mp_world.specs.World.{World, agent_at, start_world}
 use Rattle.mp_world.specs.Joint.{joint, private_facts, sets_of, told_by}
@@ -29,7 +16,7 @@ use Rattle.mp_team_states.specs.Paths.IsPath.{at_root}
 use Rattle.mp_team_states.proofs.Entries.{IsNew, IsOld, changes_entry}
 use Rattle.mp_team_states.proofs.Expanding.{IsFirst, start_changes}
 use Rattle.mp_team_states.proofs.JointStates.{read_place, tag_at}
-use Rattle.mp_team_states.proofs.Reached.{has_it}
+use Rattle.mp_team_states.proofs.ReachedEntries.{has_it}
 use Rattle.mp_team_states.proofs.Received.{tag_other}
 use Rattle.mp_team_states.proofs.StartSound.{first_given, some_item, state, there}
 use Rattle.mp_team_states.proofs.WorldsGrow.{sets_at}

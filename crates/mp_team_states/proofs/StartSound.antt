@@ -1,30 +1,18 @@
 -- What is so of states at the start.
-use Rattle.std.proofs.Common.{◌≡◌, ℕ, zero, suc, ◌-◌, ◌<◌, ◌≤◌, ◌^◌, ◌⊎◌, Bool, false, List, [], ◌∷◌, length, map, get_or, Option, Some, refl, sym, ap, subst, ◌∙◌, arith, inl, inr}
-use Rattle.std.specs.Prelude.{Contains, IfSome, IsSomeAnd, option_map, replicate, slice_get}
+use Rattle.mp_world.proofs.Basics.{◌≡◌, ℕ, zero, suc, ◌-◌, ◌<◌, ◌≤◌, ◌^◌, ◌⊎◌, Bool, false, List, [], ◌∷◌, length, map, get_or, Option, Some, refl, sym, ap, subst, ◌∙◌, arith, inl, inr, Contains, IfSome, IsSomeAnd, option_map, replicate, slice_get, get_or-map}
+use Rattle.mp_world.proofs.Basics.{length-append, length-map, length-set, All-contains, All-map, All-nil, All-set, get_or_from_slice_get, none-some, slice_get-map}
 use Rattle.std.specs.FinSet as set
 use Rattle.std.proofs.Common.{lit<}
-use Rattle.std.proofs.lemmas.List.{get_or-map, get_or_append_left, length-append, length-map, length-set}
-use Rattle.std.proofs.lemmas.List.Elements.{All-contains, All-map, All-nil, All-set}
-use Rattle.std.proofs.lemmas.Option.{get_or_from_slice_get, none-some, slice_get-map}
+use Rattle.std.proofs.lemmas.List.{get_or_append_left}
 use Rattle.mp_list.proofs.Members.{no_member}
-use Rattle.mp_sets.specs.declared.tag.Tag.{Tag}
-use Rattle.mp_sets.specs.Numbers.{Numbers}
-use Rattle.mp_task.specs.Agreement.{FitsTeam}
-use Rattle.mp_task.specs.AgentTask.{AgentTask}
-use Rattle.mp_task.specs.Limits.{IsWithinLimits}
-use Rattle.mp_task.specs.Met.{is_met, met_at_start}
-use Rattle.mp_task.specs.Plan.{task_of}
+use Rattle.mp_task.specs.Met.{met_at_start}
 use Rattle.mp_task.proofs.Agreeing.{Contains-slice_get}
-use Rattle.mp_store.specs.declared.entry.Entry.{Entry}
-use Rattle.mp_store.specs.declared.entry.Origin.TheVariants.{Root}
-use Rattle.mp_store.specs.Record.{Record, empty}
 use Rattle.mp_store.proofs.Sound.{empty_sound}
-use Rattle.mp_search.specs.AgentState.{AgentState, no_tag, same_state, start_state, start_tag}
-use Rattle.mp_search.specs.Offering.{own_value, start_record}
-use Rattle.mp_search.specs.Search.{sent_sets, tokens_given}
-use Rattle.mp_machine.specs.AgentRecord.{AgentRecord, new_record}
+use Rattle.mp_search.specs.AgentState.{start_tag}
 use Rattle.mp_machine.specs.MemberFields.{EntryFits}
 use Rattle.mp_machine.proofs.EntriesFit.{FitsUpTo, up_offered_at}
+use Rattle.mp_world.specs.AgentWords.{FitsTeam, AgentTask, IsWithinLimits, is_met, task_of, AgentRecord, new_record}
+use Rattle.mp_world.specs.SearchWords.{Tag, Numbers, Entry, Root, Record, empty, AgentState, no_tag, same_state, start_state, own_value, start_record, sent_sets, tokens_given}
 use Rattle.mp_world.specs.Team.{IsTeam, Team}
 use Rattle.mp_world.specs.World.{World, agent_at, start_world, under_way}
 use Rattle.mp_world.specs.Joint.{sets_of, told_by}

@@ -1,30 +1,13 @@
 -- At an event what is reached stays reached, and what is sent is reached.
-use Rattle.std.proofs.Common.{◌≡◌, ℕ, ◌+◌, ◌<◌, ◌≤◌, ◌^◌, ◌⊎◌, List, length, Option, Some, None, refl, sym, ap, subst, ◌∙◌, arith, inl, inr}
-use Rattle.std.specs.Prelude.{Contains, IsSomeAnd, Ok, slice_get}
-use Rattle.std.proofs.lemmas.Bool.{cases_eq}
-use Rattle.std.proofs.lemmas.List.Elements.{All-contains}
-use Rattle.std.proofs.lemmas.Option.{same_Some}
-use Rattle.mp_task.specs.AgentTask.{AgentTask}
-use Rattle.mp_task.specs.Plan.{JointState, task_of}
+use Rattle.mp_world.proofs.Basics.{◌≡◌, ℕ, ◌+◌, ◌<◌, ◌≤◌, ◌^◌, ◌⊎◌, List, length, Option, Some, None, refl, sym, ap, subst, ◌∙◌, arith, inl, inr, Contains, IsSomeAnd, Ok, slice_get, cases_eq, All-contains, same_Some}
 use Rattle.mp_task.proofs.Agreeing.{Contains-slice_get}
-use Rattle.mp_messages.specs.declared.history.Event.{Event}
-use Rattle.mp_messages.specs.declared.history.Event.TheVariants.{Take}
 use Rattle.mp_messages.specs.declared.message.Message.TheVariants as kinds
-use Rattle.mp_messages.specs.declared.message.State.{State}
-use Rattle.mp_messages.specs.Reading.{message_of}
-use Rattle.mp_messages.specs.Spelling.{spelling}
-use Rattle.mp_store.specs.declared.entry.Entry.{Entry}
-use Rattle.mp_store.specs.Record.{Record}
-use Rattle.mp_search.specs.AgentState.{AgentState}
-use Rattle.mp_search.specs.Concern.{receivers}
-use Rattle.mp_search.specs.Receipt.{greater_value, received, state_of}
-use Rattle.mp_machine.specs.AgentRecord.{AgentRecord}
-use Rattle.mp_machine.specs.Outgoing.{Step, without_messages}
-use Rattle.mp_machine.specs.Taking.{took, with_state}
 use Rattle.mp_reach.specs.Explored.{HasEntry, HasMessage}
 use Rattle.mp_reach.specs.Found.{Entry as Seen, Message as Sent}
 use Rattle.mp_reach.proofs.Changing.{reached_at_more}
 use Rattle.mp_reach.specs.LeadsOn.{IsTeamExploredFor, IsTeamHopelessFor, Known, LeadsOn, TeamReachesFor}
+use Rattle.mp_world.specs.AgentWords.{AgentTask, JointState, task_of, Event, Take, State, message_of, spelling, AgentRecord, Step, without_messages, took, with_state}
+use Rattle.mp_world.specs.SearchWords.{Entry, Record, AgentState, receivers, greater_value, received, state_of}
 use Rattle.mp_world.specs.Events.{agent_of, taken, without_taken}
 use Rattle.mp_world.specs.Joint.{joint, joint_told}
 use Rattle.mp_world.specs.Steps.{IsStepOf}

@@ -1,34 +1,12 @@
 -- What an event does to what its agent keeps and sent, and to the messages under way.
-use Rattle.std.proofs.Common.{◌≡◌, ℕ, ◌+◌, ◌<◌, ◌^◌, ◌⊎◌, Bool, true, List, [], ◌∷◌, map, Option, Some, refl, sym, ap, subst, ◌∙◌, inl, inr}
-use Rattle.std.specs.Prelude.{Contains, drop, slice_get, slice_index_or, ◌==◌, if◌then◌else◌}
-use Rattle.std.specs.List.{filter, flat_map}
-use Rattle.std.proofs.lemmas.Bool.{and_parts, eq-eqb}
-use Rattle.std.proofs.lemmas.List.Elements.{All-contains, Contains-append_left, Contains-append_right}
+use Rattle.mp_world.proofs.Basics.{◌≡◌, ℕ, ◌+◌, ◌<◌, ◌^◌, ◌⊎◌, Bool, true, List, [], ◌∷◌, map, Option, Some, refl, sym, ap, subst, ◌∙◌, inl, inr, Contains, drop, slice_get, slice_index_or, ◌==◌, if◌then◌else◌, filter, flat_map, and_parts, eq-eqb, All-contains}
+use Rattle.mp_world.proofs.Basics.{Contains-append_left, Contains-append_right}
 use Rattle.mp_list.proofs.Members.{contains_cases, no_member}
-use Rattle.mp_sets.specs.Numbers.{Numbers}
-use Rattle.mp_task.specs.declared.act.Act.{Act}
-use Rattle.mp_task.specs.AgentTask.{AgentTask}
-use Rattle.mp_task.specs.Limits.{ActFits, IsWithinLimits}
-use Rattle.mp_messages.specs.declared.history.Event.{Event}
-use Rattle.mp_messages.specs.declared.history.Event.TheVariants.{Expand, Take}
-use Rattle.mp_messages.specs.declared.message.Message.{Message}
 use Rattle.mp_messages.specs.declared.message.Message.TheVariants as kinds
-use Rattle.mp_messages.specs.Spelling.{spelling}
-use Rattle.mp_store.specs.declared.entry.Entry.{Entry}
 use Rattle.mp_store.proofs.RankLemmas.{member_kept}
-use Rattle.mp_search.specs.declared.answer.Sending.{Sending}
-use Rattle.mp_search.specs.AgentState.{AgentState, successor}
-use Rattle.mp_search.specs.Expansion.{expanded}
-use Rattle.mp_search.specs.Offering.{own_value}
-use Rattle.mp_search.specs.Receipt.{IsStateFor, received}
-use Rattle.mp_search.specs.Search.{SearchRecord, may_expand}
-use Rattle.mp_machine.specs.declared.event.Local.{Local}
 use Rattle.mp_machine.specs.declared.event.Local.TheVariants as locals
-use Rattle.mp_machine.specs.declared.outgoing.Out.{Out}
-use Rattle.mp_machine.specs.AgentRecord.{AgentRecord, is_going}
-use Rattle.mp_machine.specs.LocalStep.{may, outgoing_of, with_search}
-use Rattle.mp_machine.specs.Outgoing.{Step, in_bytes}
-use Rattle.mp_machine.specs.Taking.{with_state}
+use Rattle.mp_world.specs.AgentWords.{Act, AgentTask, ActFits, IsWithinLimits, Event, Expand, Take, Message, spelling, Local, Out, AgentRecord, is_going, may, outgoing_of, with_search, Step, in_bytes, with_state}
+use Rattle.mp_world.specs.SearchWords.{Numbers, Entry, Sending, AgentState, successor, expanded, own_value, IsStateFor, received, SearchRecord, may_expand}
 use Rattle.mp_world.specs.Events.{agent_of, local_of, taken, without_taken}
 use Rattle.mp_world.specs.Steps.{IsStepOf, sent_between, sent_to}
 use Rattle.mp_world.specs.Team.{AreTeamTasks}

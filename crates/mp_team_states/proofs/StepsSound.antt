@@ -1,31 +1,16 @@
 -- What is so of the states that agents keep and send stays so at each event.
-use Rattle.std.proofs.Common.{◌≡◌, ◌≢◌, ℕ, zero, suc, ◌<◌, ◌⊎◌, Bool, true, false, cond, eqb, List, [], ◌∷◌, ◌++◌, length, map, Option, Some, None, All, refl, sym, ap, subst, ◌∙◌, arith, inl, inr}
-use Rattle.std.specs.Prelude.{Contains, IsSomeAnd, Ok, drop, not, option_map, slice_get, ◌==◌, if◌then◌else◌}
-use Rattle.std.specs.List.{filter}
-use Rattle.std.proofs.lemmas.Bool.{and_parts, cases_eq, eqb-true}
-use Rattle.std.proofs.lemmas.List.Elements.{All-contains, All-filter, All-map, All-weaker, Contains-append_cases, Contains-get_or}
-use Rattle.std.proofs.lemmas.Option.{cond_some, none-some, same_Some, slice_get-map, slice_get_within}
+use Rattle.mp_world.proofs.Basics.{◌≡◌, ◌≢◌, ℕ, zero, suc, ◌<◌, ◌⊎◌, Bool, true, false, cond, eqb, List, [], ◌∷◌, ◌++◌, length, map, Option, Some, None, All, refl, sym, ap, subst, ◌∙◌, arith, inl, inr, Contains, IsSomeAnd, Ok, drop, not, option_map, slice_get, ◌==◌}
+use Rattle.mp_world.proofs.Basics.{if◌then◌else◌, filter, and_parts, cases_eq, eqb-true, All-contains, All-filter, All-map, All-weaker, Contains-append_cases, Contains-get_or, none-some, same_Some, slice_get-map, slice_get_within}
+use Rattle.std.proofs.lemmas.Option.{cond_some}
 use Rattle.mp_list.proofs.Members.{contains_tail, no_member}
-use Rattle.mp_sets.specs.Numbers.{Numbers}
-use Rattle.mp_task.specs.AgentTask.{AgentTask}
-use Rattle.mp_task.specs.Limits.{IsWithinLimits}
-use Rattle.mp_task.specs.Plan.{task_of}
-use Rattle.mp_messages.specs.declared.history.Event.{Event}
-use Rattle.mp_messages.specs.declared.history.Event.TheVariants.{Expand, Take, Start}
-use Rattle.mp_messages.specs.declared.message.Message.{Message}
 use Rattle.mp_messages.specs.declared.message.Message.TheVariants as kinds
-use Rattle.mp_messages.specs.declared.message.State.{State}
-use Rattle.mp_messages.specs.Reading.{◌>>=◌, as_kind, ending_at, fields_at, findings_at, message_at, message_of, number_at, trace_at}
-use Rattle.mp_messages.specs.Spelling.{Fits, IfState, ending, findings, number, spelling}
+use Rattle.mp_messages.specs.Reading.{ending_at, findings_at}
+use Rattle.mp_messages.specs.Spelling.{ending, findings}
 use Rattle.mp_messages.proofs.Messages.{all_again}
-use Rattle.mp_search.specs.Receipt.{IsStateFor}
-use Rattle.mp_search.specs.Search.{may_expand}
-use Rattle.mp_machine.specs.declared.event.Local.{Local}
 use Rattle.mp_machine.specs.declared.event.Local.TheVariants as locals
-use Rattle.mp_machine.specs.declared.outgoing.Out.{Out}
-use Rattle.mp_machine.specs.AgentRecord.{AgentRecord, is_going}
-use Rattle.mp_machine.specs.LocalStep.{local, may}
-use Rattle.mp_machine.specs.Outgoing.{Outgoing, Step, in_bytes}
+use Rattle.mp_world.specs.AgentWords.{AgentTask, IsWithinLimits, task_of, Event, Expand, Take, Start, Message, State, ◌>>=◌, as_kind, fields_at, message_at, message_of, number_at, trace_at, Fits, IfState, number, spelling, Local, Out, AgentRecord, is_going, local, may}
+use Rattle.mp_world.specs.AgentWords.{Outgoing, Step, in_bytes}
+use Rattle.mp_world.specs.SearchWords.{Numbers, IsStateFor, may_expand}
 use Rattle.mp_world.specs.Team.{AreTeamTasks}
 use Rattle.mp_world.specs.Values.{Values}
 use Rattle.mp_world.specs.World.{IsAgent, IsTeamWorld, World, agent_at, under_way}

@@ -1,21 +1,12 @@
 -- What an agent has expanded stays expanded at each event.
-use Rattle.std.proofs.Common.{◌≡◌, ℕ, ◌⊎◌, List, Option, sym, ap, subst, ◌∙◌, inl, inr}
-use Rattle.std.specs.Prelude.{Ok}
-use Rattle.std.proofs.lemmas.Bool.{cases_eq}
-use Rattle.std.proofs.lemmas.Option.{same_Some}
-use Rattle.mp_sets.specs.Numbers.{Numbers}
-use Rattle.mp_messages.specs.declared.history.Event.{Event}
-use Rattle.mp_search.specs.Search.{SearchRecord}
-use Rattle.mp_machine.specs.declared.event.Local.{Local}
-use Rattle.mp_machine.specs.AgentRecord.{AgentRecord}
-use Rattle.mp_machine.specs.LocalStep.{local}
-use Rattle.mp_machine.specs.Outgoing.{Step}
-use Rattle.mp_machine.specs.Taking.{with_state}
+use Rattle.mp_world.proofs.Basics.{◌≡◌, ℕ, ◌⊎◌, List, Option, sym, ap, subst, ◌∙◌, inl, inr, Ok, cases_eq, same_Some}
+use Rattle.mp_world.specs.AgentWords.{Event, Local, AgentRecord, local, Step, with_state}
+use Rattle.mp_world.specs.SearchWords.{Numbers, SearchRecord}
 use Rattle.mp_world.specs.Events.{agent_of, local_of, taken}
 use Rattle.mp_world.specs.Steps.{IsStepOf}
 use Rattle.mp_world.specs.Values.{Values}
 use Rattle.mp_world.specs.World.{World, agent_at}
-use Rattle.mp_team_states.proofs.Reached.{HasIt, entry_in, has_it}
+use Rattle.mp_team_states.proofs.ReachedEntries.{HasIt, entry_in, has_it}
 use Rattle.mp_team_states.proofs.WorldsGrow.{search_holds}
 use Rattle.mp_team_states.specs.Expansions.{IsExpandedAt}
 use Rattle.mp_team_states.proofs.Continuing.{WasExpanded}

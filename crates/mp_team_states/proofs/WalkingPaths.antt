@@ -1,26 +1,15 @@
 -- A walk back within one agent goes along the path.
-use Rattle.std.proofs.Common.{◌≡◌, ℕ, zero, suc, ◌+◌, ◌<◌, List, [], ◌∷◌, ◌++◌, length, Option, Some, refl, sym, ap, subst, ◌∙◌, append_assoc, append-nil, arith}
-use Rattle.std.specs.Prelude.{slice_get}
-use Rattle.std.specs.Option.{option_map_or}
-use Rattle.std.proofs.lemmas.List.{length-append}
-use Rattle.std.proofs.lemmas.List.Elements.{All-nil, All-push}
-use Rattle.std.proofs.lemmas.Option.{same_Some}
-use Rattle.mp_task.specs.Plan.{TaskStep}
-use Rattle.mp_store.specs.declared.entry.Entry.{Entry}
-use Rattle.mp_store.specs.declared.entry.Origin.{Origin}
-use Rattle.mp_store.specs.declared.entry.Origin.TheVariants.{Root, Own, From}
-use Rattle.mp_search.specs.AgentState.{AgentState}
-use Rattle.mp_trail.specs.declared.steps.Noted.{Noted}
-use Rattle.mp_trail.specs.declared.steps.Walked.{Walked}
-use Rattle.mp_trail.specs.Walk.{Walk, origin_of, walk_from, walk_within}
-use Rattle.mp_machine.specs.AgentRecord.{AgentRecord}
+use Rattle.mp_world.proofs.Basics.{◌≡◌, ℕ, zero, suc, ◌+◌, ◌<◌, List, [], ◌∷◌, ◌++◌, length, Option, Some, refl, sym, ap, subst, ◌∙◌, append_assoc, append-nil, arith, slice_get, option_map_or, length-append, All-nil, All-push, same_Some}
+use Rattle.mp_trail.specs.Walk.{Walk}
+use Rattle.mp_world.specs.AgentWords.{TaskStep, Noted, Walked, origin_of, walk_from, walk_within, AgentRecord}
+use Rattle.mp_world.specs.SearchWords.{Entry, Origin, Root, Own, From, AgentState}
 use Rattle.mp_world.specs.World.{World, agent_at}
 use Rattle.mp_team_states.specs.Further.{HaveSoundRecords}
 use Rattle.mp_team_states.specs.Paths.{IsEntryAt, IsPath}
 use Rattle.mp_team_states.specs.Paths.IsPath.{at_root, by_action, by_message}
 use Rattle.mp_team_states.specs.Walks.{EndsRightly, WalksAlong, noted_of}
 use Rattle.mp_team_states.proofs.Messages.{parent_earlier}
-use Rattle.mp_team_states.proofs.Reached.{has_it}
+use Rattle.mp_team_states.proofs.ReachedEntries.{has_it}
 
 -- one step more at the end
 noted_more : (back : ℕ) (steps : List TaskStep) (step : TaskStep) → record { action = step.action; back = back } ∷ noted_of (back + 1) steps ≡ noted_of back (steps ++ step ∷ [])

@@ -1,33 +1,14 @@
 -- An event leaves what agents told, know and sent as it is: what they keep and send only grows.
-use Rattle.std.proofs.Common.{◌≡◌, ℕ, suc, ◌+◌, ◌-◌, ◌<◌, ◌⊎◌, Bool, true, false, cond, List, [], ◌∷◌, length, map, get_or, Option, Some, None, refl, sym, ap, subst, ◌∙◌, arith, inl, inr}
-use Rattle.std.specs.Prelude.{IfSome, IsSomeAnd, Ok, Err, not, ◌==◌}
+use Rattle.mp_world.proofs.Basics.{◌≡◌, ℕ, suc, ◌+◌, ◌-◌, ◌<◌, ◌⊎◌, Bool, true, false, cond, List, [], ◌∷◌, length, map, get_or, Option, Some, None, refl, sym, ap, subst, ◌∙◌, arith, inl, inr, IfSome, IsSomeAnd, Ok, Err, not, ◌==◌, enumerate_from, option_map_or}
+use Rattle.mp_world.proofs.Basics.{cases_eq, eqb-false, get_or_default, length-append, same_Some}
 use Rattle.std.specs.FinSet as set
-use Rattle.std.specs.List.{enumerate_from}
-use Rattle.std.specs.Option.{option_map_or}
-use Rattle.std.proofs.lemmas.Bool.{cases_eq, eqb-false}
-use Rattle.std.proofs.lemmas.List.{get_or_append_left, get_or_default, length-append}
-use Rattle.std.proofs.lemmas.Option.{same_Some}
-use Rattle.mp_sets.specs.declared.tag.Tag.{Tag}
-use Rattle.mp_sets.specs.Numbers.{Numbers}
-use Rattle.mp_task.specs.AgentTask.{AgentTask}
-use Rattle.mp_task.specs.Met.{is_met}
-use Rattle.mp_messages.specs.declared.history.Event.{Event}
-use Rattle.mp_messages.specs.declared.message.Message.{Message}
+use Rattle.std.proofs.lemmas.List.{get_or_append_left}
 use Rattle.mp_messages.specs.declared.message.Message.TheVariants as kinds
-use Rattle.mp_messages.specs.declared.message.State.{State}
-use Rattle.mp_messages.specs.Reading.{message_of}
-use Rattle.mp_search.specs.AgentState.{AgentState, no_tag}
-use Rattle.mp_search.specs.Expansion.{expanded}
-use Rattle.mp_search.specs.Receipt.{is_byte_right, is_token_given, received}
-use Rattle.mp_search.specs.Search.{SearchRecord, tokens_given}
-use Rattle.mp_machine.specs.declared.event.Local.{Local}
 use Rattle.mp_machine.specs.declared.event.Local.TheVariants as locals
-use Rattle.mp_machine.specs.declared.refusal.BadKind.TheVariants.{NotASpelling, UnknownToken, WrongByte}
-use Rattle.mp_machine.specs.AgentRecord.{AgentRecord}
-use Rattle.mp_machine.specs.LocalStep.{local, with_search}
-use Rattle.mp_machine.specs.Outgoing.{Step, without_messages}
-use Rattle.mp_machine.specs.Snapshots.{started}
-use Rattle.mp_machine.specs.Taking.{took, took_message, took_state, unless_bad, with_state}
+use Rattle.mp_machine.specs.declared.refusal.BadKind.TheVariants.{NotASpelling}
+use Rattle.mp_machine.specs.Taking.{took_state}
+use Rattle.mp_world.specs.AgentWords.{AgentTask, is_met, Event, Message, State, message_of, Local, UnknownToken, WrongByte, AgentRecord, local, with_search, Step, without_messages, started, took, took_message, unless_bad, with_state}
+use Rattle.mp_world.specs.SearchWords.{Tag, Numbers, AgentState, no_tag, expanded, is_byte_right, is_token_given, received, SearchRecord, tokens_given}
 use Rattle.mp_world.specs.Values.{Values}
 use Rattle.mp_world.specs.World.{World, agent_at}
 use Rattle.mp_world.proofs.LocalCases.{event_holds, good_step}

@@ -1,32 +1,20 @@
 -- Which entry is expanded, and that it is worth it.
-use Rattle.std.proofs.Common.{◌≡◌, ℕ, ◌<◌, ◌≤◌, ◌⊎◌, Bool, true, cond, eqb, List, get_or, Option, Some, None, refl, sym, ap, subst, ◌∙◌, arith, inl, inr}
-use Rattle.std.specs.Prelude.{Contains, Ok, nat_lt, not, option_map, slice_get}
+use Rattle.mp_world.proofs.Basics.{◌≡◌, ℕ, ◌<◌, ◌≤◌, ◌⊎◌, Bool, true, cond, eqb, List, get_or, Option, Some, None, refl, sym, ap, subst, ◌∙◌, arith, inl, inr, Contains, Ok, nat_lt, not, option_map, slice_get, and_parts, cases_lt, false≢true, lt-ltb, ltb-true}
+use Rattle.mp_world.proofs.Basics.{get_or_from_slice_get, same_Some, slice_get-get_or, slice_get_within}
 use Rattle.std.specs.Ordering.{is_lt, nat_cmp, ordering_then}
 use Rattle.std.specs.Cmp.{nat_cmp_total, on_total, then_total}
 use Rattle.std.specs.declared.cmp.Ordering.TheVariants.{Less, Equal, Greater}
-use Rattle.std.proofs.lemmas.Bool.{and_parts, cases_lt, cases_order, false≢true, lt-ltb, ltb-true}
-use Rattle.std.proofs.lemmas.Option.{get_or_from_slice_get, same_Some, slice_get-get_or, slice_get_within}
+use Rattle.std.proofs.lemmas.Bool.{cases_order}
 use Rattle.mp_list.specs.First.{IsStrictOrder, leftmost}
 use Rattle.mp_list.proofs.FirstLemmas.{found_first, nothing_found}
 use Rattle.mp_list.proofs.Members.{no_member}
 use Rattle.mp_list.proofs.Orders.{strict_from_total}
-use Rattle.mp_task.specs.AgentTask.{AgentTask}
-use Rattle.mp_messages.specs.declared.history.Event.TheVariants.{Expand}
-use Rattle.mp_store.specs.declared.entry.Entry.{Entry}
-use Rattle.mp_store.specs.declared.entry.Mark.{Mark}
-use Rattle.mp_store.specs.declared.entry.Mark.TheVariants.{Open, Expanded, Replaced}
-use Rattle.mp_store.specs.Laws.{IsSound}
-use Rattle.mp_store.specs.Minima.{Numbered, first_open, is_cheaper, is_nearer, least_open, nearer_cmp, those}
-use Rattle.mp_store.specs.Record.{Record, f, is_open}
+use Rattle.mp_store.specs.Minima.{nearer_cmp}
 use Rattle.mp_store.proofs.RankLemmas.{cheaper_less, cheaper_strict, those_have, those_hold}
-use Rattle.mp_search.specs.declared.answer.Sending.{Sending}
-use Rattle.mp_search.specs.AgentState.{AgentState, same_state}
-use Rattle.mp_search.specs.Expansion.{expanded}
-use Rattle.mp_search.specs.Search.{SearchRecord, bound, is_below_bound, is_open_below, is_spent, may_expand}
 use Rattle.mp_search.proofs.KeyedStates.{Decides-state}
-use Rattle.mp_machine.specs.AgentRecord.{AgentRecord, is_going}
-use Rattle.mp_machine.specs.LocalStep.{with_search}
-use Rattle.mp_machine.specs.Outgoing.{Step}
+use Rattle.mp_world.specs.AgentWords.{AgentTask, Expand, AgentRecord, is_going, with_search, Step}
+use Rattle.mp_world.specs.SearchWords.{Entry, Mark, Open, Expanded, Replaced, IsSound, Numbered, first_open, is_cheaper, is_nearer, least_open, those, Record, f, is_open, Sending, AgentState, same_state, expanded, SearchRecord, bound, is_below_bound, is_open_below}
+use Rattle.mp_world.specs.SearchWords.{is_spent, may_expand}
 use Rattle.mp_world.specs.Steps.{IsStepOf}
 use Rattle.mp_world.specs.Team.{AreTeamTasks}
 use Rattle.mp_world.specs.Values.{Values}
@@ -34,7 +22,7 @@ use Rattle.mp_world.specs.World.{IsTeamWorld, World}
 use Rattle.mp_team_states.specs.Paths.{IsEntryAt}
 use Rattle.mp_team_states.specs.Sound.{AreStatesSound}
 use Rattle.mp_team_states.proofs.GoodStates.{equal_if_joint}
-use Rattle.mp_team_states.proofs.Reached.{entry_in, has_it}
+use Rattle.mp_team_states.proofs.ReachedEntries.{entry_in, has_it}
 use Rattle.mp_team_states.proofs.StepsSound.{agent_sound}
 use Rattle.mp_team_states.specs.Expansions.{ExpandsOne, IsExpandedAt}
 use Rattle.mp_team_states.proofs.Expanded.{one_expanded}

@@ -1,16 +1,8 @@
 -- The entries of an agent: its messages go to other agents of its team.
-use Rattle.std.proofs.Common.{◌≡◌, ◌≤◌, ℕ, true, List, [], ◌∷◌, map, length, Option, refl, subst, arith}
-use Rattle.std.specs.Prelude.{All, Contains, Ok}
-use Rattle.std.proofs.lemmas.List.Elements.{All-append, All-cons, All-contains, All-head, All-nil, All-tail, All-weaker}
-use Rattle.mp_sets.specs.Numbers.{Numbers}
-use Rattle.mp_task.specs.AgentTask.{AgentTask}
+use Rattle.mp_world.proofs.Basics.{◌≡◌, ◌≤◌, ℕ, true, List, [], ◌∷◌, map, length, Option, refl, subst, arith, All, Contains, Ok, All-append, All-cons, All-contains, All-head, All-nil, All-tail, All-weaker}
 use Rattle.mp_messages.specs.declared.history.Entry.{Entry}
-use Rattle.mp_messages.specs.declared.history.Event.{Event}
-use Rattle.mp_messages.specs.declared.history.Event.TheVariants.{Expand, Take, Start}
-use Rattle.mp_messages.specs.History.{part}
-use Rattle.mp_machine.specs.AgentRecord.{AgentRecord, new_record}
-use Rattle.mp_machine.specs.LocalStep.{local, may}
-use Rattle.mp_machine.specs.Outgoing.{Outgoing, Step, in_bytes}
+use Rattle.mp_world.specs.AgentWords.{AgentTask, Event, Expand, Take, Start, part, AgentRecord, new_record, local, may, Outgoing, Step, in_bytes}
+use Rattle.mp_world.specs.SearchWords.{Numbers}
 use Rattle.mp_world.specs.Events.{agent_of, local_of, sent_in}
 use Rattle.mp_world.specs.Logs.{HasDone, IsLog, entries_of, entry_of, put_by}
 use Rattle.mp_world.specs.Logs.HasDone.{nothing, onward}

@@ -1,10 +1,6 @@
 -- Round robin takes few rounds in all: while the search goes on, and from then on until all have ended.
-use Rattle.std.proofs.Common.{◌≡◌, ℕ, zero, suc, ◌+◌, ◌*◌, ◌≤◌, ◌<◌, ◌^◌, Bool, true, false, length, Option, Some, refl, sym, ap, subst, ◌∙◌, arith, ◌⊎◌, inl, inr}
-use Rattle.std.specs.Prelude.{IfSome}
-use Rattle.std.proofs.lemmas.Bool.{false≢true}
-use Rattle.mp_snapshot.specs.Notes.{Notes}
-use Rattle.mp_machine.specs.AgentRecord.{AgentRecord, given_verdict}
-use Rattle.mp_machine.specs.Verdicts.{is_deciding}
+use Rattle.mp_world.proofs.Basics.{◌≡◌, ℕ, zero, suc, ◌+◌, ◌*◌, ◌≤◌, ◌<◌, ◌^◌, Bool, true, false, length, Option, Some, refl, sym, ap, subst, ◌∙◌, arith, ◌⊎◌, inl, inr, IfSome, false≢true}
+use Rattle.mp_world.specs.AgentWords.{Notes, AgentRecord, given_verdict, is_deciding}
 use Rattle.mp_world.specs.RoundRobin.{is_over}
 use Rattle.mp_world.specs.Team.{IsTeam, Team}
 use Rattle.mp_world.specs.World.{World, agent_at}
@@ -17,7 +13,7 @@ use Rattle.mp_team_verdicts.proofs.Calm.{Reached, goes_reached, rises}
 use Rattle.mp_team_verdicts.proofs.Decided.{few_rounds}
 use Rattle.mp_team_verdicts.proofs.Nearer.{near_round, near_start}
 use Rattle.mp_team_verdicts.proofs.Nearing.{IsNear}
-use Rattle.mp_team_verdicts.proofs.Nearing.IsNear.{asked, chosen, told}
+use Rattle.mp_team_verdicts.proofs.Nearing.IsNear.{asked, chosen, one_ended}
 use Rattle.mp_team_verdicts.proofs.Points.{round_runs}
 use Rattle.mp_team_verdicts.proofs.Stuck.{is_agent, is_first}
 
@@ -46,7 +42,7 @@ module _ (team : Team) (is_team : IsTeam team) (publics : ℕ) (of_team : IsTeam
   -- ---- once the search is decided
 
   none_near : (w : World) → IsNear n publics w 0 → ⊥
-  none_near w (told agent ended some) = omega arith
+  none_near w (one_ended agent ended some) = omega arith
   none_near w (asked from to messages asks some) = omega arith
   none_near w (chosen to pick some) = omega arith
 

@@ -1,23 +1,11 @@
 -- An agent that is alone, with a heuristic that knows nothing, expands each state once at most, so that it is spent only where it may
 -- expand fewer entries than there are states.
-use Rattle.std.proofs.Common.{◌≡◌, ℕ, ◌+◌, ◌-◌, ◌<◌, ◌≤◌, ◌^◌, ◌⊎◌, Bool, true, false, List, [], ◌∷◌, ◌++◌, length, map, Option, Some, refl, sym, ap, subst, ◌∙◌, arith, inl, inr}
-use Rattle.std.specs.Prelude.{Contains, ◌==◌, if◌then◌else◌, slice_get, slice_index_or}
-use Rattle.std.specs.Option.{option_map_or}
-use Rattle.std.proofs.lemmas.Bool.{cases_lt, eqb-true, false≢true}
-use Rattle.std.proofs.lemmas.List.{length-map}
-use Rattle.std.proofs.lemmas.Option.{get_or_from_slice_get, none-some, same_Some, slice_get_within}
+use Rattle.mp_world.proofs.Basics.{◌≡◌, ℕ, ◌+◌, ◌-◌, ◌<◌, ◌≤◌, ◌^◌, ◌⊎◌, Bool, true, false, List, [], ◌∷◌, ◌++◌, length, map, Option, Some, refl, sym, ap, subst, ◌∙◌, arith, inl, inr, Contains, ◌==◌, if◌then◌else◌, slice_get, slice_index_or, option_map_or, cases_lt}
+use Rattle.mp_world.proofs.Basics.{eqb-true, false≢true, length-map, get_or_from_slice_get, none-some, same_Some, slice_get_within}
 use Rattle.mp_list.proofs.Members.{contains_cases, no_member}
-use Rattle.mp_task.specs.AgentTask.{AgentTask}
-use Rattle.mp_messages.specs.declared.history.Event.{Event}
-use Rattle.mp_messages.specs.declared.history.Event.TheVariants.{Expand, Take, Start}
-use Rattle.mp_store.specs.declared.entry.Entry.{Entry}
-use Rattle.mp_store.specs.declared.entry.Mark.TheVariants.{Expanded, Open}
-use Rattle.mp_store.specs.Laws.{IsSound}
-use Rattle.mp_store.specs.Record.{is_open}
-use Rattle.mp_search.specs.AgentState.{AgentState, no_tag, same_state}
 use Rattle.mp_search.proofs.KeyedStates.{Decides-state}
-use Rattle.mp_snapshot.specs.declared.verdict.Verdict.TheVariants.{Spent}
-use Rattle.mp_machine.specs.AgentRecord.{AgentRecord, given_verdict}
+use Rattle.mp_world.specs.AgentWords.{AgentTask, Event, Expand, Take, Start, Spent, AgentRecord, given_verdict}
+use Rattle.mp_world.specs.SearchWords.{Entry, Expanded, Open, IsSound, is_open, AgentState, no_tag, same_state}
 use Rattle.mp_world.specs.Events.{run}
 use Rattle.mp_world.specs.Steps.{IsStepOf}
 use Rattle.mp_world.specs.Team.{AreTeamTasks, IsTeam, team_with}
@@ -28,7 +16,7 @@ use Rattle.mp_world.proofs.Runs.{run_has_history, run_of_team}
 use Rattle.mp_world.proofs.Stepping.{team_size}
 use Rattle.mp_team_states.specs.Paths.{IsEntryAt}
 use Rattle.mp_team_states.specs.Sound.{AreStatesSound}
-use Rattle.mp_team_states.proofs.Reached.{has_it}
+use Rattle.mp_team_states.proofs.ReachedEntries.{has_it}
 use Rattle.mp_team_states.proofs.StartSound.{start_states_sound}
 use Rattle.mp_team_states.proofs.StepsSound.{agent_sound, states_stay_sound}
 use Rattle.mp_team_states.specs.Expansions.{IsExpandedAt, nothing_known}

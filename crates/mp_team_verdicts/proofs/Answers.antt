@@ -1,16 +1,6 @@
 -- The answer of a team is right.
-use Rattle.std.proofs.Common.{◌≡◌, ℕ, zero, suc, true, List, Option, Some, None, refl, sym, ap, subst, ◌∙◌, arith}
-use Rattle.std.specs.Prelude.{Contains, if◌then◌else◌, not}
-use Rattle.std.specs.Option.{option_map_or}
-use Rattle.std.proofs.lemmas.Bool.{false≢true}
-use Rattle.std.proofs.lemmas.List.Sums.{AllPass-from_list_all}
-use Rattle.std.proofs.lemmas.Option.{get_or_from_slice_get, none-some, same_Some, slice_get_within}
-use Rattle.mp_task.specs.AgentTask.{AgentTask}
-use Rattle.mp_messages.specs.declared.history.Event.{Event}
-use Rattle.mp_snapshot.specs.declared.verdict.Verdict.{Verdict}
-use Rattle.mp_snapshot.specs.declared.verdict.Verdict.TheVariants.{Proved, NoPlan, Spent, Continue}
-use Rattle.mp_machine.specs.AgentRecord.{AgentRecord, given_verdict, is_going}
-use Rattle.mp_machine.specs.Verdicts.{is_deciding}
+use Rattle.mp_world.proofs.Basics.{◌≡◌, ℕ, zero, suc, true, List, Option, Some, None, refl, sym, ap, subst, ◌∙◌, arith, Contains, if◌then◌else◌, not, option_map_or, false≢true, AllPass-from_list_all, get_or_from_slice_get, none-some, same_Some, slice_get_within}
+use Rattle.mp_world.specs.AgentWords.{AgentTask, Event, Verdict, Proved, NoPlan, Spent, Continue, AgentRecord, given_verdict, is_going, is_deciding}
 use Rattle.mp_world.specs.declared.answer.Answer.TheVariants as answers
 use Rattle.mp_world.specs.Answers.{answer_by, answer_of}
 use Rattle.mp_world.specs.Events.{run}

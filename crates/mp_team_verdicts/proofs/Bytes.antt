@@ -1,18 +1,13 @@
 -- What is spelled are bytes, and at least one.
-use Rattle.std.proofs.Common.{◌≢◌, ℕ, zero, suc, ◌/◌, ◌^◌, ◌<◌, Bool, true, false, List, [], ◌∷◌, ◌++◌, Option, Some, None, arith}
-use Rattle.std.specs.Prelude.{All}
+use Rattle.mp_world.proofs.Basics.{◌≢◌, ℕ, zero, suc, ◌^◌, ◌<◌, Bool, true, false, List, [], ◌∷◌, ◌++◌, Option, Some, None, arith, All, flat_map, All-append, All-cons, All-nil}
+use Rattle.std.proofs.Common.{◌/◌}
 use Rattle.std.specs.Int.{byte_at, byte_len, bytes_high_first, w32, w64}
-use Rattle.std.specs.List.{flat_map}
-use Rattle.std.proofs.lemmas.List.Elements.{All-append, All-cons, All-nil}
 use Rattle.std.proofs.lemmas.Nat.{mod_below}
-use Rattle.mp_messages.specs.declared.message.EndKind.{EndKind}
 use Rattle.mp_messages.specs.declared.message.EndKind.TheVariants.{NoPlan, Spent}
-use Rattle.mp_messages.specs.declared.message.Findings.{Findings}
-use Rattle.mp_messages.specs.declared.message.Message.{Message}
 use Rattle.mp_messages.specs.declared.message.Message.TheVariants as kinds
-use Rattle.mp_messages.specs.declared.message.State.{State}
-use Rattle.mp_messages.specs.Spelling.{counted, ending, findings, flag, number, optional, short_number, spelling, state, tag}
-use Rattle.mp_sets.specs.declared.tag.Tag.{Tag}
+use Rattle.mp_messages.specs.Spelling.{counted, ending, findings, flag, optional, short_number, state, tag}
+use Rattle.mp_world.specs.AgentWords.{EndKind, Findings, Message, State, number, spelling}
+use Rattle.mp_world.specs.SearchWords.{Tag}
 
 abbrev pub AreBytes : List ℕ → Type 0
 AreBytes bytes = All (λ byte. byte < 256) bytes

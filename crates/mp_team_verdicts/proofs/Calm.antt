@@ -1,14 +1,9 @@
 -- What rounds without an expansion lead to, as long as all agents go on.
-use Rattle.std.proofs.Common.{◌≡◌, ◌≢◌, ℕ, ◌≤◌, Bool, true, false, List, [], length, Option, Some, All, refl, sym, ap, subst, ◌∙◌, arith, ◌⊎◌, inl, inr}
-use Rattle.std.specs.List.{filter_map}
-use Rattle.std.proofs.lemmas.Bool.{cases_eq, false≢true, true_from_ne_false}
-use Rattle.std.proofs.lemmas.List.Elements.{All-nil}
+use Rattle.mp_world.proofs.Basics.{◌≡◌, ◌≢◌, ℕ, ◌≤◌, Bool, true, false, List, [], length, Option, Some, All, refl, sym, ap, subst, ◌∙◌, arith, ◌⊎◌, inl, inr, filter_map, cases_eq, false≢true, All-nil}
+use Rattle.std.proofs.lemmas.Bool.{true_from_ne_false}
 use Rattle.mp_runs.specs.Run.{run as run_of}
-use Rattle.mp_messages.specs.declared.history.Event.{Event}
-use Rattle.mp_search.specs.Search.{may_expand}
-use Rattle.mp_snapshot.specs.Notes.{Notes}
-use Rattle.mp_snapshot.specs.Rules.{has}
-use Rattle.mp_machine.specs.AgentRecord.{AgentRecord, is_going}
+use Rattle.mp_world.specs.AgentWords.{Event, Notes, has, AgentRecord, is_going}
+use Rattle.mp_world.specs.SearchWords.{may_expand}
 use Rattle.mp_world.specs.Events.{after_event, agent_of}
 use Rattle.mp_world.specs.RoundRobin.{Round}
 use Rattle.mp_world.specs.Steps.{IsStepOf}
@@ -28,7 +23,7 @@ use Rattle.mp_team_verdicts.specs.Quiet.{are_quiet, is_quiet}
 use Rattle.mp_team_verdicts.proofs.Fresh.{IsSilent, silent_next}
 use Rattle.mp_team_verdicts.proofs.Noting.{moved}
 use Rattle.mp_team_verdicts.proofs.Points.{could_not_expand, quiet_parts, round_runs, took_from}
-use Rattle.mp_team_verdicts.proofs.Reached.{IsReached, all_pass, known, onward}
+use Rattle.mp_team_verdicts.proofs.ReachedWorlds.{IsReached, all_pass, known, onward}
 use Rattle.mp_team_verdicts.proofs.Staying.{number_rises, still_marked, still_reported}
 use Rattle.mp_team_verdicts.proofs.Silence.{HasNoStates, IsNoState, keeps_search, none_next}
 use Rattle.mp_team_verdicts.proofs.Stuck.{another_at, is_agent, no_messages, nothing_left, nothing_to_expand, of_there}

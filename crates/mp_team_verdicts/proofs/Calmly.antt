@@ -1,17 +1,6 @@
 -- Events after which the end of the search has come as far as before.
-use Rattle.std.proofs.Common.{◌≡◌, ℕ, Bool, true, false, List, [], ◌++◌, length, Some, All, refl, sym, ap, subst, ◌∙◌, append-nil, ◌⊎◌, inl, inr}
-use Rattle.std.specs.Prelude.{◌==◌, filter, if◌then◌else◌}
-use Rattle.std.proofs.lemmas.List.Elements.{All-weaker}
-use Rattle.std.proofs.lemmas.Option.{same_Some}
-use Rattle.mp_task.specs.AgentTask.{AgentTask}
-use Rattle.mp_task.specs.Plan.{TaskStep}
-use Rattle.mp_messages.specs.declared.history.Event.{Event}
-use Rattle.mp_messages.specs.declared.message.Message.{Message}
-use Rattle.mp_trail.specs.Share.{share}
-use Rattle.mp_machine.specs.AgentRecord.{AgentRecord, given_verdict, is_going}
-use Rattle.mp_machine.specs.Outgoing.{Outgoing, Step}
-use Rattle.mp_machine.specs.Taking.{ending_of}
-use Rattle.mp_machine.specs.Verdicts.{is_deciding}
+use Rattle.mp_world.proofs.Basics.{◌≡◌, ℕ, Bool, true, false, List, [], ◌++◌, length, Some, All, refl, sym, ap, subst, ◌∙◌, append-nil, ◌⊎◌, inl, inr, ◌==◌, filter, if◌then◌else◌, All-weaker, same_Some}
+use Rattle.mp_world.specs.AgentWords.{AgentTask, TaskStep, Event, Message, share, AgentRecord, given_verdict, is_going, Outgoing, Step, ending_of, is_deciding}
 use Rattle.mp_world.specs.Events.{agent_of}
 use Rattle.mp_world.specs.Steps.{IsStepOf}
 use Rattle.mp_world.specs.Team.{AreTeamTasks}

@@ -1,11 +1,6 @@
 -- The rule of verdicts by cases: what it says of the least costs, and of the agent that it names.
-use Rattle.std.proofs.Common.{◌≡◌, ℕ, ◌≤◌, ◌<◌, Bool, true, false, List, Option, Some, None, refl, subst}
-use Rattle.std.specs.Prelude.{◌&&◌, if◌then◌else◌, nat_le}
-use Rattle.std.proofs.lemmas.Bool.{leb-false, leb-true}
-use Rattle.mp_messages.specs.declared.message.Findings.{Findings}
-use Rattle.mp_snapshot.specs.declared.verdict.Verdict.{Verdict}
-use Rattle.mp_snapshot.specs.declared.verdict.Verdict.TheVariants.{Proved, NoPlan, Spent, Continue}
-use Rattle.mp_snapshot.specs.VerdictRule.{by_costs, is_cost, least_f, least_goal, lowest_agent, proved, spent_or_on, unproved, verdict_of}
+use Rattle.mp_world.proofs.Basics.{◌≡◌, ℕ, ◌≤◌, ◌<◌, Bool, true, false, List, Option, Some, None, refl, subst, ◌&&◌, if◌then◌else◌, nat_le, leb-false, leb-true}
+use Rattle.mp_world.specs.AgentWords.{Findings, Verdict, Proved, NoPlan, Spent, Continue, by_costs, is_cost, least_f, least_goal, lowest_agent, proved, spent_or_on, unproved, verdict_of}
 use Rattle.mp_team_snapshots.proofs.Unnumbered.{IsNamed, named}
 
 -- a cost is at most that of what is left to do, if something is

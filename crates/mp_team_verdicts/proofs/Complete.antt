@@ -1,9 +1,6 @@
 -- Where nothing of a snapshot is under way, agent 1 has the findings of all agents.
-use Rattle.std.proofs.Common.{◌≡◌, ◌≢◌, ℕ, zero, suc, ◌-◌, ◌≤◌, ◌<◌, Bool, true, false, ◌&&◌, eqb, List, [], ◌∷◌, length, take, refl, sym, ap, subst, ◌∙◌, arith}
-use Rattle.std.specs.Prelude.{not, nat_lt, slice_index_or}
-use Rattle.std.specs.List.{list_all}
-use Rattle.std.proofs.lemmas.Bool.{and_from, and_parts, eqb-false, eqb-true}
-use Rattle.mp_snapshot.specs.Rules.{has, is_complete, is_whole, own}
+use Rattle.mp_world.proofs.Basics.{◌≡◌, ◌≢◌, ℕ, zero, suc, ◌-◌, ◌≤◌, ◌<◌, Bool, true, false, ◌&&◌, eqb, List, [], ◌∷◌, length, take, refl, sym, ap, subst, ◌∙◌, arith, not, nat_lt, slice_index_or, list_all, and_from, and_parts, eqb-false, eqb-true}
+use Rattle.mp_world.specs.AgentWords.{has, is_complete, is_whole, own}
 use Rattle.mp_world.proofs.LocalCases.{not_false}
 use Rattle.mp_team_snapshots.specs.Snapshots.{one_if_due}
 use Rattle.mp_team_snapshots.proofs.Due.{begun_in, begun_is}

@@ -1,31 +1,16 @@
 -- What shows in a world that a cost may be is counted in its verdict.
-use Rattle.std.proofs.Common.{◌≡◌, ◌≢◌, ℕ, zero, suc, ◌+◌, ◌-◌, ◌≤◌, ◌⊎◌, true, List, length, get_or, map, Some, sym, ap, subst, ◌∙◌, arith, inl, inr}
-use Rattle.std.specs.Prelude.{Contains, not, ◌==◌}
-use Rattle.std.specs.List.{range_with_len}
-use Rattle.std.proofs.lemmas.Bool.{ne_eqb}
-use Rattle.std.proofs.lemmas.List.FromFn.{get_or-range_with_len, length-range_with_len}
-use Rattle.std.proofs.lemmas.Option.{none-some}
-use Rattle.mp_task.specs.AgentTask.{AgentTask}
-use Rattle.mp_task.specs.Plan.{goals_hold}
+use Rattle.mp_world.proofs.Basics.{◌≡◌, ◌≢◌, ℕ, zero, suc, ◌+◌, ◌-◌, ◌≤◌, ◌⊎◌, true, List, length, get_or, map, Some, sym, ap, subst, ◌∙◌, arith, inl, inr, Contains, not, ◌==◌, range_with_len, ne_eqb, get_or-range_with_len, none-some}
+use Rattle.std.proofs.lemmas.List.FromFn.{length-range_with_len}
 use Rattle.mp_task.proofs.Agreeing.{Contains-slice_get}
-use Rattle.mp_messages.specs.Reading.{message_of}
-use Rattle.mp_messages.specs.declared.message.Findings.{Findings}
 use Rattle.mp_messages.specs.declared.message.Message.TheVariants as kinds
-use Rattle.mp_messages.specs.declared.message.State.{State}
-use Rattle.mp_store.specs.declared.entry.Entry.{Entry}
-use Rattle.mp_store.specs.declared.entry.Mark.TheVariants.{Open}
 use Rattle.mp_store.specs.Minima.{least_f as least_f_of}
-use Rattle.mp_store.specs.Record.{f}
 use Rattle.mp_store.proofs.RankLemmas.{member_kept}
-use Rattle.mp_search.specs.AgentState.{AgentState}
-use Rattle.mp_snapshot.specs.Minima.{lesser}
-use Rattle.mp_snapshot.specs.VerdictRule.{least_f, least_goal}
-use Rattle.mp_machine.specs.AgentRecord.{AgentRecord}
-use Rattle.mp_machine.specs.Outgoing.{others}
 use Rattle.mp_reach.specs.Explored.{HasWitness}
 use Rattle.mp_reach.specs.Explored.HasWitness.{open_entry, under_way, goal_entry}
 use Rattle.mp_reach.specs.Found.{Entry as Seen, Message as Sent}
 use Rattle.mp_reach.specs.LeadsOn.{IsGoal, Known}
+use Rattle.mp_world.specs.AgentWords.{AgentTask, goals_hold, message_of, Findings, State, lesser, least_f, least_goal, AgentRecord, others}
+use Rattle.mp_world.specs.SearchWords.{Entry, Open, f, AgentState}
 use Rattle.mp_world.specs.Team.{AreTeamTasks}
 use Rattle.mp_world.specs.World.{IsAgent, IsTeamWorld, World, agent_at}
 use Rattle.mp_world.specs.World as worlds
@@ -36,7 +21,7 @@ use Rattle.mp_team_snapshots.specs.Messages.{messages}
 use Rattle.mp_team_states.specs.Paths.{IsEntryAt}
 use Rattle.mp_team_states.specs.Sound.{AreStatesSound}
 use Rattle.mp_team_states.proofs.GoodStates.{what_is_read}
-use Rattle.mp_team_states.proofs.Reached.{entry_in, has_it}
+use Rattle.mp_team_states.proofs.ReachedEntries.{entry_in, has_it}
 use Rattle.mp_team_states.proofs.StepsSound.{task_at}
 use Rattle.mp_team_states.specs.Estimates.{AreGoalsFlagged}
 use Rattle.mp_team_states.specs.TeamFound.{found_of}

@@ -1,19 +1,8 @@
 -- Each expansion counts as one, so that all but few rounds are without one.
-use Rattle.std.proofs.Common.{◌≡◌, ℕ, ◌+◌, ◌≤◌, true, false, ◌&&◌, List, [], ◌∷◌, sym, ap, ◌∙◌, arith, ◌⊎◌, inl, inr}
-use Rattle.std.specs.Prelude.{slice_get}
-use Rattle.std.proofs.lemmas.Bool.{false≢true}
-use Rattle.std.proofs.lemmas.Option.{same_Some}
+use Rattle.mp_world.proofs.Basics.{◌≡◌, ℕ, ◌+◌, ◌≤◌, true, false, ◌&&◌, List, [], ◌∷◌, sym, ap, ◌∙◌, arith, ◌⊎◌, inl, inr, slice_get, false≢true, same_Some}
 use Rattle.mp_runs.proofs.Runs.{run_parts}
-use Rattle.mp_messages.specs.declared.history.Event.{Event}
-use Rattle.mp_messages.specs.declared.history.Event.TheVariants.{Expand, Take, Start}
-use Rattle.mp_store.specs.declared.entry.Entry.{Entry}
-use Rattle.mp_store.specs.declared.entry.Mark.TheVariants.{Open, Expanded}
-use Rattle.mp_search.specs.AgentState.{AgentState}
-use Rattle.mp_search.specs.Expansion.{expanded}
-use Rattle.mp_search.specs.Search.{SearchRecord}
-use Rattle.mp_machine.specs.AgentRecord.{AgentRecord}
-use Rattle.mp_machine.specs.LocalStep.{with_search}
-use Rattle.mp_machine.specs.Outgoing.{Step}
+use Rattle.mp_world.specs.AgentWords.{Event, Expand, Take, Start, AgentRecord, with_search, Step}
+use Rattle.mp_world.specs.SearchWords.{Entry, Open, Expanded, AgentState, expanded, SearchRecord}
 use Rattle.mp_world.specs.Events.{after_event}
 use Rattle.mp_world.specs.Steps.{IsStepOf}
 use Rattle.mp_world.specs.Team.{IsTeam, Team}
@@ -22,7 +11,7 @@ use Rattle.mp_team_snapshots.specs.Team.{IsTeamOf}
 use Rattle.mp_team_snapshots.proofs.Effects.{same_step}
 use Rattle.mp_team_states.specs.Room.{expanded_by_all}
 use Rattle.mp_team_states.proofs.Expanding.{expanded_counts}
-use Rattle.mp_team_states.proofs.Reached.{has_it}
+use Rattle.mp_team_states.proofs.ReachedEntries.{has_it}
 use Rattle.mp_team_states.proofs.RoomCounts.{few_expansions}
 use Rattle.mp_team_states.proofs.RoomLemmas.{counts_grow}
 use Rattle.mp_team_states.specs.Expansions.{ExpandsOne}
@@ -31,7 +20,7 @@ use Rattle.mp_team_verdicts.proofs.Frames.{IsKnownWorld}
 use Rattle.mp_team_verdicts.specs.Quiet.{are_quiet, is_quiet}
 use Rattle.mp_team_verdicts.proofs.Calm.{Goes, Reached}
 use Rattle.mp_team_states.proofs.RoomLemmas.{sum_more}
-use Rattle.mp_team_verdicts.proofs.Reached.{all_pass, known, onward, reached_next, step_of}
+use Rattle.mp_team_verdicts.proofs.ReachedWorlds.{all_pass, known, onward, reached_next, step_of}
 
 count : AgentRecord → ℕ
 count r = r.search.expansions

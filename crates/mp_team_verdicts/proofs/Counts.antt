@@ -1,24 +1,8 @@
 -- How many entries an agent has expanded after some events, and that fewer of these come before a cut.
-use Rattle.std.proofs.Common.{◌≡◌, ◌≢◌, ℕ, ◌+◌, ◌≤◌, ◌⊎◌, Bool, true, false, List, [], ◌∷◌, ◌++◌, Option, Some, None, refl, sym, ap, ◌∙◌, arith, inl, inr}
-use Rattle.std.specs.Prelude.{Ok, ◌==◌, if◌then◌else◌, slice_get}
-use Rattle.std.specs.Option.{option_map_or}
-use Rattle.std.proofs.lemmas.Bool.{and_parts, cases_eq, eq-eqb, ne_eqb}
-use Rattle.std.proofs.lemmas.Option.{same_Some}
-use Rattle.mp_sets.specs.Numbers.{Numbers}
-use Rattle.mp_task.specs.AgentTask.{AgentTask}
-use Rattle.mp_messages.specs.declared.history.Event.{Event}
-use Rattle.mp_messages.specs.declared.history.Event.TheVariants.{Expand, Take, Start}
-use Rattle.mp_store.specs.declared.entry.Entry.{Entry}
-use Rattle.mp_search.specs.declared.answer.Sending.{Sending}
-use Rattle.mp_search.specs.AgentState.{AgentState}
-use Rattle.mp_search.specs.Expansion.{expanded, expanded_entry}
-use Rattle.mp_search.specs.Search.{SearchRecord, is_open_below, may_expand}
-use Rattle.mp_machine.specs.AgentRecord.{AgentRecord, is_going}
-use Rattle.mp_machine.specs.declared.event.Local.{Local}
+use Rattle.mp_world.proofs.Basics.{◌≡◌, ◌≢◌, ℕ, ◌+◌, ◌≤◌, ◌⊎◌, Bool, true, false, List, [], ◌∷◌, ◌++◌, Option, Some, None, refl, sym, ap, ◌∙◌, arith, inl, inr, Ok, ◌==◌, if◌then◌else◌, slice_get, option_map_or, and_parts, cases_eq, eq-eqb, ne_eqb, same_Some}
 use Rattle.mp_machine.specs.declared.event.Local.TheVariants as locals
-use Rattle.mp_machine.specs.LocalStep.{local, with_search}
-use Rattle.mp_machine.specs.Outgoing.{Step}
-use Rattle.mp_machine.specs.Taking.{with_state}
+use Rattle.mp_world.specs.AgentWords.{AgentTask, Event, Expand, Take, Start, AgentRecord, is_going, Local, local, with_search, Step, with_state}
+use Rattle.mp_world.specs.SearchWords.{Numbers, Entry, Sending, AgentState, expanded, expanded_entry, SearchRecord, is_open_below, may_expand}
 use Rattle.mp_world.specs.Events.{after_event, agent_of, run, taken}
 use Rattle.mp_world.specs.Steps.{IsStepOf}
 use Rattle.mp_world.specs.Team.{IsTeam, Team}

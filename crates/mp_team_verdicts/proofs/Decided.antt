@@ -1,9 +1,6 @@
 -- The search goes on over few rounds.
-use Rattle.std.proofs.Common.{◌≡◌, ℕ, zero, suc, ◌+◌, ◌*◌, ◌-◌, ◌≤◌, ◌<◌, ◌^◌, Bool, true, false, length, Some, refl, sym, ap, subst, arith, ◌⊎◌, inl, inr}
-use Rattle.std.specs.Prelude.{nat_lt}
-use Rattle.std.proofs.lemmas.Bool.{cases_eq, ltb-false, ltb-true}
-use Rattle.mp_snapshot.specs.Notes.{Notes}
-use Rattle.mp_machine.specs.AgentRecord.{AgentRecord}
+use Rattle.mp_world.proofs.Basics.{◌≡◌, ℕ, zero, suc, ◌+◌, ◌*◌, ◌-◌, ◌≤◌, ◌<◌, ◌^◌, Bool, true, false, length, Some, refl, sym, ap, subst, arith, ◌⊎◌, inl, inr, nat_lt, cases_eq, ltb-false, ltb-true}
+use Rattle.mp_world.specs.AgentWords.{Notes, AgentRecord}
 use Rattle.mp_world.specs.Team.{IsTeam, Team}
 use Rattle.mp_world.specs.Values.{Values}
 use Rattle.mp_world.specs.World.{World, agent_at}

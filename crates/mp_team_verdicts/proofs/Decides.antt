@@ -1,14 +1,9 @@
 -- A verdict decides where no agent has anything to expand and no state was under way.
-use Rattle.std.proofs.Common.{◌≡◌, ℕ, zero, suc, ◌+◌, ◌≤◌, Bool, true, false, ◌&&◌, List, [], ◌∷◌, map, Option, Some, None, refl, sym, ap, subst, ◌∙◌, arith, ◌⊎◌, inl, inr}
-use Rattle.std.specs.Prelude.{nat_le, not, if◌then◌else◌, slice_get}
-use Rattle.std.proofs.lemmas.Bool.{and_from, eq-eqb, false≢true, leb-false, lt-ltb, ltb-true}
-use Rattle.std.proofs.lemmas.Option.{none-some, same_Some}
+use Rattle.mp_world.proofs.Basics.{◌≡◌, ℕ, zero, suc, ◌+◌, ◌≤◌, Bool, true, false, ◌&&◌, List, [], ◌∷◌, map, Option, Some, None, refl, sym, ap, subst, ◌∙◌, arith, ◌⊎◌, inl, inr, nat_le, not, if◌then◌else◌, slice_get, and_from, eq-eqb, false≢true, leb-false, lt-ltb}
+use Rattle.mp_world.proofs.Basics.{ltb-true, none-some, same_Some}
 use Rattle.mp_task.proofs.Agreeing.{Contains-slice_get}
-use Rattle.mp_messages.specs.declared.message.Findings.{Findings}
-use Rattle.mp_search.specs.Search.{is_below_bound}
-use Rattle.mp_snapshot.specs.Minima.{least_of, lesser}
-use Rattle.mp_snapshot.specs.VerdictRule.{by_costs, first_from, is_cost, least_f, least_goal, lowest_agent, proved, spent_or_on, unproved, verdict_of}
-use Rattle.mp_snapshot.specs.declared.verdict.Verdict.TheVariants.{Proved, NoPlan, Spent, Continue}
+use Rattle.mp_world.specs.AgentWords.{Findings, least_of, lesser, by_costs, first_from, is_cost, least_f, least_goal, lowest_agent, proved, spent_or_on, unproved, verdict_of, Proved, NoPlan, Spent, Continue}
+use Rattle.mp_world.specs.SearchWords.{is_below_bound}
 use Rattle.mp_world.proofs.LocalCases.{not_false}
 use Rattle.mp_team_snapshots.proofs.Leasts.{lesser_none}
 use Rattle.mp_team_verdicts.proofs.Least.{IsAtMost, least_at_most}

@@ -1,17 +1,15 @@
 -- A round of a team that is not over does something.
-use Rattle.std.proofs.Common.{◌≡◌, ℕ, false, List, [], ◌∷◌, ◌++◌, length, refl, sym, ap, ◌∙◌, inl, inr}
-use Rattle.std.proofs.lemmas.Option.{same_Some}
+use Rattle.mp_world.proofs.Basics.{◌≡◌, ℕ, false, List, [], ◌∷◌, ◌++◌, length, refl, sym, ap, ◌∙◌, inl, inr, same_Some}
 use Rattle.mp_runs.specs.Run.{run as run_of}
 use Rattle.mp_runs.proofs.Runs.{run-none}
-use Rattle.mp_messages.specs.declared.history.Event.{Event}
-use Rattle.mp_messages.specs.declared.history.Event.TheVariants.{Expand, Take, Start}
+use Rattle.mp_world.specs.AgentWords.{Event, Expand, Take, Start}
 use Rattle.mp_world.specs.Events.{after_event, is_legal}
 use Rattle.mp_world.specs.RoundRobin.{Round, is_over}
 use Rattle.mp_world.specs.Team.{IsTeam, Team}
 use Rattle.mp_world.specs.World.{World}
 use Rattle.mp_team_snapshots.specs.Team.{IsTeamOf}
 use Rattle.mp_team_verdicts.proofs.Points.{GoesThrough, MayNot, TriesToStart, could_not_expand, first_starts, took_from}
-use Rattle.mp_team_verdicts.proofs.Reached.{IsReached}
+use Rattle.mp_team_verdicts.proofs.ReachedWorlds.{IsReached}
 use Rattle.mp_team_verdicts.proofs.Stuck.{HasNumberLeft, is_first, not_stuck}
 
 -- a list that is empty in whole is so in its parts

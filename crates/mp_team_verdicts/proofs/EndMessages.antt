@@ -1,11 +1,6 @@
 -- The messages of the end among those that go out in a step.
-use Rattle.std.proofs.Common.{◌≡◌, ℕ, ◌≤◌, Bool, true, false, ◌&&◌, List, [], ◌∷◌, ◌++◌, refl, ap, ◌∙◌}
-use Rattle.std.specs.Prelude.{◌==◌, All, filter, if◌then◌else◌, not}
-use Rattle.std.specs.List.{range_with_len}
-use Rattle.std.proofs.lemmas.Bool.{eq-eqb, eqb-true}
-use Rattle.std.proofs.lemmas.List.Elements.{All-head, All-tail, filter-append}
-use Rattle.mp_messages.specs.declared.message.Message.{Message}
-use Rattle.mp_machine.specs.Outgoing.{Outgoing, others, to_each, to_one}
+use Rattle.mp_world.proofs.Basics.{◌≡◌, ℕ, ◌≤◌, Bool, true, false, ◌&&◌, List, [], ◌∷◌, ◌++◌, refl, ap, ◌∙◌, ◌==◌, All, filter, if◌then◌else◌, not, range_with_len, eq-eqb, eqb-true, All-head, All-tail, filter-append}
+use Rattle.mp_world.specs.AgentWords.{Message, Outgoing, others, to_each, to_one}
 use Rattle.mp_team_snapshots.specs.Snapshots.{one_if_due}
 use Rattle.mp_team_snapshots.proofs.Due.{apart_bools}
 use Rattle.mp_team_snapshots.proofs.Sendings.{messages_to, messages_to-append, others_get}

@@ -1,28 +1,11 @@
 -- What a step of an agent does for the end of a search, unless it takes a message of the end.
-use Rattle.std.proofs.Common.{◌≡◌, ◌≢◌, ℕ, ◌+◌, ◌-◌, ◌≤◌, Bool, true, false, ◌&&◌, List, [], ◌∷◌, length, take, Option, Some, None, refl, ap, ◌∙◌, arith}
-use Rattle.std.specs.Prelude.{if◌then◌else◌, nat_lt}
-use Rattle.std.proofs.lemmas.List.{get_or-set_same}
-use Rattle.std.proofs.lemmas.List.Elements.{All-nil}
-use Rattle.mp_sets.specs.Numbers.{Numbers}
-use Rattle.mp_messages.specs.declared.message.Findings.{Findings}
-use Rattle.mp_messages.specs.declared.message.Message.TheVariants.{Marker, Report}
-use Rattle.mp_messages.specs.declared.message.State.{State}
-use Rattle.mp_search.specs.declared.answer.Sending.{Sending}
-use Rattle.mp_search.specs.Search.{SearchRecord, bound}
-use Rattle.mp_snapshot.specs.declared.verdict.Verdict.{Verdict}
-use Rattle.mp_snapshot.specs.Minima.{lesser}
-use Rattle.mp_snapshot.specs.Notes.{Notes}
-use Rattle.mp_snapshot.specs.Rules.{after_state, begun, is_complete, is_under_way, nothing, own, verdict, with_state as counted_with}
-use Rattle.mp_snapshot.specs.VerdictRule.{verdict_of}
-use Rattle.mp_machine.specs.AgentRecord.{AgentRecord, given_verdict}
-use Rattle.mp_machine.specs.LocalStep.{may_start, with_search}
-use Rattle.mp_machine.specs.Outgoing.{Outgoing, Step, after_sending, others, to_others, without_messages}
-use Rattle.mp_machine.specs.Snapshots.{findings, goal_entry, judged, judged_or_reported, started, with_notes}
-use Rattle.mp_machine.specs.Taking.{with_state}
-use Rattle.mp_machine.specs.Verdicts.{is_deciding}
-use Rattle.mp_machine.specs.WalkingBack.{walked, walked_from_goal}
+use Rattle.mp_world.proofs.Basics.{◌≡◌, ◌≢◌, ℕ, ◌+◌, ◌-◌, ◌≤◌, Bool, true, false, ◌&&◌, List, [], ◌∷◌, length, take, Option, Some, None, refl, ap, ◌∙◌, arith, if◌then◌else◌, nat_lt, get_or-set_same, All-nil}
+use Rattle.mp_snapshot.specs.Rules.{with_state as counted_with}
 use Rattle.mp_machine.proofs.NotesLemmas.{given_at_first, own_begun, under_way_none}
 use Rattle.mp_machine.proofs.StepLemmas.{start_parts}
+use Rattle.mp_world.specs.AgentWords.{Findings, Marker, Report, State, Verdict, lesser, Notes, after_state, begun, is_complete, is_under_way, nothing, own, verdict, verdict_of, AgentRecord, given_verdict, may_start, with_search, Outgoing, Step, after_sending, others}
+use Rattle.mp_world.specs.AgentWords.{to_others, without_messages, findings, goal_entry, judged, judged_or_reported, started, with_notes, with_state, is_deciding, walked, walked_from_goal}
+use Rattle.mp_world.specs.SearchWords.{Numbers, Sending, SearchRecord, bound}
 use Rattle.mp_world.proofs.LocalCases.{ActingCases, both_such, each_such, either_holds, from_goal_holds, judged_holds, states_such, walked_holds}
 use Rattle.mp_team_verdicts.proofs.CountedStates.{counted_has}
 use Rattle.mp_team_verdicts.proofs.EndMessages.{HasNoEnds, IsNoEnd, IsNotOfEnd}

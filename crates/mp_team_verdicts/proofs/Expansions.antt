@@ -1,27 +1,12 @@
 -- The states of an expansion go to other agents of the team.
-use Rattle.std.proofs.Common.{ℕ, ◌+◌, Bool, true, false, cond, List, [], ◌∷◌, ◌++◌, Option, Some, None, All}
-use Rattle.std.specs.Prelude.{Contains, slice_get}
-use Rattle.std.specs.List.{flat_map}
-use Rattle.std.specs.Option.{option_map_or}
-use Rattle.std.proofs.lemmas.List.Elements.{All-append, All-cons, All-contains_itself, All-head, All-map, All-nil, All-tail, All-weaker}
-use Rattle.mp_sets.specs.Numbers.{Numbers}
-use Rattle.mp_task.specs.declared.act.Act.{Act}
-use Rattle.mp_task.specs.AgentTask.{AgentTask}
-use Rattle.mp_messages.specs.declared.message.Message.{Message}
+use Rattle.mp_world.proofs.Basics.{ℕ, ◌+◌, Bool, true, false, cond, List, [], ◌∷◌, ◌++◌, Option, Some, None, All, Contains, slice_get, flat_map, option_map_or, All-append, All-cons, All-head, All-map, All-nil, All-tail, All-weaker}
+use Rattle.std.proofs.lemmas.List.Elements.{All-contains_itself}
 use Rattle.mp_messages.specs.declared.message.Message.TheVariants as kinds
-use Rattle.mp_messages.specs.declared.message.State.{State}
-use Rattle.mp_store.specs.declared.entry.Entry.{Entry}
-use Rattle.mp_store.specs.Minima.{best, least_open}
-use Rattle.mp_store.specs.Record.{Record}
 use Rattle.mp_store.specs.Sent.{mark_sent}
-use Rattle.mp_search.specs.declared.answer.Sending.{Sending}
-use Rattle.mp_search.specs.AgentState.{AgentState, applies, same_state, successor}
-use Rattle.mp_search.specs.Concern.{receivers}
-use Rattle.mp_search.specs.Expansion.{Parent, expanded, expanded_entry, with_action, with_actions, with_successor}
-use Rattle.mp_search.specs.Search.{SearchRecord}
-use Rattle.mp_search.specs.Sending.{is_due, message_of, sending_of, sent_best, sent_entry_of, sent_if_due}
-use Rattle.mp_machine.specs.LocalStep.{outgoing_of}
-use Rattle.mp_machine.specs.Outgoing.{Outgoing, others, to_each, to_one, to_others}
+use Rattle.mp_search.specs.Sending.{message_of}
+use Rattle.mp_world.specs.AgentWords.{Act, AgentTask, Message, State, outgoing_of, Outgoing, others, to_each, to_one, to_others}
+use Rattle.mp_world.specs.SearchWords.{Numbers, Entry, best, least_open, Record, Sending, AgentState, applies, same_state, successor, receivers, Parent, expanded, expanded_entry, with_action, with_actions, with_successor, SearchRecord, is_due, sending_of, sent_best}
+use Rattle.mp_world.specs.SearchWords.{sent_entry_of, sent_if_due}
 use Rattle.mp_team_states.proofs.Joint.{IsReceiver, receiver_is}
 use Rattle.mp_team_verdicts.proofs.Others.{another_is}
 

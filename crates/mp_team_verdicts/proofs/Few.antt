@@ -1,16 +1,8 @@
 -- In every world that a legal schedule leads to, agents keep few entries, and paths are short.
-use Rattle.std.proofs.Common.{◌≡◌, ℕ, ◌≤◌, ◌<◌, ◌^◌, ◌-◌, List, [], ◌∷◌, get_or, suc, Some, All, refl, sym, ap, subst, arith}
-use Rattle.std.specs.Prelude.{slice_get}
-use Rattle.std.specs.List.{sum_by}
+use Rattle.mp_world.proofs.Basics.{◌≡◌, ℕ, ◌≤◌, ◌<◌, ◌^◌, ◌-◌, List, [], ◌∷◌, get_or, suc, Some, All, refl, sym, ap, subst, arith, slice_get, sum_by, slice_get-get_or}
 use Rattle.std.proofs.lemmas.List.Sums.{sum_by-le}
-use Rattle.std.proofs.lemmas.Option.{slice_get-get_or}
-use Rattle.mp_task.specs.AgentTask.{AgentTask}
-use Rattle.mp_messages.specs.declared.history.Event.{Event}
-use Rattle.mp_store.specs.Record.{empty}
-use Rattle.mp_store.specs.declared.entry.Origin.TheVariants.{Root}
-use Rattle.mp_search.specs.AgentState.{start_state}
-use Rattle.mp_search.specs.Offering.{own_value}
-use Rattle.mp_machine.specs.AgentRecord.{AgentRecord, new_record}
+use Rattle.mp_world.specs.AgentWords.{AgentTask, Event, AgentRecord, new_record}
+use Rattle.mp_world.specs.SearchWords.{empty, Root, start_state, own_value}
 use Rattle.mp_world.specs.Events.{agent_of, local_of, run, taken}
 use Rattle.mp_world.specs.Steps.{IsStepOf}
 use Rattle.mp_world.specs.Team.{AreTeamTasks, IsTeam, Team}
@@ -19,7 +11,7 @@ use Rattle.mp_world.specs.World.{IsTeamWorld, World, agent_at, start_world}
 use Rattle.mp_world.proofs.Runs.{run_has}
 use Rattle.mp_team_states.specs.Paths.{AreReached}
 use Rattle.mp_team_states.specs.Sound.{AreStatesSound}
-use Rattle.mp_team_states.proofs.Reached.{event_reaches}
+use Rattle.mp_team_states.proofs.ReachedEntries.{event_reaches}
 use Rattle.mp_team_states.proofs.StartReached.{start_reaches, task_is}
 use Rattle.mp_team_states.proofs.StartSound.{start_states_sound}
 use Rattle.mp_team_states.proofs.StepsSound.{limits_of, states_stay_sound}

@@ -1,20 +1,18 @@
 -- There are only so many states of an agent that is alone.
-use Rattle.std.proofs.Common.{◌≡◌, ◌≢◌, ℕ, zero, suc, ◌+◌, ◌-◌, ◌<◌, ◌≤◌, ◌^◌, Bool, true, false, cond, ◌&&◌, eqb, List, [], ◌∷◌, length, map, refl, sym, ap, subst, ◌∙◌, arith, inl, inr}
-use Rattle.std.specs.Prelude.{Contains, if◌then◌else◌, nat_lt, slice_index_or}
+use Rattle.mp_world.proofs.Basics.{◌≡◌, ◌≢◌, ℕ, zero, suc, ◌+◌, ◌-◌, ◌<◌, ◌≤◌, ◌^◌, Bool, true, false, cond, ◌&&◌, eqb, List, [], ◌∷◌, length, map, refl, sym, ap, subst, ◌∙◌, arith, inl, inr, Contains, if◌then◌else◌, nat_lt, slice_index_or, cases_lt, eqb-true}
+use Rattle.mp_world.proofs.Basics.{false_from_ne_true, lt-ltb, ne_eqb}
 use Rattle.std.specs.FinSet as set
 use Rattle.std.specs.List.{AllByRecursion, IsDistinct}
 use Rattle.std.specs.Int.{bit_at}
 use Rattle.std.proofs.Math.Nat.{two-pow-succ}
-use Rattle.std.proofs.lemmas.Bool.{cases_lt, eqb-true, false_from_ne_true, le-ltb, lt-ltb, ne_eqb}
+use Rattle.std.proofs.lemmas.Bool.{le-ltb}
 use Rattle.std.proofs.lemmas.Map.Steps.{length-le_from_distinct_below}
 use Rattle.std.proofs.lemmas.Nat.{pow_pos}
 use Rattle.mp_list.proofs.Members.{contains_head, contains_tail, some_member}
-use Rattle.mp_sets.specs.declared.tag.Tag.{Tag}
 use Rattle.mp_sets.specs.Compared.{binary_below}
-use Rattle.mp_sets.specs.Numbers.{AllBelow, Numbers}
 use Rattle.mp_sets.proofs.ComparedLemmas.{bit_at-binary_below, one_if}
 use Rattle.mp_sets.proofs.SetLemmas.{same_numbers}
-use Rattle.mp_search.specs.AgentState.{AgentState, no_tag}
+use Rattle.mp_world.specs.SearchWords.{Tag, AllBelow, Numbers, AgentState, no_tag}
 use Rattle.mp_team_states.proofs.Members.{from_map}
 
 -- ---- numbers of which no two are equal

@@ -1,20 +1,11 @@
 -- All messages that go out are such as messages have room for, so that each is read as itself where it arrives.
-use Rattle.std.proofs.Common.{◌≡◌, ℕ, ◌<◌, ◌^◌, Bool, true, false, List, [], ◌∷◌, ◌++◌, length, map, drop, get_or, Some, All, refl, sym, ap, subst, ◌∙◌, ◌⊎◌, inl, inr}
-use Rattle.std.specs.Prelude.{◌==◌, filter, if◌then◌else◌}
-use Rattle.std.specs.List.{filter_map}
-use Rattle.std.proofs.lemmas.List.Elements.{All-append, All-filter, All-head, All-map, All-nil, All-tail, All-weaker, filter-append, filter_map-append}
-use Rattle.mp_task.specs.AgentTask.{AgentTask}
-use Rattle.mp_messages.specs.declared.history.Event.{Event}
-use Rattle.mp_messages.specs.declared.history.Event.TheVariants.{Expand, Take, Start}
-use Rattle.mp_messages.specs.declared.message.Message.{Message}
-use Rattle.mp_messages.specs.declared.message.Message.TheVariants.{State, Marker, Report, Pick, Trace, Length, Done}
-use Rattle.mp_messages.specs.Reading.{message_of}
-use Rattle.mp_messages.specs.Spelling.{Fits, IsSpelling, spelling}
+use Rattle.mp_world.proofs.Basics.{◌≡◌, ℕ, ◌<◌, ◌^◌, Bool, true, false, List, [], ◌∷◌, ◌++◌, length, map, drop, get_or, Some, All, refl, sym, ap, subst, ◌∙◌, ◌⊎◌, inl, inr, ◌==◌, filter, if◌then◌else◌, filter_map, All-append, All-filter, All-head, All-map, All-nil}
+use Rattle.mp_world.proofs.Basics.{All-tail, All-weaker, filter-append, filter_map-append}
+use Rattle.mp_messages.specs.declared.message.Message.TheVariants.{State}
+use Rattle.mp_messages.specs.Spelling.{IsSpelling}
 use Rattle.mp_messages.proofs.Messages.{all_again}
-use Rattle.mp_store.specs.Record.{Record}
-use Rattle.mp_search.specs.AgentState.{AgentState}
-use Rattle.mp_machine.specs.declared.outgoing.Out.{Out}
-use Rattle.mp_machine.specs.Outgoing.{Outgoing, in_bytes}
+use Rattle.mp_world.specs.AgentWords.{AgentTask, Event, Expand, Take, Start, Message, Marker, Report, Pick, Trace, Length, Done, message_of, Fits, spelling, Out, Outgoing, in_bytes}
+use Rattle.mp_world.specs.SearchWords.{Record, AgentState}
 use Rattle.mp_world.specs.Events.{agent_of, sent_in, without_taken}
 use Rattle.mp_world.specs.Steps.{IsStepOf, sent_to}
 use Rattle.mp_world.specs.Team.{AreTeamTasks}

@@ -1,24 +1,7 @@
 -- An entry is marked as a goal exactly where its state is one.
-use Rattle.std.proofs.Common.{◌≡◌, ℕ, ◌⊎◌, List, [], Option, Some, sym, ap, subst, ◌∙◌, inl, inr}
-use Rattle.std.specs.Prelude.{Ok, slice_get}
-use Rattle.std.proofs.lemmas.Option.{none-some}
-use Rattle.mp_sets.specs.Numbers.{Numbers}
-use Rattle.mp_task.specs.AgentTask.{AgentTask}
-use Rattle.mp_messages.specs.declared.history.Event.{Event}
-use Rattle.mp_messages.specs.declared.message.State.{State}
-use Rattle.mp_store.specs.declared.entry.Entry.{Entry}
-use Rattle.mp_store.specs.declared.entry.Origin.{Origin}
-use Rattle.mp_store.specs.Record.{Record, empty}
-use Rattle.mp_search.specs.AgentState.{AgentState, is_goal_state}
-use Rattle.mp_search.specs.Expansion.{expanded}
-use Rattle.mp_search.specs.Offering.{start_record}
-use Rattle.mp_search.specs.Receipt.{received}
-use Rattle.mp_search.specs.Search.{SearchRecord}
-use Rattle.mp_machine.specs.declared.event.Local.{Local}
-use Rattle.mp_machine.specs.AgentRecord.{AgentRecord}
-use Rattle.mp_machine.specs.LocalStep.{local}
-use Rattle.mp_machine.specs.Outgoing.{Step}
-use Rattle.mp_machine.specs.Taking.{with_state}
+use Rattle.mp_world.proofs.Basics.{◌≡◌, ℕ, ◌⊎◌, List, [], Option, Some, sym, ap, subst, ◌∙◌, inl, inr, Ok, slice_get, none-some}
+use Rattle.mp_world.specs.AgentWords.{AgentTask, Event, State, Local, AgentRecord, local, Step, with_state}
+use Rattle.mp_world.specs.SearchWords.{Numbers, Entry, Origin, Record, empty, AgentState, is_goal_state, expanded, start_record, received, SearchRecord}
 use Rattle.mp_world.specs.Events.{agent_of, local_of, run, taken}
 use Rattle.mp_world.specs.Steps.{IsStepOf}
 use Rattle.mp_world.specs.Team.{IsTeam, Team}

@@ -1,17 +1,6 @@
 -- What an event leaves of agents and messages of the end as it was.
-use Rattle.std.proofs.Common.{◌≡◌, ◌≢◌, ℕ, true, false, List, ◌∷◌, length, Some, refl, sym, ap, subst, ◌∙◌, ◌⊎◌, inl, inr}
-use Rattle.std.specs.Prelude.{IfSome, filter, slice_get}
-use Rattle.std.proofs.lemmas.Bool.{and_parts, cases_eq, false≢true}
-use Rattle.std.proofs.lemmas.Option.{same_Some}
-use Rattle.mp_task.specs.AgentTask.{AgentTask}
-use Rattle.mp_task.specs.Plan.{TaskStep}
-use Rattle.mp_messages.specs.declared.history.Event.{Event}
-use Rattle.mp_messages.specs.declared.message.Message.{Message}
-use Rattle.mp_messages.specs.declared.history.Event.TheVariants.{Take}
-use Rattle.mp_messages.specs.Reading.{message_of}
-use Rattle.mp_snapshot.specs.Rules.{own}
-use Rattle.mp_machine.specs.AgentRecord.{AgentRecord, given_verdict, is_going}
-use Rattle.mp_machine.specs.LocalStep.{may_now}
+use Rattle.mp_world.proofs.Basics.{◌≡◌, ◌≢◌, ℕ, true, false, List, ◌∷◌, length, Some, refl, sym, ap, subst, ◌∙◌, ◌⊎◌, inl, inr, IfSome, filter, slice_get, and_parts, cases_eq, false≢true, same_Some}
+use Rattle.mp_world.specs.AgentWords.{AgentTask, TaskStep, Event, Message, Take, message_of, own, AgentRecord, given_verdict, is_going, may_now}
 use Rattle.mp_world.specs.Events.{agent_of, local_of, taken}
 use Rattle.mp_world.specs.Steps.{IsStepOf}
 use Rattle.mp_world.specs.Values.{Values}
@@ -24,12 +13,12 @@ use Rattle.mp_team_snapshots.proofs.Protocol.{IsOf, pair}
 use Rattle.mp_team_snapshots.proofs.TakingFirst.{left_others, taken_first}
 use Rattle.mp_team_snapshots.proofs.Worlds.{is_agent_of, is_of_agent, is_of_there, team_numbers}
 use Rattle.mp_team_states.specs.Further.{HaveGrown}
-use Rattle.mp_team_states.proofs.Reached.{path_stays}
+use Rattle.mp_team_states.proofs.ReachedEntries.{path_stays}
 use Rattle.mp_team_states.proofs.WorldsGrow.{step_grows}
 use Rattle.mp_team_verdicts.specs.Ending.{HasEnded, HasGoal, IsProved, LeadsTo, end_messages, is_of_end}
 use Rattle.mp_team_verdicts.proofs.Few.{HoldsSoFar}
 use Rattle.mp_team_verdicts.proofs.Heard.{HearOthers}
-use Rattle.mp_team_states.proofs.Reached.{sent_at_stays}
+use Rattle.mp_team_states.proofs.ReachedEntries.{sent_at_stays}
 
 -- what is known of a world that a legal schedule leads to
 pub record IsKnownWorld (publics : ℕ) (tasks : List AgentTask) (w : World) : Type 0 where

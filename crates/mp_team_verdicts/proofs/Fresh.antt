@@ -1,28 +1,14 @@
 -- In a world in which no state is under way and no agent has anything to expand, agent 1 starts at most one snapshot more: the
 -- verdict on it decides.
-use Rattle.std.proofs.Common.{◌≡◌, ◌≢◌, ℕ, suc, ◌+◌, ◌≤◌, ◌<◌, Bool, true, false, ◌&&◌, List, length, map, take, Option, Some, None, refl, sym, ap, subst, ◌∙◌, arith, ◌⊎◌, inl, inr}
-use Rattle.std.specs.Prelude.{nat_lt, not, if◌then◌else◌, option_map, slice_get}
-use Rattle.std.proofs.lemmas.Bool.{and_from, and_parts, false≢true, lt-ltb}
-use Rattle.std.proofs.lemmas.Option.{none-some, same_Some, slice_get-map}
-use Rattle.mp_task.specs.AgentTask.{AgentTask}
-use Rattle.mp_messages.specs.declared.history.Event.{Event}
-use Rattle.mp_messages.specs.declared.history.Event.TheVariants.{Expand, Take, Start}
-use Rattle.mp_messages.specs.declared.message.Findings.{Findings}
-use Rattle.mp_messages.specs.declared.message.Message.{Message}
+use Rattle.mp_world.proofs.Basics.{◌≡◌, ◌≢◌, ℕ, suc, ◌+◌, ◌≤◌, ◌<◌, Bool, true, false, ◌&&◌, List, length, map, take, Option, Some, None, refl, sym, ap, subst, ◌∙◌, arith, ◌⊎◌, inl, inr, nat_lt, not, if◌then◌else◌, option_map, slice_get, and_from, and_parts}
+use Rattle.mp_world.proofs.Basics.{false≢true, lt-ltb, none-some, same_Some, slice_get-map}
 use Rattle.mp_messages.specs.declared.message.Message.TheVariants.{State as AState}
-use Rattle.mp_search.specs.Search.{SearchRecord, bound, is_below_bound, is_spent, may_expand}
 use Rattle.mp_store.specs.Minima.{least_f}
-use Rattle.mp_snapshot.specs.Notes.{Notes}
-use Rattle.mp_snapshot.specs.Rules.{begun, is_complete, is_under_way, own, with_marker}
-use Rattle.mp_snapshot.specs.VerdictRule.{verdict_of}
-use Rattle.mp_snapshot.specs.declared.verdict.Verdict.{Verdict}
-use Rattle.mp_snapshot.specs.declared.verdict.Verdict.TheVariants.{Proved, NoPlan, Spent, Continue}
-use Rattle.mp_machine.specs.AgentRecord.{AgentRecord, given_verdict, is_going}
-use Rattle.mp_machine.specs.LocalStep.{may_start}
-use Rattle.mp_machine.specs.Snapshots.{findings}
-use Rattle.mp_machine.specs.Verdicts.{is_deciding}
 use Rattle.mp_machine.proofs.NotesLemmas.{given_at_first, own_begun, own_reported}
 use Rattle.mp_machine.proofs.StepLemmas.{start_parts}
+use Rattle.mp_world.specs.AgentWords.{AgentTask, Event, Expand, Take, Start, Findings, Message, Notes, begun, is_complete, is_under_way, own, with_marker, verdict_of, Verdict, Proved, NoPlan, Spent, Continue, AgentRecord, given_verdict, is_going, may_start, findings}
+use Rattle.mp_world.specs.AgentWords.{is_deciding}
+use Rattle.mp_world.specs.SearchWords.{SearchRecord, bound, is_below_bound, is_spent, may_expand}
 use Rattle.mp_world.specs.Events.{agent_of}
 use Rattle.mp_world.specs.Steps.{IsStepOf}
 use Rattle.mp_world.specs.Values.{Values}

@@ -1,22 +1,12 @@
 -- A state that an agent knows and that is a goal state is a joint state in which all goals of the team hold.
-use Rattle.std.proofs.Common.{◌≡◌, ℕ, ◌+◌, ◌-◌, ◌<◌, ◌⊎◌, Bool, true, false, ◌&&◌, List, length, get_or, Option, Some, sym, ap, subst, ◌∙◌, arith, inl, inr}
-use Rattle.std.specs.Prelude.{Contains, IfSome, ◌==◌, ◌||◌, if◌then◌else◌}
+use Rattle.mp_world.proofs.Basics.{◌≡◌, ℕ, ◌+◌, ◌-◌, ◌<◌, ◌⊎◌, Bool, true, false, ◌&&◌, List, length, get_or, Option, Some, sym, ap, subst, ◌∙◌, arith, inl, inr, Contains, IfSome, ◌==◌, ◌||◌, if◌then◌else◌, enumerate_from, and_parts, cases_eq, eqb-true}
+use Rattle.mp_world.proofs.Basics.{false_from_ne_true, false≢true, All-contains, get_or_default, get_or-enumerate_from, length-enumerate_from, AllPass-from_list_all}
 use Rattle.std.specs.FinSet as set
-use Rattle.std.specs.List.{enumerate_from}
-use Rattle.std.proofs.lemmas.Bool.{and_parts, cases_eq, eqb-true, false_from_ne_true, false≢true}
-use Rattle.std.proofs.lemmas.List.Elements.{All-contains}
-use Rattle.std.proofs.lemmas.List.{get_or_default}
-use Rattle.std.proofs.lemmas.List.FromFn.{get_or-enumerate_from, length-enumerate_from}
-use Rattle.std.proofs.lemmas.List.Sums.{AllPass-from_list_all, list_all-from_AllPass}
-use Rattle.mp_sets.specs.declared.tag.Tag.{Tag}
-use Rattle.mp_sets.specs.Numbers.{holds}
-use Rattle.mp_task.specs.AgentTask.{AgentTask}
-use Rattle.mp_task.specs.Limits.{IsWithinLimits}
-use Rattle.mp_task.specs.Met.{is_met}
-use Rattle.mp_task.specs.Plan.{goals_hold, private_of}
+use Rattle.std.proofs.lemmas.List.Sums.{list_all-from_AllPass}
 use Rattle.mp_task.proofs.Agreeing.{same_number}
-use Rattle.mp_search.specs.AgentState.{AgentState, is_goal_state, no_tag, others_are_met}
-use Rattle.mp_machine.specs.AgentRecord.{AgentRecord}
+use Rattle.mp_search.specs.AgentState.{others_are_met}
+use Rattle.mp_world.specs.AgentWords.{AgentTask, IsWithinLimits, is_met, goals_hold, private_of, AgentRecord}
+use Rattle.mp_world.specs.SearchWords.{Tag, holds, AgentState, is_goal_state, no_tag}
 use Rattle.mp_world.specs.Joint.{joint, private_facts, told_by}
 use Rattle.mp_world.specs.Team.{AreTeamTasks}
 use Rattle.mp_world.specs.World.{IsTeamWorld, World, agent_at}

@@ -1,22 +1,9 @@
 -- Each agent keeps the goal entry whose cost it found in its last snapshot.
-use Rattle.std.proofs.Common.{◌≡◌, ◌≢◌, ℕ, ◌+◌, ◌≤◌, ◌<◌, ◌^◌, true, List, length, Option, Some, None, refl, sym, ap, subst, ◌∙◌, arith}
-use Rattle.std.specs.Prelude.{IfSome, Ok}
-use Rattle.mp_sets.specs.Numbers.{Numbers}
-use Rattle.mp_task.specs.AgentTask.{AgentTask}
-use Rattle.mp_messages.specs.declared.history.Event.{Event}
-use Rattle.mp_messages.specs.declared.history.Event.TheVariants.{Expand, Take, Start}
-use Rattle.mp_messages.specs.declared.message.Findings.{Findings}
-use Rattle.mp_messages.specs.declared.message.Message.{Message}
-use Rattle.mp_search.specs.Expansion.{expanded}
-use Rattle.mp_search.specs.Search.{SearchRecord, bound}
-use Rattle.mp_snapshot.specs.Rules.{after_report, begun, own, with_marker}
-use Rattle.mp_machine.specs.AgentRecord.{AgentRecord}
-use Rattle.mp_machine.specs.LocalStep.{with_search}
-use Rattle.mp_machine.specs.Outgoing.{Step}
-use Rattle.mp_machine.specs.Snapshots.{findings, goal_entry, judged, judged_or_reported, started, with_notes}
-use Rattle.mp_machine.specs.Taking.{took_message}
-use Rattle.mp_machine.specs.WalkingBack.{walked, walked_from_goal}
+use Rattle.mp_world.proofs.Basics.{◌≡◌, ◌≢◌, ℕ, ◌+◌, ◌≤◌, ◌<◌, ◌^◌, true, List, length, Option, Some, None, refl, sym, ap, subst, ◌∙◌, arith, IfSome, Ok}
 use Rattle.mp_machine.proofs.NotesLemmas.{own_reported}
+use Rattle.mp_world.specs.AgentWords.{AgentTask, Event, Expand, Take, Start, Findings, Message, after_report, begun, own, with_marker, AgentRecord, with_search, Step, findings, goal_entry, judged, judged_or_reported, started, with_notes, took_message, walked}
+use Rattle.mp_world.specs.AgentWords.{walked_from_goal}
+use Rattle.mp_world.specs.SearchWords.{Numbers, expanded, SearchRecord, bound}
 use Rattle.mp_world.specs.Events.{agent_of, taken}
 use Rattle.mp_world.specs.Steps.{IsStepOf}
 use Rattle.mp_world.specs.Team.{AreTeamTasks}

@@ -1,15 +1,13 @@
 -- Some event may happen: the one that is found among all that there are.
-use Rattle.std.proofs.Common.{◌≡◌, ℕ, zero, suc, Bool, true, false, length, refl, ap, ◌∙◌, arith, ◌⊎◌, inl, inr}
-use Rattle.std.proofs.lemmas.Bool.{cases_eq}
-use Rattle.mp_messages.specs.declared.history.Event.{Event}
-use Rattle.mp_messages.specs.declared.history.Event.TheVariants.{Expand, Take, Start}
+use Rattle.mp_world.proofs.Basics.{◌≡◌, ℕ, zero, suc, Bool, true, false, length, refl, ap, ◌∙◌, arith, ◌⊎◌, inl, inr, cases_eq}
+use Rattle.mp_world.specs.AgentWords.{Event, Expand, Take, Start}
 use Rattle.mp_world.specs.Events.{is_legal}
 use Rattle.mp_world.specs.RoundRobin.{is_over}
 use Rattle.mp_world.specs.Team.{IsTeam, Team}
 use Rattle.mp_world.specs.World.{World}
 use Rattle.mp_team_snapshots.specs.Team.{IsTeamOf}
 use Rattle.mp_team_snapshots.proofs.Protocol.{IsOf}
-use Rattle.mp_team_verdicts.proofs.Reached.{IsReached}
+use Rattle.mp_team_verdicts.proofs.ReachedWorlds.{IsReached}
 use Rattle.mp_team_verdicts.proofs.Stuck.{HasNumberLeft, not_stuck}
 
 -- one of the numbers from 1 to n passes a test, or none does

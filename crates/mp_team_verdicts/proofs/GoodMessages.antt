@@ -1,36 +1,20 @@
 -- No message that is under way is a bad one to the agent that it goes to.
-use Rattle.std.proofs.Common.{◌≡◌, ◌≢◌, ℕ, ◌+◌, ◌≤◌, ◌<◌, ◌^◌, Bool, true, false, ◌&&◌, List, [], ◌∷◌, ◌++◌, length, Option, Some, All, refl, sym, ap, subst, ◌∙◌, arith, ◌⊎◌, inl, inr}
-use Rattle.std.specs.Prelude.{Contains, Ok, Err, ◌==◌, ◌||◌, filter, if◌then◌else◌, nat_lt, not}
-use Rattle.std.specs.List.{filter_map}
-use Rattle.std.specs.Option.{is_none, option_map_or}
-use Rattle.std.proofs.lemmas.Bool.{and_parts, cases_eq, eq-eqb, eqb-true, false_from_ne_true, lt-ltb}
-use Rattle.std.proofs.lemmas.List.{length-append}
-use Rattle.std.proofs.lemmas.List.Elements.{All-contains, All-head}
-use Rattle.std.proofs.lemmas.Option.{same_Some, slice_get_within}
-use Rattle.mp_sets.specs.Numbers.{Numbers}
-use Rattle.mp_task.specs.AgentTask.{AgentTask}
-use Rattle.mp_task.specs.Plan.{TaskStep, task_of}
-use Rattle.mp_messages.specs.declared.message.EndKind.{EndKind}
-use Rattle.mp_messages.specs.declared.message.Findings.{Findings}
-use Rattle.mp_messages.specs.declared.message.Message.{Message}
-use Rattle.mp_messages.specs.declared.message.Message.TheVariants.{State as AState, Marker, Report, Pick, Trace, Length, Done}
-use Rattle.mp_messages.specs.declared.message.State.{State}
-use Rattle.mp_messages.specs.Reading.{message_of}
+use Rattle.mp_world.proofs.Basics.{◌≡◌, ◌≢◌, ℕ, ◌+◌, ◌≤◌, ◌<◌, ◌^◌, Bool, true, false, ◌&&◌, List, [], ◌∷◌, ◌++◌, length, Option, Some, All, refl, sym, ap, subst, ◌∙◌, arith, ◌⊎◌, inl, inr, Contains, Ok, Err, ◌==◌, ◌||◌, filter, if◌then◌else◌, nat_lt, not}
+use Rattle.mp_world.proofs.Basics.{filter_map, option_map_or, and_parts, cases_eq, eq-eqb, eqb-true, false_from_ne_true, lt-ltb, length-append, All-contains, All-head, same_Some, slice_get_within}
+use Rattle.std.specs.Option.{is_none}
+use Rattle.mp_messages.specs.declared.message.Message.TheVariants.{State as AState}
 use Rattle.mp_messages.specs.Spelling.{IsSpelling}
 use Rattle.mp_messages.proofs.Messages.{all_again}
-use Rattle.mp_snapshot.specs.declared.verdict.Verdict.TheVariants.{Proved}
-use Rattle.mp_snapshot.specs.Rules.{after_report, is_complete, is_strange_marker, is_strange_report, is_under_way}
 use Rattle.mp_trail.specs.Share.{fits}
-use Rattle.mp_machine.specs.declared.refusal.BadKind.{BadKind}
-use Rattle.mp_machine.specs.declared.refusal.BadKind.TheVariants.{StrangeDone, StrangeLength, StrangeMarker, StrangePick, StrangeReport, StrangeTrace}
-use Rattle.mp_machine.specs.AgentRecord.{AgentRecord, given_verdict, is_going}
-use Rattle.mp_machine.specs.Outgoing.{Step, without_messages}
-use Rattle.mp_machine.specs.Snapshots.{judged, marked}
-use Rattle.mp_machine.specs.Taking.{ending_of, is_strange_length, is_strange_pick, is_strange_trace, knows_of_no_plan, took, took_message, traced, unless_bad, with_state}
-use Rattle.mp_machine.specs.Verdicts.{is_proved}
-use Rattle.mp_machine.specs.WalkingBack.{solved, walked, walked_from_goal}
+use Rattle.mp_machine.specs.declared.refusal.BadKind.TheVariants.{StrangeMarker, StrangeReport}
+use Rattle.mp_machine.specs.Snapshots.{marked}
+use Rattle.mp_machine.specs.Taking.{knows_of_no_plan}
 use Rattle.mp_machine.proofs.NotesLemmas.{known_at_others}
 use Rattle.mp_machine.proofs.TakingLemmas.{took_spelled}
+use Rattle.mp_world.specs.AgentWords.{AgentTask, TaskStep, task_of, EndKind, Findings, Message, Marker, Report, Pick, Trace, Length, Done, State, message_of, Proved, after_report, is_complete, is_strange_marker, is_strange_report, is_under_way, BadKind, StrangeDone}
+use Rattle.mp_world.specs.AgentWords.{StrangeLength, StrangePick, StrangeTrace, AgentRecord, given_verdict, is_going, Step, without_messages, judged, ending_of, is_strange_length, is_strange_pick, is_strange_trace, took, took_message, traced, unless_bad, with_state}
+use Rattle.mp_world.specs.AgentWords.{is_proved, solved, walked, walked_from_goal}
+use Rattle.mp_world.specs.SearchWords.{Numbers}
 use Rattle.mp_world.specs.Team.{AreTeamTasks}
 use Rattle.mp_world.specs.World.{IsAgent, World, agent_at, under_way}
 use Rattle.mp_world.proofs.Agents.{agent_there, member_of}
@@ -44,7 +28,7 @@ use Rattle.mp_team_snapshots.proofs.Reading.{read_first}
 use Rattle.mp_team_snapshots.proofs.Worlds.{is_of_agent, me_of, team_numbers}
 use Rattle.mp_team_states.proofs.GoodStates.{state_is_taken, what_is_read}
 use Rattle.mp_team_states.specs.Paths.{IsSentAt}
-use Rattle.mp_team_states.proofs.Reached.{has_it}
+use Rattle.mp_team_states.proofs.ReachedEntries.{has_it}
 use Rattle.mp_team_states.proofs.RoomCounts.{few_expansions}
 use Rattle.mp_team_states.proofs.StepsSound.{task_at}
 use Rattle.mp_team_verdicts.specs.Ending.{IsAt, IsProved, due, end_messages, is_of_end, notes}

@@ -1,12 +1,8 @@
 -- An agent hears of states from other agents alone, so that a walk back never goes on at the agent itself.
-use Rattle.std.proofs.Common.{◌≡◌, ◌≢◌, ℕ, ◌+◌, ◌≤◌, List, Some, refl, sym, subst, ◌∙◌, arith}
-use Rattle.mp_messages.specs.declared.history.Event.{Event}
-use Rattle.mp_store.specs.Record.{Record}
-use Rattle.mp_search.specs.AgentState.{AgentState}
-use Rattle.mp_trail.specs.declared.steps.Walked.{Walked}
+use Rattle.mp_world.proofs.Basics.{◌≡◌, ◌≢◌, ℕ, ◌+◌, ◌≤◌, List, Some, refl, sym, subst, ◌∙◌, arith}
 use Rattle.mp_trail.specs.declared.steps.Walked.TheVariants as ends
-use Rattle.mp_trail.specs.Walk.{walk}
-use Rattle.mp_machine.specs.AgentRecord.{AgentRecord}
+use Rattle.mp_world.specs.AgentWords.{Event, Walked, walk, AgentRecord}
+use Rattle.mp_world.specs.SearchWords.{Record, AgentState}
 use Rattle.mp_world.specs.Events.{agent_of, local_of, run, taken}
 use Rattle.mp_world.specs.Steps.{IsStepOf}
 use Rattle.mp_world.specs.Team.{Team}

@@ -1,17 +1,10 @@
 -- Over how many messages a plan is walked back: a walk that goes on at another agent is over one message fewer, and an entry
 -- is reached over fewer messages than there are entries.
-use Rattle.std.proofs.Common.{◌≡◌, ◌≢◌, ℕ, zero, suc, ◌+◌, ◌*◌, ◌≤◌, ◌<◌, ◌^◌, List, [], ◌∷◌, length, Option, Some, refl, sym, ap, subst, ◌∙◌, arith, ◌⊎◌, inl, inr}
-use Rattle.std.specs.Prelude.{Contains, slice_get}
-use Rattle.std.specs.Option.{option_map_or}
-use Rattle.std.proofs.lemmas.Option.{same_Some, slice_get_within}
+use Rattle.mp_world.proofs.Basics.{◌≡◌, ◌≢◌, ℕ, zero, suc, ◌+◌, ◌*◌, ◌≤◌, ◌<◌, ◌^◌, List, [], ◌∷◌, length, Option, Some, refl, sym, ap, subst, ◌∙◌, arith, ◌⊎◌, inl, inr, Contains, slice_get, option_map_or, same_Some, slice_get_within}
 use Rattle.mp_list.proofs.Members.{contains_cases, contains_one, no_member}
-use Rattle.mp_store.specs.declared.entry.Entry.{Entry}
-use Rattle.mp_store.specs.declared.entry.Origin.{Origin}
-use Rattle.mp_store.specs.declared.entry.Origin.TheVariants.{Root, Own, From}
-use Rattle.mp_search.specs.AgentState.{AgentState}
-use Rattle.mp_trail.specs.declared.steps.Walked.TheVariants.{Root as AtRoot, Hop}
-use Rattle.mp_trail.specs.Walk.{origin_of, walk, walk_from, walk_within}
-use Rattle.mp_machine.specs.AgentRecord.{AgentRecord}
+use Rattle.mp_trail.specs.declared.steps.Walked.TheVariants.{Root as AtRoot}
+use Rattle.mp_world.specs.AgentWords.{Hop, origin_of, walk, walk_from, walk_within, AgentRecord}
+use Rattle.mp_world.specs.SearchWords.{Entry, Origin, Root, Own, From, AgentState}
 use Rattle.mp_world.specs.Team.{IsTeam, Team}
 use Rattle.mp_world.specs.World.{World, agent_at}
 use Rattle.mp_team_snapshots.specs.Team.{IsTeamOf}
@@ -19,11 +12,11 @@ use Rattle.mp_team_states.specs.Further.{HaveGrown}
 use Rattle.mp_team_states.specs.Paths.{IsEntryAt, IsOver, IsSentAt}
 use Rattle.mp_team_states.specs.Paths.IsOver.{at_start, by_own, over_one}
 use Rattle.mp_team_states.proofs.Messages.{one_number}
-use Rattle.mp_team_states.proofs.Reached.{entry_stays, has_it}
+use Rattle.mp_team_states.proofs.ReachedEntries.{entry_stays, has_it}
 use Rattle.mp_team_verdicts.proofs.Few.{keeps_few}
-use Rattle.mp_team_states.proofs.Reached.{sent_at_stays}
+use Rattle.mp_team_states.proofs.ReachedEntries.{sent_at_stays}
 use Rattle.mp_team_verdicts.proofs.FewStates.{AreApart, few_apart}
-use Rattle.mp_team_verdicts.proofs.Reached.{IsReached, known}
+use Rattle.mp_team_verdicts.proofs.ReachedWorlds.{IsReached, known}
 use Rattle.mp_team_verdicts.proofs.Stuck.{of_there}
 
 -- ---- the number of messages stays

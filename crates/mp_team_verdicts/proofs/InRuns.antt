@@ -1,16 +1,9 @@
 -- In every world that a legal schedule leads to, the end of the search has come to a stage, and all messages can be read.
-use Rattle.std.proofs.Common.{◌≡◌, ℕ, zero, suc, ◌-◌, ◌<◌, ◌^◌, Bool, true, false, List, [], ◌∷◌, ◌++◌, length, replicate, Option, Some, None, All, refl, sym, ap, subst, ◌∙◌, arith}
-use Rattle.std.specs.Prelude.{IfSome, ◌==◌, filter, if◌then◌else◌, option_and_then, slice_index_or}
-use Rattle.std.specs.List.{filter_map}
-use Rattle.std.proofs.lemmas.List.Elements.{All-nil}
+use Rattle.mp_world.proofs.Basics.{◌≡◌, ℕ, zero, suc, ◌-◌, ◌<◌, ◌^◌, Bool, true, false, List, [], ◌∷◌, ◌++◌, length, replicate, Option, Some, None, All, refl, sym, ap, subst, ◌∙◌, arith, IfSome, ◌==◌, filter, if◌then◌else◌, option_and_then, slice_index_or}
+use Rattle.mp_world.proofs.Basics.{filter_map, All-nil}
 use Rattle.mp_runs.proofs.Runs.{run-more, run-none, run_keeps_history}
-use Rattle.mp_sets.specs.Numbers.{Numbers}
-use Rattle.mp_task.specs.AgentTask.{AgentTask}
-use Rattle.mp_messages.specs.declared.history.Event.{Event}
-use Rattle.mp_messages.specs.declared.message.Findings.{Findings}
-use Rattle.mp_snapshot.specs.Rules.{nothing}
-use Rattle.mp_machine.specs.AgentRecord.{AgentRecord, given_verdict, new_record}
-use Rattle.mp_machine.specs.Verdicts.{is_deciding}
+use Rattle.mp_world.specs.AgentWords.{AgentTask, Event, Findings, nothing, AgentRecord, given_verdict, new_record, is_deciding}
+use Rattle.mp_world.specs.SearchWords.{Numbers}
 use Rattle.mp_world.specs.Events.{after_event, agent_of, run}
 use Rattle.mp_world.specs.Steps.{IsStepOf}
 use Rattle.mp_world.specs.Team.{IsTeam, Team}

@@ -1,28 +1,13 @@
 -- Agent 1 gives its verdict: the search goes on, it ends without a plan, or a proved plan is walked back.
-use Rattle.std.proofs.Common.{◌≡◌, ℕ, ◌<◌, ◌^◌, Bool, true, false, ◌&&◌, List, [], ◌∷◌, ◌++◌, length, Option, Some, None, All, refl, sym, ap, subst, ◌∙◌, append-nil, inl, inr}
-use Rattle.std.specs.Prelude.{IfSome, ◌==◌, filter, if◌then◌else◌}
-use Rattle.std.specs.Option.{option_map_or}
-use Rattle.std.proofs.lemmas.Bool.{eqb-false, eqb-true}
-use Rattle.std.proofs.lemmas.List.Elements.{All-weaker}
-use Rattle.std.proofs.lemmas.Option.{same_Some}
-use Rattle.mp_task.specs.AgentTask.{AgentTask}
-use Rattle.mp_task.specs.Plan.{TaskStep}
-use Rattle.mp_messages.specs.declared.history.Event.{Event}
-use Rattle.mp_messages.specs.declared.message.EndKind.{EndKind}
+use Rattle.mp_world.proofs.Basics.{◌≡◌, ℕ, ◌<◌, ◌^◌, Bool, true, false, ◌&&◌, List, [], ◌∷◌, ◌++◌, length, Option, Some, None, All, refl, sym, ap, subst, ◌∙◌, append-nil, inl, inr, IfSome, ◌==◌, filter, if◌then◌else◌, option_map_or, eqb-false, eqb-true, All-weaker}
+use Rattle.mp_world.proofs.Basics.{same_Some}
 use Rattle.mp_messages.specs.declared.message.EndKind.TheVariants as kinds
-use Rattle.mp_messages.specs.declared.message.Message.{Message}
-use Rattle.mp_messages.specs.declared.message.Message.TheVariants.{Done, Pick}
-use Rattle.mp_snapshot.specs.declared.verdict.Verdict.{Verdict}
 use Rattle.mp_snapshot.specs.declared.verdict.Verdict.TheVariants as verdicts
-use Rattle.mp_snapshot.specs.Rules.{verdict}
 use Rattle.mp_machine.specs.declared.event.Ending.{Ending}
 use Rattle.mp_machine.specs.declared.event.Ending.TheVariants as endings
-use Rattle.mp_machine.specs.AgentRecord.{AgentRecord, given_verdict, is_going}
-use Rattle.mp_machine.specs.Outgoing.{Outgoing, Step, after_sending, others, to_each, to_one, without_messages}
-use Rattle.mp_machine.specs.Snapshots.{by_verdict, judged}
-use Rattle.mp_machine.specs.Taking.{ending_of}
-use Rattle.mp_machine.specs.Verdicts.{is_deciding}
-use Rattle.mp_machine.specs.WalkingBack.{walked, walked_from_goal}
+use Rattle.mp_machine.specs.Snapshots.{by_verdict}
+use Rattle.mp_world.specs.AgentWords.{AgentTask, TaskStep, Event, EndKind, Message, Done, Pick, Verdict, verdict, AgentRecord, given_verdict, is_going, Outgoing, Step, after_sending, others, to_each, to_one, without_messages, judged, ending_of, is_deciding, walked}
+use Rattle.mp_world.specs.AgentWords.{walked_from_goal}
 use Rattle.mp_world.specs.Events.{agent_of}
 use Rattle.mp_world.specs.Steps.{IsStepOf}
 use Rattle.mp_world.specs.Team.{AreTeamTasks}
@@ -35,7 +20,7 @@ use Rattle.mp_team_snapshots.proofs.Changes.{left}
 use Rattle.mp_team_snapshots.proofs.Consequences.{verdict_is_rule}
 use Rattle.mp_team_snapshots.proofs.Protocol.{IsOf}
 use Rattle.mp_team_states.specs.Paths.{IsPath}
-use Rattle.mp_team_states.proofs.Reached.{entry_in}
+use Rattle.mp_team_states.proofs.ReachedEntries.{entry_in}
 use Rattle.mp_team_verdicts.specs.Ending.{EndsWithout, HasGoal, HasNoPart, IsProved, is_of_end, notes, end_by}
 use Rattle.mp_team_verdicts.specs.Ending.Stage.{picking, searching, without_plan}
 use Rattle.mp_team_verdicts.proofs.EndMessages.{HasNoEnds, IsNoEnd, none_to, one_end}

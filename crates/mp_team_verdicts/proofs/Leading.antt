@@ -1,18 +1,8 @@
 -- A legal event leads to a world.
-use Rattle.std.proofs.Common.{◌≡◌, ◌≢◌, ℕ, true, false, List, [], ◌∷◌, length, drop, Option, Some, None, refl, ap, ◌∙◌}
-use Rattle.std.specs.Prelude.{Ok, ◌==◌, if◌then◌else◌, not, option_and_then, slice_index_or}
-use Rattle.std.specs.Option.{option_map_or}
-use Rattle.std.proofs.lemmas.Bool.{and_parts, false≢true}
-use Rattle.mp_task.specs.AgentTask.{AgentTask}
-use Rattle.mp_messages.specs.declared.history.Event.{Event}
-use Rattle.mp_messages.specs.declared.history.Event.TheVariants.{Expand, Take, Start}
-use Rattle.mp_search.specs.Expansion.{expanded}
+use Rattle.mp_world.proofs.Basics.{◌≡◌, ◌≢◌, ℕ, true, false, List, [], ◌∷◌, length, drop, Option, Some, None, refl, ap, ◌∙◌, Ok, ◌==◌, if◌then◌else◌, not, option_and_then, slice_index_or, option_map_or, and_parts, false≢true}
 use Rattle.mp_machine.specs.declared.event.Local.TheVariants as locals
-use Rattle.mp_machine.specs.AgentRecord.{AgentRecord, is_going}
-use Rattle.mp_machine.specs.LocalStep.{may, may_now, with_search}
-use Rattle.mp_machine.specs.Outgoing.{Step}
-use Rattle.mp_machine.specs.Snapshots.{started}
-use Rattle.mp_machine.specs.Taking.{took}
+use Rattle.mp_world.specs.AgentWords.{AgentTask, Event, Expand, Take, Start, AgentRecord, is_going, may, may_now, with_search, Step, started, took}
+use Rattle.mp_world.specs.SearchWords.{expanded}
 use Rattle.mp_world.specs.Events.{after_event, after_local, agent_may, agent_of, has_message, if_good, is_legal, local_of, local_step, run}
 use Rattle.mp_world.specs.Team.{AreTeamTasks, IsTeam, Team}
 use Rattle.mp_world.specs.Values.{Values}

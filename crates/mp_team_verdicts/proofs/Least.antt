@@ -1,9 +1,7 @@
 -- The least of costs that may be missing is at most each of them.
-use Rattle.std.proofs.Common.{◌≡◌, ℕ, ◌≤◌, Bool, true, false, List, [], ◌∷◌, map, Option, Some, None, refl, sym, subst, arith, inl, inr}
-use Rattle.std.specs.Prelude.{Contains, IsSomeAnd, if◌then◌else◌, nat_le}
-use Rattle.std.proofs.lemmas.Bool.{leb-false, leb-true}
+use Rattle.mp_world.proofs.Basics.{◌≡◌, ℕ, ◌≤◌, Bool, true, false, List, [], ◌∷◌, map, Option, Some, None, refl, sym, subst, arith, inl, inr, Contains, IsSomeAnd, if◌then◌else◌, nat_le, leb-false, leb-true}
 use Rattle.mp_list.proofs.Members.{contains_cases, no_member}
-use Rattle.mp_snapshot.specs.Minima.{least_of, lesser}
+use Rattle.mp_world.specs.AgentWords.{least_of, lesser}
 
 -- a cost is there, and it is at most this
 abbrev pub IsAtMost : ℕ → Option ℕ → Type 0

@@ -1,17 +1,10 @@
 -- What a record says of its least open entry and of its least goal entry.
-use Rattle.std.proofs.Common.{◌≡◌, ℕ, ◌≤◌, true, Option, Some, None, refl, sym, ap, subst, ◌∙◌, inl, inr}
-use Rattle.std.specs.Prelude.{Contains, option_map, slice_get}
-use Rattle.std.proofs.lemmas.Bool.{cases_lt, false≢true}
-use Rattle.std.proofs.lemmas.Option.{none-some, same_Some, slice_get-get_or}
+use Rattle.mp_world.proofs.Basics.{◌≡◌, ℕ, ◌≤◌, true, Option, Some, None, refl, sym, ap, subst, ◌∙◌, inl, inr, Contains, option_map, slice_get, cases_lt, false≢true, none-some, same_Some, slice_get-get_or}
 use Rattle.mp_list.proofs.FirstLemmas.{found_first, nothing_found}
 use Rattle.mp_list.proofs.Members.{no_member}
-use Rattle.mp_store.specs.declared.entry.Entry.{Entry}
-use Rattle.mp_store.specs.declared.entry.Mark.TheVariants.{Open}
-use Rattle.mp_store.specs.Minima.{Numbered, first_open, is_nearer, least_f, those}
-use Rattle.mp_store.specs.Record.{Record, f, is_open}
+use Rattle.mp_store.specs.Minima.{least_f}
 use Rattle.mp_store.proofs.RankLemmas.{those_have}
-use Rattle.mp_search.specs.AgentState.{AgentState}
-use Rattle.mp_search.specs.Search.{bound}
+use Rattle.mp_world.specs.SearchWords.{Entry, Open, Numbered, first_open, is_nearer, those, Record, f, is_open, AgentState, bound}
 use Rattle.mp_team_states.proofs.Worth.{bound_least, nearer_less, nearer_strict, open_mark, there_at}
 use Rattle.mp_team_verdicts.proofs.Least.{IsAtMost, some_at_most}
 

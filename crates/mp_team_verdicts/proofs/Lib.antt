@@ -63,7 +63,7 @@ pub mod Alone
 -- may happen
 pub mod Complete
 pub mod Noting
-pub mod Reached
+pub mod ReachedWorlds
 pub mod Stuck
 pub mod GoingOn
 -- a verdict decides where no agent has anything to expand; worlds in which that is so and no state is under way; worlds that

@@ -1,14 +1,7 @@
 -- A verdict that proves a plan names an agent of the team.
-use Rattle.std.proofs.Common.{◌≡◌, ℕ, suc, ◌+◌, ◌<◌, ◌≤◌, Bool, true, false, cond, ◌&&◌, List, [], ◌∷◌, length, take, Option, Some, None, subst, arith}
-use Rattle.std.specs.Prelude.{nat_le, nat_lt}
-use Rattle.std.proofs.lemmas.Option.{none-some, same_Some}
+use Rattle.mp_world.proofs.Basics.{◌≡◌, ℕ, suc, ◌+◌, ◌<◌, ◌≤◌, Bool, true, false, cond, ◌&&◌, List, [], ◌∷◌, length, take, Option, Some, None, subst, arith, nat_le, nat_lt, none-some, same_Some}
 use Rattle.std.proofs.lemmas.List.{length-take}
-use Rattle.mp_messages.specs.declared.message.Findings.{Findings}
-use Rattle.mp_snapshot.specs.declared.verdict.Verdict.{Verdict}
-use Rattle.mp_snapshot.specs.declared.verdict.Verdict.TheVariants.{Proved, NoPlan, Spent, Continue}
-use Rattle.mp_snapshot.specs.Notes.{Notes}
-use Rattle.mp_snapshot.specs.Rules.{is_complete, verdict}
-use Rattle.mp_snapshot.specs.VerdictRule.{by_costs, first_from, is_cost, least_f, least_goal, lowest_agent, proved, spent_or_on, unproved, verdict_of}
+use Rattle.mp_world.specs.AgentWords.{Findings, Verdict, Proved, NoPlan, Spent, Continue, Notes, is_complete, verdict, by_costs, first_from, is_cost, least_f, least_goal, lowest_agent, proved, spent_or_on, unproved, verdict_of}
 
 -- an agent that is named is one of so many
 abbrev pub NamesOne : ℕ → Verdict → Type 0

@@ -1,17 +1,9 @@
 -- With each round the end of a decided search comes nearer.
-use Rattle.std.proofs.Common.{◌≡◌, ◌≢◌, ℕ, suc, ◌+◌, ◌*◌, ◌≤◌, ◌^◌, Bool, true, false, ◌&&◌, List, [], ◌∷◌, length, Option, Some, refl, sym, ap, subst, ◌∙◌, arith, ◌⊎◌, inl, inr}
-use Rattle.std.specs.Prelude.{◌==◌, Ok, filter}
-use Rattle.std.proofs.lemmas.Bool.{and_from, cases_eq, eq-eqb, false≢true, true_from_ne_false}
-use Rattle.std.proofs.lemmas.Option.{same_Some}
-use Rattle.mp_sets.specs.Numbers.{Numbers}
-use Rattle.mp_messages.specs.declared.history.Event.{Event}
-use Rattle.mp_messages.specs.declared.history.Event.TheVariants.{Take}
-use Rattle.mp_messages.specs.declared.message.Message.{Message}
-use Rattle.mp_messages.specs.declared.message.Message.TheVariants.{State, Marker, Report, Pick, Trace, Length, Done}
-use Rattle.mp_machine.specs.AgentRecord.{AgentRecord, given_verdict, is_going}
-use Rattle.mp_machine.specs.Outgoing.{Step}
-use Rattle.mp_machine.specs.Taking.{took_message}
-use Rattle.mp_machine.specs.Verdicts.{is_deciding}
+use Rattle.mp_world.proofs.Basics.{◌≡◌, ◌≢◌, ℕ, suc, ◌+◌, ◌*◌, ◌≤◌, ◌^◌, Bool, true, false, ◌&&◌, List, [], ◌∷◌, length, Option, Some, refl, sym, ap, subst, ◌∙◌, arith, ◌⊎◌, inl, inr, ◌==◌, Ok, filter, and_from, cases_eq, eq-eqb, false≢true, same_Some}
+use Rattle.std.proofs.lemmas.Bool.{true_from_ne_false}
+use Rattle.mp_messages.specs.declared.message.Message.TheVariants.{State}
+use Rattle.mp_world.specs.AgentWords.{Event, Take, Message, Marker, Report, Pick, Trace, Length, Done, AgentRecord, given_verdict, is_going, Step, took_message, is_deciding}
+use Rattle.mp_world.specs.SearchWords.{Numbers}
 use Rattle.mp_world.specs.Events.{is_legal}
 use Rattle.mp_world.specs.RoundRobin.{Round, is_over}
 use Rattle.mp_world.specs.Steps.{IsStepOf}
@@ -23,7 +15,7 @@ use Rattle.mp_team_snapshots.specs.Team.{IsTeamOf}
 use Rattle.mp_team_snapshots.proofs.Protocol.{IsOf}
 use Rattle.mp_team_snapshots.proofs.Worlds.{is_of_agent, team_numbers}
 use Rattle.mp_team_states.proofs.Messages.{path_over}
-use Rattle.mp_team_states.proofs.Reached.{has_it}
+use Rattle.mp_team_states.proofs.ReachedEntries.{has_it}
 use Rattle.mp_team_states.proofs.StepsSound.{records_sound}
 use Rattle.mp_world.proofs.LocalCases.{message_holds}
 use Rattle.mp_team_verdicts.specs.Ending.{HasEnded, IsAt, Stage, due, end_messages, is_of_end}
@@ -36,9 +28,9 @@ use Rattle.mp_team_verdicts.proofs.TakingEnds.{due_holds}
 use Rattle.mp_team_verdicts.proofs.Calm.{Reached}
 use Rattle.mp_team_verdicts.proofs.Hops.{few_messages}
 use Rattle.mp_team_verdicts.proofs.Nearing.{IsAsked, IsNear, IsPickedOut, asked_on, near_next, picked_on}
-use Rattle.mp_team_verdicts.proofs.Nearing.IsNear.{asked, chosen, told}
+use Rattle.mp_team_verdicts.proofs.Nearing.IsNear.{asked, chosen, one_ended}
 use Rattle.mp_team_verdicts.proofs.Points.{round_runs}
-use Rattle.mp_team_verdicts.proofs.Reached.{all_pass, known, onward}
+use Rattle.mp_team_verdicts.proofs.ReachedWorlds.{all_pass, known, onward}
 use Rattle.mp_team_verdicts.proofs.Stuck.{another_at, both_same, ends, is_agent, is_first, no_messages, nothing_left, of_there, one_goes}
 use Rattle.mp_team_verdicts.proofs.Turning.{round_turns}
 use Rattle.mp_team_verdicts.proofs.Waiting.{TakesEnd, left_of, left_or_taken, still_waits}
@@ -259,7 +251,7 @@ module _ (team : Team) (is_team : IsTeam team) (publics : ℕ) (of_team : IsTeam
 
     -- all have ended after the round, or the end is nearer by a round
     pub near_round : (rounds : ℕ) → Near w (suc rounds) → (is_over next ≡ true) ⊎ Near next rounds
-    near_round rounds (told agent ended some) = inl (over_after agent ended)
+    near_round rounds (one_ended agent ended some) = inl (over_after agent ended)
     near_round rounds (asked from to messages asks enough) =
         inr (round_turns team is_team publics of_team (λ v. IsAsked n publics v from to messages) (λ v. Near v rounds)
         (λ v later event at_v at_later step is.
@@ -292,8 +284,8 @@ module _ (team : Team) (is_team : IsTeam team) (publics : ℕ) (of_team : IsTeam
       by searching a =
           absurd (false≢true (sym a.verdict
           ∙ ap (λ (r : AgentRecord). is_deciding (given_verdict r)) (same_Some a.first first (sym a.there ∙ there)) ∙ decides))
-      by (without_plan kind) a = told 1 a.verdict.teller (omega arith)
-      by (over teller plan) a = told teller a.verdict.teller (omega arith)
+      by (without_plan kind) a = one_ended 1 a.verdict.teller (omega arith)
+      by (over teller plan) a = one_ended teller a.verdict.teller (omega arith)
       by (picking agent number plan) a =
           let p = a.verdict.proved in
           let here : agent_at w agent ≡ Some p.picked = sym (ap (agent_at w) a.verdict.agent_is) ∙ p.there in

@@ -1,23 +1,8 @@
 -- The end of a search comes nearer: a message of it is taken, and what the agent does by it.
-use Rattle.std.proofs.Common.{◌≡◌, ◌≢◌, ℕ, suc, ◌+◌, ◌*◌, ◌≤◌, ◌^◌, Bool, true, List, [], ◌∷◌, ◌++◌, length, Option, Some, None, refl, sym, ap, subst, ◌∙◌, arith, ◌⊎◌, inl, inr}
-use Rattle.std.specs.Prelude.{IsSomeAnd, Ok, Err, if◌then◌else◌}
-use Rattle.std.specs.Option.{option_map_or}
-use Rattle.std.proofs.lemmas.Bool.{eq-eqb}
-use Rattle.std.proofs.lemmas.Option.{same_Some}
-use Rattle.mp_task.specs.Plan.{TaskStep}
-use Rattle.mp_messages.specs.declared.history.Event.{Event}
-use Rattle.mp_messages.specs.declared.message.Message.{Message}
-use Rattle.mp_messages.specs.declared.message.Message.TheVariants.{Pick, Trace}
-use Rattle.mp_store.specs.Sent.{sent_entry}
-use Rattle.mp_search.specs.Search.{SearchRecord}
-use Rattle.mp_trail.specs.declared.steps.Walked.{Walked}
-use Rattle.mp_trail.specs.declared.steps.Walked.TheVariants.{Root as AtRoot, Hop}
-use Rattle.mp_trail.specs.Walk.{walk}
-use Rattle.mp_machine.specs.declared.refusal.BadKind.TheVariants.{StrangePick, StrangeTrace}
-use Rattle.mp_machine.specs.AgentRecord.{AgentRecord, is_going}
-use Rattle.mp_machine.specs.Outgoing.{Step, to_one, without_messages}
-use Rattle.mp_machine.specs.Taking.{is_strange_pick, is_strange_trace, took_message, traced}
-use Rattle.mp_machine.specs.WalkingBack.{arrived, walked, walked_from_goal}
+use Rattle.mp_world.proofs.Basics.{◌≡◌, ◌≢◌, ℕ, suc, ◌+◌, ◌*◌, ◌≤◌, ◌^◌, Bool, true, List, [], ◌∷◌, ◌++◌, length, Option, Some, None, refl, sym, ap, subst, ◌∙◌, arith, ◌⊎◌, inl, inr, IsSomeAnd, Ok, Err, if◌then◌else◌, option_map_or, eq-eqb, same_Some}
+use Rattle.mp_trail.specs.declared.steps.Walked.TheVariants.{Root as AtRoot}
+use Rattle.mp_world.specs.AgentWords.{TaskStep, Event, Message, Pick, Trace, Walked, Hop, walk, StrangePick, StrangeTrace, AgentRecord, is_going, Step, to_one, without_messages, is_strange_pick, is_strange_trace, took_message, traced, arrived, walked, walked_from_goal}
+use Rattle.mp_world.specs.SearchWords.{sent_entry, SearchRecord}
 use Rattle.mp_world.specs.Events.{agent_of}
 use Rattle.mp_world.specs.Steps.{IsStepOf}
 use Rattle.mp_world.specs.Team.{IsTeam, Team}
@@ -37,13 +22,13 @@ use Rattle.mp_team_verdicts.proofs.EndMessages.{ends_to, one_end}
 use Rattle.mp_team_verdicts.proofs.Frames.{IsKnownWorld, ended_stays}
 use Rattle.mp_team_verdicts.proofs.InRuns.{EndsSoFar}
 use Rattle.mp_team_verdicts.proofs.Heard.{EndsElsewhere, walk_elsewhere}
-use Rattle.mp_team_states.proofs.Reached.{sent_at_stays}
+use Rattle.mp_team_states.proofs.ReachedEntries.{sent_at_stays}
 use Rattle.mp_team_verdicts.proofs.EndSteps.{walked_keeps}
 use Rattle.mp_team_verdicts.proofs.TakenEnds.{sent_is}
 use Rattle.mp_team_verdicts.proofs.TakingEnds.{due_holds}
 use Rattle.mp_team_verdicts.proofs.Calm.{Reached}
 use Rattle.mp_team_verdicts.proofs.Hops.{few_messages, hop_over, over_stays}
-use Rattle.mp_team_verdicts.proofs.Reached.{known}
+use Rattle.mp_team_verdicts.proofs.ReachedWorlds.{known}
 use Rattle.mp_team_verdicts.proofs.Stuck.{ends, is_agent, is_first, of_there}
 use Rattle.mp_team_verdicts.proofs.Waiting.{TakesEnd, alone, ends_after, few_ends, left_of, left_or_taken, still_waits}
 
@@ -68,7 +53,7 @@ pub record IsPickedOut (agents publics : ℕ) (w : World) (to : ℕ) : Type 0 wh
 
 -- The end of the search takes at most so many rounds more: an agent has ended, or one is asked or picked.
 pub data IsNear (agents publics : ℕ) (w : World) (rounds : ℕ) : Type 0 where
-  told : (agent : ℕ) → HasEnded w agent → 1 ≤ rounds → IsNear agents publics w rounds
+  one_ended : (agent : ℕ) → HasEnded w agent → 1 ≤ rounds → IsNear agents publics w rounds
   asked :
       (from to messages : ℕ) → IsAsked agents publics w from to messages → messages + 2 ≤ rounds
       → IsNear agents publics w rounds
@@ -156,7 +141,7 @@ module _ (team : Team) (is_team : IsTeam team) (publics : ℕ) (of_team : IsTeam
               → arrived (record r { trail = r.trail ++ (walk r.search.kept entry back).noted }) end ≡ step.step
               → EndsElsewhere b end → Near next rounds
           by (AtRoot long) ends_at now elsewhere =
-              told b (record {
+              one_ended b (record {
                 who = step.step.after;
                 there = step.after;
                 ended = ap (λ (s : Step). is_going s.after.ending) (sym now);
@@ -283,8 +268,8 @@ module _ (team : Team) (is_team : IsTeam team) (publics : ℕ) (of_team : IsTeam
 
     -- the end does not get further away
     pub near_next : (rounds : ℕ) → Near w rounds → Near next rounds
-    near_next rounds (told agent ended some) =
-        told agent (ended_stays value publics tasks of_team w (is_known w at).team event next step agent ended) some
+    near_next rounds (one_ended agent ended some) =
+        one_ended agent (ended_stays value publics tasks of_team w (is_known w at).team event next step agent ended) some
     near_next rounds (asked from to messages asks some) =
         elim (asked_on from to messages asks) [
           | inl still ↦ asked from to messages still some

@@ -1,21 +1,8 @@
 -- The search does not go on over nine rounds in which no agent expands.
-use Rattle.std.proofs.Common.{◌≡◌, ℕ, ◌+◌, ◌≤◌, ◌<◌, ◌^◌, Bool, true, List, ◌++◌, length, take, Some, None, refl, sym, ap, ◌∙◌, arith, ◌⊎◌, inl, inr}
-use Rattle.std.specs.Prelude.{nat_lt, if◌then◌else◌}
-use Rattle.std.proofs.lemmas.Bool.{and_from, and_parts, cases_eq, false≢true, lt-ltb}
-use Rattle.mp_messages.specs.declared.history.Event.{Event}
-use Rattle.mp_messages.specs.declared.history.Event.TheVariants.{Expand, Take, Start}
-use Rattle.mp_messages.specs.declared.message.Message.{Message}
-use Rattle.mp_messages.specs.declared.message.Message.TheVariants.{State as AState, Marker, Report, Pick, Trace, Length, Done}
-use Rattle.mp_snapshot.specs.Notes.{Notes}
-use Rattle.mp_snapshot.specs.Rules.{is_complete}
-use Rattle.mp_snapshot.specs.VerdictRule.{verdict_of}
-use Rattle.mp_snapshot.specs.declared.verdict.Verdict.{Verdict}
-use Rattle.mp_snapshot.specs.declared.verdict.Verdict.TheVariants.{Proved, NoPlan, Spent, Continue}
-use Rattle.mp_machine.specs.AgentRecord.{AgentRecord, given_verdict, is_going}
-use Rattle.mp_machine.specs.LocalStep.{may_start}
-use Rattle.mp_machine.specs.Outgoing.{Step}
-use Rattle.mp_machine.specs.Verdicts.{is_deciding}
+use Rattle.mp_world.proofs.Basics.{◌≡◌, ℕ, ◌+◌, ◌≤◌, ◌<◌, ◌^◌, Bool, true, List, ◌++◌, length, take, Some, None, refl, sym, ap, ◌∙◌, arith, ◌⊎◌, inl, inr, nat_lt, if◌then◌else◌, and_from, and_parts, cases_eq, false≢true, lt-ltb}
+use Rattle.mp_messages.specs.declared.message.Message.TheVariants.{State as AState}
 use Rattle.mp_machine.proofs.NotesLemmas.{given_at_first}
+use Rattle.mp_world.specs.AgentWords.{Event, Expand, Take, Start, Message, Marker, Report, Pick, Trace, Length, Done, Notes, is_complete, verdict_of, Verdict, Proved, NoPlan, Spent, Continue, AgentRecord, given_verdict, is_going, may_start, Step, is_deciding}
 use Rattle.mp_world.specs.Events.{agent_of, taken}
 use Rattle.mp_world.specs.Steps.{IsStepOf}
 use Rattle.mp_world.specs.Team.{IsTeam, Team}
@@ -33,7 +20,7 @@ use Rattle.mp_team_snapshots.proofs.Taken.{its_notes}
 use Rattle.mp_team_verdicts.proofs.Calm.{AllGo, Goes, IsQuietRound, Reached, goes_reached, no_states_after, number_at, rises, silent_after, silent_on, went_on}
 use Rattle.mp_team_verdicts.proofs.Fresh.{AreFresh, IsSilent, fresh_next, no_start, not_continue, quiet_in_silence, silent_next}
 use Rattle.mp_team_verdicts.proofs.Progress.{behind, complete3, leads_on, round_leads}
-use Rattle.mp_team_verdicts.proofs.Reached.{all_pass, known, onward}
+use Rattle.mp_team_verdicts.proofs.ReachedWorlds.{all_pass, known, onward}
 use Rattle.mp_team_verdicts.proofs.Starting.{starts_next}
 use Rattle.mp_team_verdicts.proofs.Staying.{counted_number}
 use Rattle.mp_team_verdicts.proofs.Stuck.{HasNumberLeft, is_first, of_there, sound_view}

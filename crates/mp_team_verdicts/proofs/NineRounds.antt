@@ -1,7 +1,6 @@
 -- Nine rounds without an expansion, as they are told.
-use Rattle.std.proofs.Common.{◌≡◌, ℕ, ◌+◌, ◌<◌, ◌^◌, length, Some, sym, ap, ◌∙◌, arith}
-use Rattle.mp_snapshot.specs.Notes.{Notes}
-use Rattle.mp_machine.specs.AgentRecord.{AgentRecord}
+use Rattle.mp_world.proofs.Basics.{◌≡◌, ℕ, ◌+◌, ◌<◌, ◌^◌, length, Some, sym, ap, ◌∙◌, arith}
+use Rattle.mp_world.specs.AgentWords.{Notes, AgentRecord}
 use Rattle.mp_world.specs.Team.{IsTeam, Team}
 use Rattle.mp_world.specs.World.{World, agent_at}
 use Rattle.mp_team_snapshots.specs.Team.{IsTeamOf}
@@ -11,7 +10,7 @@ use Rattle.mp_team_verdicts.proofs.Calm.{goes_reached}
 use Rattle.mp_team_verdicts.proofs.Calm.{IsQuietRound as IsQuiet}
 use Rattle.mp_team_verdicts.proofs.Nine.{never_nine}
 use Rattle.mp_team_verdicts.proofs.Points.{round_runs}
-use Rattle.mp_team_verdicts.proofs.Reached.{IsReached}
+use Rattle.mp_team_verdicts.proofs.ReachedWorlds.{IsReached}
 use Rattle.mp_team_verdicts.proofs.Undecided.{searches_still}
 
 module _ (team : Team) (is_team : IsTeam team) (publics : ℕ) (of_team : IsTeamOf publics team.tasks) where

@@ -1,19 +1,8 @@
 -- No agent has taken a message that it found to be a bad one.
-use Rattle.std.proofs.Common.{◌≡◌, ℕ, true, false, ◌&&◌, List, [], ◌∷◌, length, Option, Some, None, refl, sym, ap, subst, ◌∙◌}
-use Rattle.std.specs.Prelude.{◌==◌, Contains, Result, Ok, Err, not, slice_get, slice_index_or}
-use Rattle.std.specs.Option.{option_map_or}
-use Rattle.std.proofs.Math.Dec.{eqb-suc-zero}
-use Rattle.std.proofs.lemmas.Option.{none-some, same_Some}
-use Rattle.mp_task.specs.AgentTask.{AgentTask}
+use Rattle.mp_world.proofs.Basics.{◌≡◌, ℕ, true, false, ◌&&◌, List, [], ◌∷◌, length, Option, Some, None, refl, sym, ap, subst, ◌∙◌, ◌==◌, Contains, Result, Ok, Err, not, slice_get, slice_index_or, option_map_or, eqb-suc-zero, none-some, same_Some}
 use Rattle.mp_messages.specs.declared.history.Entry.{Entry}
-use Rattle.mp_messages.specs.declared.history.Event.{Event}
-use Rattle.mp_messages.specs.declared.history.Event.TheVariants.{Take}
-use Rattle.mp_messages.specs.History.{part, schedule}
 use Rattle.mp_machine.specs.declared.event.Local.TheVariants as locals
-use Rattle.mp_machine.specs.declared.refusal.BadKind.{BadKind}
-use Rattle.mp_machine.specs.AgentRecord.{AgentRecord, new_record}
-use Rattle.mp_machine.specs.LocalStep.{local, may}
-use Rattle.mp_machine.specs.Outgoing.{Step}
+use Rattle.mp_world.specs.AgentWords.{AgentTask, Event, Take, part, schedule, BadKind, AgentRecord, new_record, local, may, Step}
 use Rattle.mp_world.specs.Events.{agent_may, is_legal, taken}
 use Rattle.mp_world.specs.Team.{IsTeam, Team}
 use Rattle.mp_world.specs.World.{AreNumbered, IsAgent, World, agent_at, under_way}

@@ -1,12 +1,8 @@
 -- The notes of agents grow by the steps that a walk back goes over.
-use Rattle.std.proofs.Common.{◌≡◌, ◌≢◌, ℕ, ◌+◌, ◌<◌, Bool, true, false, ◌&&◌, List, [], ◌∷◌, ◌++◌, length, All, refl, sym, ap, ◌∙◌, append_assoc, append-nil, arith}
-use Rattle.std.specs.Prelude.{◌==◌, if◌then◌else◌, nat_lt}
-use Rattle.std.proofs.lemmas.Bool.{and_parts, eq-eqb, eqb-true, false_from_ne_true, lt-ltb, ltb-true}
-use Rattle.std.proofs.lemmas.List.{length-append}
-use Rattle.std.proofs.lemmas.List.Elements.{All-head, All-tail}
-use Rattle.mp_task.specs.Plan.{TaskStep}
-use Rattle.mp_trail.specs.declared.steps.Noted.{Noted}
+use Rattle.mp_world.proofs.Basics.{◌≡◌, ◌≢◌, ℕ, ◌+◌, ◌<◌, Bool, true, false, ◌&&◌, List, [], ◌∷◌, ◌++◌, length, All, refl, sym, ap, ◌∙◌, append_assoc, append-nil, arith, ◌==◌, if◌then◌else◌, nat_lt, and_parts, eq-eqb, eqb-true, false_from_ne_true, lt-ltb, ltb-true}
+use Rattle.mp_world.proofs.Basics.{length-append, All-head, All-tail}
 use Rattle.mp_trail.specs.Share.{fits}
+use Rattle.mp_world.specs.AgentWords.{TaskStep, Noted}
 use Rattle.mp_team_states.specs.Walks.{noted_of}
 use Rattle.mp_team_verdicts.specs.Ending.{notes}
 

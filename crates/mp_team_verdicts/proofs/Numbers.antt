@@ -1,11 +1,7 @@
 -- The number of agent 1's last snapshot is at most that of the events so far.
-use Rattle.std.proofs.Common.{◌≡◌, ℕ, ◌+◌, ◌≤◌, List, [], ◌∷◌, length, Some, refl, sym, ap, ◌∙◌, arith, ◌⊎◌, inl, inr}
-use Rattle.std.proofs.lemmas.Bool.{cases_eq}
-use Rattle.std.proofs.lemmas.Option.{same_Some}
+use Rattle.mp_world.proofs.Basics.{◌≡◌, ℕ, ◌+◌, ◌≤◌, List, [], ◌∷◌, length, Some, refl, sym, ap, ◌∙◌, arith, ◌⊎◌, inl, inr, cases_eq, same_Some}
 use Rattle.mp_runs.proofs.Runs.{run-none, run_parts}
-use Rattle.mp_messages.specs.declared.history.Event.{Event}
-use Rattle.mp_snapshot.specs.Notes.{Notes}
-use Rattle.mp_machine.specs.AgentRecord.{AgentRecord}
+use Rattle.mp_world.specs.AgentWords.{Event, Notes, AgentRecord}
 use Rattle.mp_world.specs.Events.{after_event, agent_of, run}
 use Rattle.mp_world.specs.Steps.{IsStepOf}
 use Rattle.mp_world.specs.Team.{IsTeam, Team}
@@ -18,7 +14,7 @@ use Rattle.mp_team_snapshots.proofs.Worlds.{note_at, note_of}
 use Rattle.mp_team_verdicts.proofs.Frames.{IsKnownWorld}
 use Rattle.mp_team_verdicts.proofs.Calm.{Goes, Reached}
 use Rattle.mp_team_verdicts.proofs.Noting.{moved}
-use Rattle.mp_team_verdicts.proofs.Reached.{known, reached_next, start_reached, step_of}
+use Rattle.mp_team_verdicts.proofs.ReachedWorlds.{known, reached_next, start_reached, step_of}
 use Rattle.mp_team_verdicts.proofs.Staying.{number_moves}
 use Rattle.mp_team_verdicts.proofs.Stuck.{is_agent, is_first}
 

@@ -1,24 +1,16 @@
 -- An agent has one entry for each path: so no two of its entries are of the same message.
-use Rattle.std.proofs.Common.{◌≡◌, ◌≢◌, ℕ, ◌+◌, ◌*◌, ◌≤◌, ◌<◌, ◌^◌, Bool, true, false, List, [], ◌∷◌, length, map, get_or, Option, Some, None, All, refl, sym, ap, subst, ◌∙◌, arith}
-use Rattle.std.specs.Prelude.{AllPairs, IsSomeAnd, filter, if◌then◌else◌, slice_get}
+use Rattle.mp_world.proofs.Basics.{◌≡◌, ◌≢◌, ℕ, ◌+◌, ◌*◌, ◌≤◌, ◌<◌, ◌^◌, Bool, true, false, List, [], ◌∷◌, length, map, get_or, Option, Some, None, All, refl, sym, ap, subst, ◌∙◌, arith, IsSomeAnd, filter, if◌then◌else◌, slice_get, get_or-map, length-map}
+use Rattle.mp_world.proofs.Basics.{All-contains, All-filter, All-map, get_or_from_slice_get, same_Some, slice_get-get_or, slice_get_within}
+use Rattle.std.specs.Prelude.{AllPairs}
 use Rattle.std.specs.Cmp.{unsigned_Decides}
-use Rattle.std.proofs.lemmas.List.{get_or-map, length-map}
-use Rattle.std.proofs.lemmas.List.Elements.{All-contains, All-filter, All-map, filter_passes}
+use Rattle.std.proofs.lemmas.List.Elements.{filter_passes}
 use Rattle.std.proofs.lemmas.List.Kept.{AllPairs-filter}
 use Rattle.std.proofs.lemmas.List.Sums.{sum_by-cons}
 use Rattle.std.proofs.lemmas.Map.Made.{IsDistinct-from_AllPairs, is_member-Decides}
 use Rattle.std.proofs.lemmas.Map.Steps.{length-le_from_distinct_below}
-use Rattle.std.proofs.lemmas.Option.{get_or_from_slice_get, same_Some, slice_get-get_or, slice_get_within}
-use Rattle.mp_runs.specs.System.{state_after}
-use Rattle.mp_task.specs.AgentTask.{AgentTask}
-use Rattle.mp_task.specs.Plan.{TaskStep, joint_start, task_cost, team_system}
-use Rattle.mp_store.specs.declared.entry.Entry.{Entry}
-use Rattle.mp_store.specs.declared.entry.Origin.{Origin}
-use Rattle.mp_store.specs.declared.entry.Origin.TheVariants.{Root, Own, From}
-use Rattle.mp_store.specs.Record.{new_entry}
-use Rattle.mp_search.specs.AgentState.{AgentState, same_state, start_state}
 use Rattle.mp_search.proofs.KeyedStates.{Decides-state, all_get}
-use Rattle.mp_machine.specs.AgentRecord.{AgentRecord}
+use Rattle.mp_world.specs.AgentWords.{state_after, AgentTask, TaskStep, joint_start, task_cost, team_system, AgentRecord}
+use Rattle.mp_world.specs.SearchWords.{Entry, Origin, Root, Own, From, new_entry, AgentState, same_state, start_state}
 use Rattle.mp_world.specs.Joint.{joint}
 use Rattle.mp_world.specs.Team.{AreTeamTasks}
 use Rattle.mp_world.specs.World.{IsTeamWorld, World, agent_at}
@@ -29,7 +21,7 @@ use Rattle.mp_team_states.specs.Paths.{AreReached, IsPath, IsReached, IsSentAt}
 use Rattle.mp_team_states.specs.Paths.IsPath.{at_root, by_action, by_message}
 use Rattle.mp_team_states.specs.Sound.{AreStatesSound, IsStateOf}
 use Rattle.mp_team_states.proofs.GoodStates.{equal_if_joint}
-use Rattle.mp_team_states.proofs.Reached.{entry_in, one_path, origins, same_sent}
+use Rattle.mp_team_states.proofs.ReachedEntries.{entry_in, one_path, origins, same_sent}
 use Rattle.mp_team_states.proofs.StepsSound.{agent_sound, limits_of}
 use Rattle.mp_team_verdicts.proofs.OwnEntries.{HasFewOwn, own_count, own_one}
 

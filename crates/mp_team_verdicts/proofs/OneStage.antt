@@ -1,21 +1,13 @@
 -- A world is at one stage, but for the agent that tells a plan's length.
-use Rattle.std.proofs.Common.{◌≡◌, ℕ, Bool, true, ◌&&◌, List, [], ◌∷◌, ◌++◌, length, Some, refl, sym, ap, subst, ◌∙◌, arith}
-use Rattle.std.specs.Prelude.{◌==◌}
-use Rattle.std.proofs.lemmas.Bool.{and_parts, eq-eqb, eqb-true, false≢true}
-use Rattle.std.proofs.lemmas.List.{length-append}
-use Rattle.std.proofs.lemmas.Option.{same_Some}
-use Rattle.mp_task.specs.Plan.{TaskStep}
-use Rattle.mp_messages.specs.declared.message.EndKind.{EndKind}
-use Rattle.mp_messages.specs.declared.message.Message.TheVariants.{Length, Pick, Trace}
-use Rattle.mp_machine.specs.AgentRecord.{AgentRecord, given_verdict, is_going}
-use Rattle.mp_machine.specs.Verdicts.{is_deciding, is_proved}
+use Rattle.mp_world.proofs.Basics.{◌≡◌, ℕ, Bool, true, ◌&&◌, List, [], ◌∷◌, ◌++◌, length, Some, refl, sym, ap, subst, ◌∙◌, arith, ◌==◌, and_parts, eq-eqb, eqb-true, false≢true, length-append, same_Some}
+use Rattle.mp_world.specs.AgentWords.{TaskStep, EndKind, Length, Pick, Trace, AgentRecord, given_verdict, is_going, is_deciding, is_proved}
 use Rattle.mp_world.specs.World.{IsAgent, World, agent_at}
 use Rattle.mp_world.proofs.Mail.{agent_of_team}
 use Rattle.mp_team_snapshots.specs.Snapshots.{one_if_due}
 use Rattle.mp_team_states.specs.Paths.{IsPath}
-use Rattle.mp_team_states.proofs.Reached.{has_it, one_path}
+use Rattle.mp_team_states.proofs.ReachedEntries.{has_it, one_path}
 use Rattle.mp_team_verdicts.specs.Ending.{AreSame, IsAt, IsProved, LeadsTo, Stage, due, end_by}
-use Rattle.mp_team_verdicts.specs.Ending.AreSame.{same, told}
+use Rattle.mp_team_verdicts.specs.Ending.AreSame.{any_teller, same}
 use Rattle.mp_team_verdicts.specs.Ending.Stage.{over, picking, searching, walking, without_plan}
 use Rattle.mp_team_verdicts.proofs.Proving.{end_decides, end_unproved}
 use Rattle.mp_team_verdicts.proofs.Short.{path_entry}
@@ -150,7 +142,7 @@ module _ (publics : ℕ) (w : World) where
   overs_same teller plan other whole a b =
       let q = proved_of (over teller plan) (over other whole) a b whole b.verdict.proved in
       let plans = (same_plan w a.first plan whole a.verdict.proved q).0 in
-      subst (λ (xs : List TaskStep). AreSame (over teller plan) (over other xs)) plans (told teller other plan)
+      subst (λ (xs : List TaskStep). AreSame (over teller plan) (over other xs)) plans (any_teller teller other plan)
 
   pub one_stage : (s t : Stage) → IsAt publics w s → IsAt publics w t → AreSame s t
   one_stage searching searching a b = same searching

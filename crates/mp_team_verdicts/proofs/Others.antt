@@ -1,24 +1,8 @@
 -- The other agents of a team, and origins that are none of the agent itself.
-use Rattle.std.proofs.Common.{◌≡◌, ℕ, zero, suc, ◌+◌, ◌⊎◌, [], length, Option, Some, None, refl, sym, subst, ◌∙◌, inl, inr}
-use Rattle.std.specs.Prelude.{Contains, not, slice_get, ◌==◌}
-use Rattle.std.specs.Option.{option_map_or}
-use Rattle.std.proofs.lemmas.Option.{none-some}
-use Rattle.mp_sets.specs.Numbers.{Numbers}
-use Rattle.mp_task.specs.AgentTask.{AgentTask}
-use Rattle.mp_messages.specs.declared.message.State.{State}
-use Rattle.mp_store.specs.declared.entry.Entry.{Entry}
-use Rattle.mp_store.specs.declared.entry.Origin.{Origin}
-use Rattle.mp_store.specs.declared.entry.Origin.TheVariants.{Root, Own, From}
-use Rattle.mp_store.specs.Record.{Record, empty}
-use Rattle.mp_search.specs.AgentState.{AgentState}
-use Rattle.mp_search.specs.Expansion.{expanded}
-use Rattle.mp_search.specs.Offering.{start_record}
-use Rattle.mp_search.specs.Receipt.{received}
-use Rattle.mp_search.specs.Search.{SearchRecord}
-use Rattle.mp_trail.specs.declared.steps.Walked.{Walked}
+use Rattle.mp_world.proofs.Basics.{◌≡◌, ℕ, zero, suc, ◌+◌, ◌⊎◌, [], length, Option, Some, None, refl, sym, subst, ◌∙◌, inl, inr, Contains, not, slice_get, ◌==◌, option_map_or, none-some}
 use Rattle.mp_trail.specs.declared.steps.Walked.TheVariants as ends
-use Rattle.mp_trail.specs.Walk.{origin_of, walk_from, walk_within}
-use Rattle.mp_machine.specs.Outgoing.{others}
+use Rattle.mp_world.specs.AgentWords.{AgentTask, State, Walked, origin_of, walk_from, walk_within, others}
+use Rattle.mp_world.specs.SearchWords.{Numbers, Entry, Origin, Root, Own, From, Record, empty, AgentState, expanded, start_record, received, SearchRecord}
 use Rattle.mp_team_states.proofs.Joint.{IsReceiver, listed_is, not_equal}
 use Rattle.mp_team_states.proofs.Entries.{IsNew, IsOld, changes_entry}
 use Rattle.mp_team_states.proofs.Expanding.{IsFirst, IsReceived, Led, expanded_changes, received_changes, start_changes}

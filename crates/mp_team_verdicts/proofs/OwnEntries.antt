@@ -1,35 +1,13 @@
 -- How many entries an agent keeps to which no message led: at most 200,000 for each expansion.
-use Rattle.std.proofs.Common.{◌≡◌, ℕ, ◌+◌, ◌*◌, ◌≤◌, ◌^◌, ◌⊎◌, Bool, true, false, cond, List, [], ◌∷◌, ◌++◌, length, map, Option, Some, None, refl, sym, ap, subst, ◌∙◌, arith, inl, inr}
-use Rattle.std.specs.Prelude.{Ok, nat_lt, slice_get, slice_set}
-use Rattle.std.specs.List.{sum_by}
-use Rattle.std.specs.Option.{option_map_or}
+use Rattle.mp_world.proofs.Basics.{◌≡◌, ℕ, ◌+◌, ◌*◌, ◌≤◌, ◌^◌, ◌⊎◌, Bool, true, false, cond, List, [], ◌∷◌, ◌++◌, length, map, Option, Some, None, refl, sym, ap, subst, ◌∙◌, arith, inl, inr, Ok, nat_lt, slice_get, slice_set, sum_by, option_map_or}
 use Rattle.std.proofs.lemmas.List.Sums.{sum_by-cons, sum_by_push}
-use Rattle.mp_sets.specs.Numbers.{Numbers}
-use Rattle.mp_task.specs.declared.act.Act.{Act}
-use Rattle.mp_task.specs.AgentTask.{AgentTask}
-use Rattle.mp_messages.specs.declared.message.State.{State}
-use Rattle.mp_store.specs.declared.entry.Entry.{Entry}
-use Rattle.mp_store.specs.declared.entry.Mark.TheVariants.{Expanded}
-use Rattle.mp_store.specs.declared.entry.Offer.TheVariants.{Kept, Worse}
-use Rattle.mp_store.specs.declared.entry.Origin.{Origin}
-use Rattle.mp_store.specs.declared.entry.Origin.TheVariants.{Root, Own, From}
-use Rattle.mp_store.specs.Minima.{best, closed, least_open}
-use Rattle.mp_store.specs.Record.{Record, gives_way, is_known, kept, new_entry}
-use Rattle.mp_store.specs.Sent.{mark_sent, sent_if_new, was_sent}
+use Rattle.mp_store.specs.Sent.{mark_sent}
 use Rattle.mp_store.proofs.Marks.{SameButMarks, closing_marks, giving_way_marks, unmarked}
 use Rattle.mp_search.specs.declared.answer.Received.TheVariants as receptions
-use Rattle.mp_search.specs.declared.answer.Sending.{Sending}
-use Rattle.mp_search.specs.AgentState.{AgentState, applies, is_goal_state, same_state, successor}
-use Rattle.mp_search.specs.Expansion.{Parent, expanded, expanded_entry, with_action, with_actions, with_successor}
-use Rattle.mp_search.specs.Offering.{by_keep_rule, offered_at, offered_with, own_value}
-use Rattle.mp_search.specs.Receipt.{greater_value, received, state_of}
-use Rattle.mp_search.specs.Search.{SearchRecord}
-use Rattle.mp_search.specs.Sending.{is_due, sending_of, sent_best, sent_entry_of, sent_if_due}
-use Rattle.mp_machine.specs.declared.event.Local.{Local}
-use Rattle.mp_machine.specs.AgentRecord.{AgentRecord}
-use Rattle.mp_machine.specs.LocalStep.{local, with_search}
-use Rattle.mp_machine.specs.Outgoing.{Step}
-use Rattle.mp_machine.specs.Taking.{with_state}
+use Rattle.mp_world.specs.AgentWords.{Act, AgentTask, State, Local, AgentRecord, local, with_search, Step, with_state}
+use Rattle.mp_world.specs.SearchWords.{Numbers, Entry, Expanded, Kept, Worse, Origin, Root, Own, From, best, closed, least_open, Record, gives_way, is_known, kept, new_entry, sent_if_new, was_sent, Sending, AgentState, applies, is_goal_state, same_state, successor}
+use Rattle.mp_world.specs.SearchWords.{Parent, expanded, expanded_entry, with_action, with_actions, with_successor, by_keep_rule, offered_at, offered_with, own_value, greater_value, received, state_of, SearchRecord, is_due, sending_of, sent_best, sent_entry_of}
+use Rattle.mp_world.specs.SearchWords.{sent_if_due}
 use Rattle.mp_team_states.proofs.WorldsGrow.{search_holds}
 
 -- 1 for an origin that is no message

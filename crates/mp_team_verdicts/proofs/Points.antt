@@ -1,14 +1,11 @@
 -- Points of a round: worlds that it goes through.
-use Rattle.std.proofs.Common.{◌≡◌, ◌≢◌, ℕ, zero, suc, ◌+◌, ◌≤◌, ◌<◌, Bool, true, false, ◌||◌, List, [], ◌∷◌, ◌++◌, Some, refl, sym, ap, subst, ◌∙◌, append_assoc, append-nil, arith, ◌⊎◌, inl, inr}
-use Rattle.std.specs.Prelude.{◌==◌, filter, not}
-use Rattle.std.specs.List.{list_any, range_with_len}
-use Rattle.std.proofs.lemmas.Bool.{and_parts, eqb-false, eqb-true, false≢true}
+use Rattle.mp_world.proofs.Basics.{◌≡◌, ◌≢◌, ℕ, zero, suc, ◌+◌, ◌≤◌, ◌<◌, Bool, true, false, ◌||◌, List, [], ◌∷◌, ◌++◌, Some, refl, sym, ap, subst, ◌∙◌, append_assoc, append-nil, arith, ◌⊎◌, inl, inr, ◌==◌, filter, not, range_with_len, and_parts, eqb-false}
+use Rattle.mp_world.proofs.Basics.{eqb-true, false≢true}
+use Rattle.std.specs.List.{list_any}
 use Rattle.std.proofs.lemmas.List.Folds.{list_all-append}
 use Rattle.mp_runs.specs.Run.{run as run_of}
 use Rattle.mp_runs.proofs.Runs.{run-after, run-first, run-none, run-one}
-use Rattle.mp_messages.specs.declared.history.Event.{Event}
-use Rattle.mp_messages.specs.declared.history.Event.TheVariants.{Expand, Take, Start}
-use Rattle.mp_machine.specs.Outgoing.{others}
+use Rattle.mp_world.specs.AgentWords.{Event, Expand, Take, Start, others}
 use Rattle.mp_world.specs.Events.{after_event, is_legal}
 use Rattle.mp_world.specs.RoundRobin.{AsLongAsItMay, ForEach, IfItMay, Nothing, Round, StartsIfFirst, Then, Turn}
 use Rattle.mp_world.specs.RoundRobin.AsLongAsItMay.{no_more, once_more}

@@ -1,11 +1,7 @@
 -- In silence agent 1 has the findings of all agents after three rounds more, unless it starts another snapshot.
-use Rattle.std.proofs.Common.{◌≡◌, ◌≢◌, ℕ, ◌+◌, ◌≤◌, ◌<◌, true, List, [], ◌++◌, length, sym, ap, subst, ◌∙◌, arith, ◌⊎◌, inl, inr}
-use Rattle.std.proofs.lemmas.Bool.{cases_eq}
+use Rattle.mp_world.proofs.Basics.{◌≡◌, ◌≢◌, ℕ, ◌+◌, ◌≤◌, ◌<◌, true, List, [], ◌++◌, length, sym, ap, subst, ◌∙◌, arith, ◌⊎◌, inl, inr, cases_eq}
 use Rattle.mp_runs.proofs.Runs.{run-after, run-none}
-use Rattle.mp_messages.specs.declared.history.Event.{Event}
-use Rattle.mp_snapshot.specs.Notes.{Notes}
-use Rattle.mp_snapshot.specs.Rules.{has, is_complete, is_whole}
-use Rattle.mp_machine.specs.AgentRecord.{AgentRecord}
+use Rattle.mp_world.specs.AgentWords.{Event, Notes, has, is_complete, is_whole, AgentRecord}
 use Rattle.mp_world.specs.Events.{after_event}
 use Rattle.mp_world.specs.Team.{IsTeam, Team}
 use Rattle.mp_world.specs.World.{World}

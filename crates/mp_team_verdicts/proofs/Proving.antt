@@ -1,18 +1,8 @@
 -- The agent of a verdict that proves a plan has found a goal of that cost, and the goal entry that it noted is of that cost.
-use Rattle.std.proofs.Common.{◌≡◌, ℕ, suc, ◌<◌, ◌^◌, Bool, true, false, List, length, map, Option, Some, None, refl, ap, ◌∙◌, arith}
-use Rattle.std.specs.Prelude.{if◌then◌else◌, slice_get}
-use Rattle.std.proofs.lemmas.Bool.{eq-eqb, eqb-true, lt-ltb}
-use Rattle.std.proofs.lemmas.Option.{none-some, slice_get_within}
-use Rattle.mp_messages.specs.declared.message.EndKind.{EndKind}
-use Rattle.mp_messages.specs.declared.message.Findings.{Findings}
-use Rattle.mp_search.specs.Search.{bound}
-use Rattle.mp_snapshot.specs.declared.verdict.Verdict.{Verdict}
-use Rattle.mp_snapshot.specs.declared.verdict.Verdict.TheVariants.{Proved, NoPlan, Spent, Continue}
-use Rattle.mp_snapshot.specs.Rules.{own}
-use Rattle.mp_snapshot.specs.VerdictRule.{is_cost, verdict_of}
-use Rattle.mp_machine.specs.AgentRecord.{AgentRecord}
-use Rattle.mp_machine.specs.Snapshots.{goal_entry, if_walkable}
-use Rattle.mp_machine.specs.Verdicts.{is_deciding, is_proved}
+use Rattle.mp_world.proofs.Basics.{◌≡◌, ℕ, suc, ◌<◌, ◌^◌, Bool, true, false, List, length, map, Option, Some, None, refl, ap, ◌∙◌, arith, if◌then◌else◌, slice_get, eq-eqb, eqb-true, lt-ltb, none-some, slice_get_within}
+use Rattle.mp_machine.specs.Snapshots.{if_walkable}
+use Rattle.mp_world.specs.AgentWords.{EndKind, Findings, Verdict, Proved, NoPlan, Spent, Continue, own, is_cost, verdict_of, AgentRecord, goal_entry, is_deciding, is_proved}
+use Rattle.mp_world.specs.SearchWords.{bound}
 use Rattle.mp_team_snapshots.proofs.CutVerdicts.{goal_of_bound}
 use Rattle.mp_team_snapshots.proofs.Unnumbered.{found_by, verdict_named}
 use Rattle.mp_team_verdicts.specs.Ending.{HasGoal, end_by}

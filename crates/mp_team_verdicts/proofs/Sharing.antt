@@ -1,26 +1,13 @@
 -- The shares of all agents together are the plan, and the plan solves at the verdict's cost.
-use Rattle.std.proofs.Common.{◌≡◌, ℕ, zero, suc, ◌+◌, ◌-◌, ◌⊎◌, Bool, true, false, List, [], ◌∷◌, ◌++◌, length, map, reverse, Option, Some, All, refl, sym, ap, subst, ◌∙◌, arith, inl, inr}
-use Rattle.std.specs.Prelude.{IsSomeAnd, IsTrue, ◌==◌, filter, if◌then◌else◌, not}
-use Rattle.std.specs.List.{enumerate_from}
-use Rattle.std.specs.Option.{option_map_or}
-use Rattle.std.proofs.lemmas.Bool.{false≢true}
-use Rattle.std.proofs.lemmas.List.{map-append, reverse-append}
-use Rattle.std.proofs.lemmas.List.Elements.{All-nil, All-push}
-use Rattle.std.proofs.lemmas.List.Sums.{AllPass-from_list_all}
-use Rattle.std.proofs.lemmas.Option.{get_or_from_slice_get, none-some, same_Some, slice_get_within}
-use Rattle.mp_runs.specs.System.{state_after}
-use Rattle.mp_task.specs.AgentTask.{AgentTask}
-use Rattle.mp_task.specs.Plan.{JointState, TaskStep, goals_hold, joint_start, task_cost, team_system}
-use Rattle.mp_messages.specs.declared.history.Event.{Event}
-use Rattle.mp_store.specs.declared.entry.Entry.{Entry}
-use Rattle.mp_search.specs.AgentState.{AgentState}
+use Rattle.mp_world.proofs.Basics.{◌≡◌, ℕ, zero, suc, ◌+◌, ◌-◌, ◌⊎◌, Bool, true, false, List, [], ◌∷◌, ◌++◌, length, map, Option, Some, All, refl, sym, ap, subst, ◌∙◌, arith, inl, inr, IsSomeAnd, IsTrue, ◌==◌, filter, if◌then◌else◌, not, enumerate_from}
+use Rattle.mp_world.proofs.Basics.{option_map_or, false≢true, map-append, All-nil, All-push, AllPass-from_list_all, get_or_from_slice_get, none-some, same_Some, slice_get_within}
+use Rattle.std.proofs.Common.{reverse}
+use Rattle.std.proofs.lemmas.List.{reverse-append}
 use Rattle.mp_search.proofs.KeyedStates.{all_get}
-use Rattle.mp_snapshot.specs.declared.verdict.Verdict.TheVariants.{Proved}
-use Rattle.mp_trail.specs.declared.steps.Noted.{Noted}
 use Rattle.mp_trail.specs.declared.steps.Timed.{Timed}
-use Rattle.mp_trail.specs.Share.{share, timed}
-use Rattle.mp_machine.specs.AgentRecord.{AgentRecord, given_verdict, is_going}
-use Rattle.mp_machine.specs.Verdicts.{is_deciding, is_proved}
+use Rattle.mp_trail.specs.Share.{timed}
+use Rattle.mp_world.specs.AgentWords.{state_after, AgentTask, JointState, TaskStep, goals_hold, joint_start, task_cost, team_system, Event, Proved, Noted, share, AgentRecord, given_verdict, is_going, is_deciding, is_proved}
+use Rattle.mp_world.specs.SearchWords.{Entry, AgentState}
 use Rattle.mp_world.specs.declared.answer.Answer.TheVariants as answers
 use Rattle.mp_world.specs.Answers.{answer_by}
 use Rattle.mp_world.specs.Events.{run}
@@ -35,7 +22,7 @@ use Rattle.mp_team_snapshots.proofs.Agreeing.{are_of_team}
 use Rattle.mp_team_states.specs.Paths.{IsPath}
 use Rattle.mp_team_states.specs.Paths.IsPath.{at_root, by_action, by_message}
 use Rattle.mp_team_states.specs.Sound.{IsStateOf}
-use Rattle.mp_team_states.proofs.Reached.{entry_in, has_it, one_path}
+use Rattle.mp_team_states.proofs.ReachedEntries.{entry_in, has_it, one_path}
 use Rattle.mp_team_states.proofs.StepsSound.{agent_sound}
 use Rattle.mp_team_verdicts.specs.Ending.{EndsWith, HasShare, IsAt, IsProved, Stage, notes}
 use Rattle.mp_team_verdicts.specs.Ending.Stage.{over, picking, searching, walking, without_plan}

@@ -1,17 +1,7 @@
 -- The path to each entry has at most as many steps as all agents have expanded entries.
-use Rattle.std.proofs.Common.{◌≡◌, ℕ, ◌+◌, ◌-◌, ◌≤◌, ◌⊎◌, List, [], ◌∷◌, ◌++◌, length, Some, sym, ap, subst, ◌∙◌, arith, inl, inr}
-use Rattle.std.specs.Prelude.{slice_get}
-use Rattle.std.proofs.lemmas.Bool.{cases_eq}
-use Rattle.std.proofs.lemmas.List.{length-append}
-use Rattle.std.proofs.lemmas.Option.{none-some, same_Some}
-use Rattle.mp_task.specs.AgentTask.{AgentTask}
-use Rattle.mp_task.specs.Plan.{TaskStep}
-use Rattle.mp_messages.specs.declared.history.Event.{Event}
-use Rattle.mp_store.specs.declared.entry.Entry.{Entry}
-use Rattle.mp_store.specs.Record.{empty}
-use Rattle.mp_search.specs.AgentState.{AgentState}
-use Rattle.mp_search.specs.Offering.{start_record}
-use Rattle.mp_machine.specs.AgentRecord.{AgentRecord}
+use Rattle.mp_world.proofs.Basics.{◌≡◌, ℕ, ◌+◌, ◌-◌, ◌≤◌, ◌⊎◌, List, [], ◌∷◌, ◌++◌, length, Some, sym, ap, subst, ◌∙◌, arith, inl, inr, slice_get, cases_eq, length-append, none-some, same_Some}
+use Rattle.mp_world.specs.AgentWords.{AgentTask, TaskStep, Event, AgentRecord}
+use Rattle.mp_world.specs.SearchWords.{Entry, empty, AgentState, start_record}
 use Rattle.mp_world.specs.Team.{AreTeamTasks, IsTeam, Team}
 use Rattle.mp_world.specs.Values.{Values}
 use Rattle.mp_world.specs.World.{IsTeamWorld, World, agent_at, start_world}
@@ -25,7 +15,7 @@ use Rattle.mp_team_states.specs.Sound.{AreStatesSound}
 use Rattle.mp_team_states.proofs.Entries.{IsNew, IsOld, changes_entry}
 use Rattle.mp_team_states.proofs.Expanding.{IsFirst, start_changes}
 use Rattle.mp_team_states.proofs.NewEntries.{Comes, IsHeardIn, IsLedIn, entry_comes}
-use Rattle.mp_team_states.proofs.Reached.{HasIt, entry_in, has_it, one_path, path_stays, sent_at_stays, told_rightly}
+use Rattle.mp_team_states.proofs.ReachedEntries.{HasIt, entry_in, has_it, one_path, path_stays, sent_at_stays, told_rightly}
 use Rattle.mp_team_states.proofs.RoomLemmas.{counts_grow, sum_more}
 use Rattle.mp_team_states.proofs.StartReached.{task_is}
 use Rattle.mp_team_states.proofs.WorldsGrow.{step_grows}

@@ -1,19 +1,8 @@
 -- Worlds in which no state is under way and no agent has anything to expand: so it stays, and agent 1 decides the search by
 -- the next snapshot that it starts.
-use Rattle.std.proofs.Common.{◌≡◌, ◌≢◌, ℕ, true, List, [], ◌∷◌, length, Some, All, sym, subst, ◌∙◌}
-use Rattle.std.specs.Prelude.{◌==◌, not, slice_index_or}
-use Rattle.std.proofs.lemmas.Bool.{false≢true}
-use Rattle.std.proofs.lemmas.List.Elements.{All-contains, All-head, All-nil}
-use Rattle.mp_task.specs.AgentTask.{AgentTask}
-use Rattle.mp_messages.specs.declared.history.Event.{Event}
-use Rattle.mp_messages.specs.declared.history.Event.TheVariants.{Expand, Take, Start}
-use Rattle.mp_messages.specs.declared.message.Message.{Message}
-use Rattle.mp_messages.specs.Reading.{message_of}
+use Rattle.mp_world.proofs.Basics.{◌≡◌, ◌≢◌, ℕ, true, List, [], ◌∷◌, length, Some, All, sym, subst, ◌∙◌, ◌==◌, not, slice_index_or, false≢true, All-contains, All-head, All-nil}
 use Rattle.mp_machine.specs.declared.event.Local.TheVariants as locals
-use Rattle.mp_machine.specs.AgentRecord.{AgentRecord}
-use Rattle.mp_machine.specs.Outgoing.{Outgoing, Step}
-use Rattle.mp_machine.specs.Snapshots.{started}
-use Rattle.mp_machine.specs.Taking.{with_state}
+use Rattle.mp_world.specs.AgentWords.{AgentTask, Event, Expand, Take, Start, Message, message_of, AgentRecord, Outgoing, Step, started, with_state}
 use Rattle.mp_world.specs.Events.{local_of, taken}
 use Rattle.mp_world.specs.Steps.{IsStepOf}
 use Rattle.mp_world.specs.Values.{Values}

@@ -1,11 +1,6 @@
 -- There is a plan at a stage exactly where agent 1's verdict is that one is proved.
-use Rattle.std.proofs.Common.{◌≡◌, ℕ, false, Option, Some, None, refl, sym, ap, ◌∙◌}
-use Rattle.std.proofs.lemmas.Bool.{false≢true}
-use Rattle.std.proofs.lemmas.Option.{same_Some}
-use Rattle.mp_snapshot.specs.declared.verdict.Verdict.{Verdict}
-use Rattle.mp_snapshot.specs.declared.verdict.Verdict.TheVariants.{Proved, NoPlan, Spent, Continue}
-use Rattle.mp_machine.specs.AgentRecord.{AgentRecord, given_verdict}
-use Rattle.mp_machine.specs.Verdicts.{is_deciding, is_proved}
+use Rattle.mp_world.proofs.Basics.{◌≡◌, ℕ, false, Option, Some, None, refl, sym, ap, ◌∙◌, false≢true, same_Some}
+use Rattle.mp_world.specs.AgentWords.{Verdict, Proved, NoPlan, Spent, Continue, AgentRecord, given_verdict, is_deciding, is_proved}
 use Rattle.mp_world.specs.World.{World, agent_at}
 use Rattle.mp_team_verdicts.specs.Ending.{IsAt, Stage, has_plan}
 use Rattle.mp_team_verdicts.specs.Ending.Stage.{over, picking, searching, walking, without_plan}

@@ -1,21 +1,8 @@
 -- In silence, where no snapshot is under way and the search is not decided, agent 1 starts the next snapshot in a round.
-use Rattle.std.proofs.Common.{◌≡◌, ◌≢◌, ℕ, ◌+◌, ◌≤◌, Bool, true, ◌&&◌, List, [], ◌∷◌, ◌++◌, length, Some, refl, sym, ap, subst, ◌∙◌, arith, ◌⊎◌, inl, inr}
-use Rattle.std.specs.Prelude.{filter}
-use Rattle.std.specs.List.{filter_map}
-use Rattle.std.proofs.lemmas.Bool.{and_from, cases_eq, false≢true}
-use Rattle.std.proofs.lemmas.Option.{same_Some}
+use Rattle.mp_world.proofs.Basics.{◌≡◌, ◌≢◌, ℕ, ◌+◌, ◌≤◌, Bool, true, ◌&&◌, List, [], ◌∷◌, ◌++◌, length, Some, refl, sym, ap, subst, ◌∙◌, arith, ◌⊎◌, inl, inr, filter, filter_map, and_from, cases_eq, false≢true, same_Some}
 use Rattle.mp_runs.proofs.Runs.{run-none, run_parts}
-use Rattle.mp_messages.specs.declared.history.Event.{Event}
-use Rattle.mp_messages.specs.declared.history.Event.TheVariants.{Expand, Take, Start}
-use Rattle.mp_messages.specs.declared.message.Message.{Message}
-use Rattle.mp_messages.specs.declared.message.Message.TheVariants.{State as AState, Marker, Report, Pick, Trace, Length, Done}
-use Rattle.mp_messages.specs.Reading.{message_of}
-use Rattle.mp_snapshot.specs.Notes.{Notes}
-use Rattle.mp_snapshot.specs.Rules.{is_complete, is_whole, own}
-use Rattle.mp_machine.specs.AgentRecord.{is_going}
-use Rattle.mp_machine.specs.LocalStep.{may_start}
-use Rattle.mp_machine.specs.Outgoing.{Step}
-use Rattle.mp_machine.specs.Snapshots.{started}
+use Rattle.mp_messages.specs.declared.message.Message.TheVariants.{State as AState}
+use Rattle.mp_world.specs.AgentWords.{Event, Expand, Take, Start, Message, Marker, Report, Pick, Trace, Length, Done, message_of, Notes, is_complete, is_whole, own, is_going, may_start, Step, started}
 use Rattle.mp_world.specs.Events.{after_event, agent_may, is_legal, taken}
 use Rattle.mp_world.specs.Steps.{IsStepOf}
 use Rattle.mp_world.specs.Team.{IsTeam, Team}
@@ -38,7 +25,7 @@ use Rattle.mp_team_verdicts.proofs.InRuns.{ends_so_far}
 use Rattle.mp_team_verdicts.proofs.Calm.{Goes, IsQuietRound, Reached, number_at, rises}
 use Rattle.mp_team_verdicts.proofs.Fresh.{IsSilent, quiet_in_silence}
 use Rattle.mp_team_verdicts.proofs.Points.{GoesThrough, TriesToStart, first_starts, round_runs}
-use Rattle.mp_team_verdicts.proofs.Reached.{known, reached_next, step_of}
+use Rattle.mp_team_verdicts.proofs.ReachedWorlds.{known, reached_next, step_of}
 use Rattle.mp_team_verdicts.proofs.Silence.{takes_other}
 use Rattle.mp_team_verdicts.proofs.Stuck.{HasNumberLeft, first_may_start, idle, is_first, may_at, sound_view}
 

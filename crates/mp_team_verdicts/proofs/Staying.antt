@@ -1,12 +1,7 @@
 -- What stays in the notes of an agent, as long as no snapshot begins, and that numbers of snapshots rise.
-use Rattle.std.proofs.Common.{◌≡◌, ℕ, ◌+◌, ◌-◌, ◌≤◌, Bool, true, List, length, ap, subst, ◌∙◌, arith, ◌⊎◌, inl, inr, refl}
-use Rattle.std.specs.Prelude.{Option, slice_set}
-use Rattle.std.proofs.lemmas.Bool.{cases_eq}
-use Rattle.mp_messages.specs.declared.message.Message.{Message}
-use Rattle.mp_snapshot.specs.Notes.{Notes}
-use Rattle.mp_snapshot.specs.Rules.{after_state, has}
-use Rattle.mp_machine.specs.AgentRecord.{AgentRecord}
-use Rattle.mp_team_snapshots.proofs.Places.{has_set_other, has_set_same}
+use Rattle.mp_world.proofs.Basics.{◌≡◌, ℕ, ◌+◌, ◌-◌, ◌≤◌, Bool, true, List, length, ap, subst, ◌∙◌, arith, ◌⊎◌, inl, inr, refl, Option, slice_set, cases_eq}
+use Rattle.mp_world.specs.AgentWords.{Message, Notes, after_state, has, AgentRecord}
+use Rattle.mp_team_snapshots.proofs.NotePlaces.{has_set_other, has_set_same}
 use Rattle.mp_team_snapshots.proofs.Protocol.{IsOf}
 use Rattle.mp_team_verdicts.proofs.CountedStates.{counted_has}
 use Rattle.mp_team_verdicts.proofs.Noting.{Moves}

@@ -1,27 +1,12 @@
 -- Each event leads the end of a search on.
-use Rattle.std.proofs.Common.{◌≡◌, ◌≢◌, ℕ, ◌+◌, ◌≤◌, true, false, List, [], ◌∷◌, length, Option, Some, None, All, refl, sym, ap, subst, ◌∙◌, arith, inl, inr}
-use Rattle.std.specs.Prelude.{Ok, ◌==◌, filter, if◌then◌else◌}
-use Rattle.std.specs.List.{filter_map}
-use Rattle.std.proofs.lemmas.Bool.{and_parts, cases_eq, eq-eqb, false≢true}
-use Rattle.std.proofs.lemmas.Option.{none-some, same_Some}
-use Rattle.mp_task.specs.AgentTask.{AgentTask}
-use Rattle.mp_messages.specs.declared.history.Event.{Event}
-use Rattle.mp_messages.specs.declared.history.Event.TheVariants.{Expand, Take, Start}
-use Rattle.mp_messages.specs.declared.message.Message.{Message}
-use Rattle.mp_messages.specs.declared.message.Message.TheVariants.{State as AState, Marker, Report, Pick, Trace, Length, Done}
-use Rattle.mp_messages.specs.declared.message.State.{State}
-use Rattle.mp_messages.specs.Reading.{message_of}
-use Rattle.mp_search.specs.Expansion.{expanded}
-use Rattle.mp_snapshot.specs.declared.verdict.Verdict.{Verdict}
-use Rattle.mp_snapshot.specs.Notes.{Notes}
-use Rattle.mp_snapshot.specs.Rules.{after_report, after_state, begun, is_under_way, verdict, with_marker}
-use Rattle.mp_machine.specs.AgentRecord.{AgentRecord, given_verdict, is_going}
-use Rattle.mp_machine.specs.LocalStep.{may_start, with_search}
-use Rattle.mp_machine.specs.Outgoing.{Step, without_messages}
-use Rattle.mp_machine.specs.Snapshots.{findings, goal_entry, judged, judged_or_reported, reported, started, with_notes}
-use Rattle.mp_machine.specs.Taking.{took_message, with_state}
-use Rattle.mp_machine.specs.Verdicts.{is_deciding}
+use Rattle.mp_world.proofs.Basics.{◌≡◌, ◌≢◌, ℕ, ◌+◌, ◌≤◌, true, false, List, [], ◌∷◌, length, Option, Some, None, All, refl, sym, ap, subst, ◌∙◌, arith, inl, inr, Ok, ◌==◌, filter, if◌then◌else◌, filter_map, and_parts, cases_eq, eq-eqb, false≢true, none-some}
+use Rattle.mp_world.proofs.Basics.{same_Some}
+use Rattle.mp_messages.specs.declared.message.Message.TheVariants.{State as AState}
+use Rattle.mp_machine.specs.Snapshots.{reported}
 use Rattle.mp_machine.proofs.NotesLemmas.{report_fair, state_changes_nothing}
+use Rattle.mp_world.specs.AgentWords.{AgentTask, Event, Expand, Take, Start, Message, Marker, Report, Pick, Trace, Length, Done, State, message_of, Verdict, Notes, after_report, after_state, begun, is_under_way, verdict, with_marker, AgentRecord, given_verdict}
+use Rattle.mp_world.specs.AgentWords.{is_going, may_start, with_search, Step, without_messages, findings, goal_entry, judged, judged_or_reported, started, with_notes, took_message, with_state, is_deciding}
+use Rattle.mp_world.specs.SearchWords.{expanded}
 use Rattle.mp_world.specs.Events.{agent_of, taken}
 use Rattle.mp_world.specs.Steps.{IsStepOf}
 use Rattle.mp_world.specs.Team.{AreTeamTasks}

@@ -1,23 +1,10 @@
 -- An agent's messages go to other agents of its team.
-use Rattle.std.proofs.Common.{◌≡◌, ℕ, ◌+◌, ◌≤◌, true, ◌&&◌, List, Option, refl, sym, subst, ◌∙◌, arith}
-use Rattle.std.specs.Prelude.{Ok, ◌==◌, nat_le, not}
-use Rattle.std.proofs.lemmas.Bool.{and_parts, leb-true}
-use Rattle.mp_sets.specs.Numbers.{Numbers}
-use Rattle.mp_task.specs.AgentTask.{AgentTask}
-use Rattle.mp_messages.specs.declared.message.Message.{Message}
-use Rattle.mp_messages.specs.declared.message.Message.TheVariants.{Marker, Report, Pick, Trace, Length, Done}
-use Rattle.mp_store.specs.Record.{Record}
-use Rattle.mp_search.specs.AgentState.{AgentState}
-use Rattle.mp_snapshot.specs.declared.verdict.Verdict.TheVariants.{Proved}
-use Rattle.mp_snapshot.specs.Rules.{after_report, begun, own, with_marker}
-use Rattle.mp_machine.specs.declared.event.Local.{Local}
+use Rattle.mp_world.proofs.Basics.{◌≡◌, ℕ, ◌+◌, ◌≤◌, true, ◌&&◌, List, Option, refl, sym, subst, ◌∙◌, arith, Ok, ◌==◌, nat_le, not, and_parts, leb-true}
 use Rattle.mp_machine.specs.declared.event.Local.TheVariants as locals
-use Rattle.mp_machine.specs.AgentRecord.{AgentRecord, is_going}
-use Rattle.mp_machine.specs.LocalStep.{is_another, local, may}
-use Rattle.mp_machine.specs.Outgoing.{Step, after_sending, to_others}
-use Rattle.mp_machine.specs.Snapshots.{findings, judged, judged_or_reported, with_notes}
-use Rattle.mp_machine.specs.Taking.{took_message, with_state}
 use Rattle.mp_machine.proofs.NotesLemmas.{given_at_first}
+use Rattle.mp_world.specs.AgentWords.{AgentTask, Message, Marker, Report, Pick, Trace, Length, Done, Proved, after_report, begun, own, with_marker, Local, AgentRecord, is_going, is_another, local, may, Step, after_sending, to_others, findings, judged}
+use Rattle.mp_world.specs.AgentWords.{judged_or_reported, with_notes, took_message, with_state}
+use Rattle.mp_world.specs.SearchWords.{Numbers, Record, AgentState}
 use Rattle.mp_world.proofs.LocalCases.{ActingCases, either_holds, event_holds, from_goal_holds, judged_holds, judges_first, message_holds, walked_holds}
 use Rattle.mp_team_verdicts.proofs.CountedStates.{counted_has}
 use Rattle.mp_team_verdicts.proofs.Expansions.{GoOut, all_others_go, both_go, expansion_goes, none_goes, one_goes}

@@ -1,19 +1,7 @@
 -- No report is under way to any agent but agent 1.
-use Rattle.std.proofs.Common.{◌≡◌, ◌≢◌, ℕ, Bool, true, false, List, [], ◌∷◌, ◌++◌, length, Option, None, refl, sym, ap, ◌∙◌}
-use Rattle.std.specs.Prelude.{Ok, ◌==◌}
-use Rattle.std.proofs.lemmas.Bool.{eqb-true}
-use Rattle.mp_sets.specs.Numbers.{Numbers}
-use Rattle.mp_task.specs.AgentTask.{AgentTask}
-use Rattle.mp_messages.specs.declared.history.Event.{Event}
-use Rattle.mp_messages.specs.declared.message.Findings.{Findings}
-use Rattle.mp_messages.specs.declared.message.Message.{Message}
-use Rattle.mp_messages.specs.declared.message.Message.TheVariants.{Marker, Report, Pick, Trace, Length, Done}
-use Rattle.mp_search.specs.Expansion.{expanded}
-use Rattle.mp_snapshot.specs.Rules.{own}
-use Rattle.mp_machine.specs.declared.event.Local.{Local}
-use Rattle.mp_machine.specs.AgentRecord.{AgentRecord}
-use Rattle.mp_machine.specs.LocalStep.{local}
-use Rattle.mp_machine.specs.Outgoing.{Outgoing, Step, others, to_each, to_one, to_others}
+use Rattle.mp_world.proofs.Basics.{◌≡◌, ◌≢◌, ℕ, Bool, true, false, List, [], ◌∷◌, ◌++◌, length, Option, None, refl, sym, ap, ◌∙◌, Ok, ◌==◌, eqb-true}
+use Rattle.mp_world.specs.AgentWords.{AgentTask, Event, Findings, Message, Marker, Report, Pick, Trace, Length, Done, own, Local, AgentRecord, local, Outgoing, Step, others, to_each, to_one, to_others}
+use Rattle.mp_world.specs.SearchWords.{Numbers, expanded}
 use Rattle.mp_world.specs.Events.{local_of, taken}
 use Rattle.mp_world.specs.Steps.{IsStepOf}
 use Rattle.mp_world.specs.Values.{Values}
@@ -59,7 +47,7 @@ telling = record {
       ∙ ap (λ (rs : List Findings). rs ++ reports_to j s.out) (no_report (Marker number) refl (others r.task.me r.task.agents) j)
       ∙ tells j other;
   picked = λ r s tells. tells;
-  told = λ r ending share j other. refl;
+  ended = λ r ending share j other. refl;
 }
 
 local_tells : (value : Numbers → Numbers → Option ℕ) (r : AgentRecord) (s : Step) (event : Local) (bytes : List ℕ)

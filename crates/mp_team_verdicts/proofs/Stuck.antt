@@ -1,24 +1,9 @@
 -- As long as not all agents have ended, some event may happen.
-use Rattle.std.proofs.Common.{◌≡◌, ◌≢◌, ℕ, zero, suc, ◌+◌, ◌≤◌, ◌<◌, ◌^◌, Bool, true, false, ◌&&◌, List, [], ◌∷◌, length, Some, refl, sym, ap, subst, ◌∙◌, arith, ◌⊎◌, inl, inr}
-use Rattle.std.specs.Prelude.{◌==◌, filter, nat_le, nat_lt, not, if◌then◌else◌, slice_get}
-use Rattle.std.specs.List.{filter_map, list_all}
-use Rattle.std.specs.Option.{option_map_or}
-use Rattle.std.proofs.lemmas.Bool.{and_from, and_left, and_right, eq-eqb, eqb-true, false_from_ne_true, false≢true, le-leb, lt-ltb}
-use Rattle.std.proofs.lemmas.Option.{same_Some}
-use Rattle.mp_task.specs.AgentTask.{AgentTask}
-use Rattle.mp_task.specs.Plan.{TaskStep}
-use Rattle.mp_messages.specs.declared.history.Event.{Event}
-use Rattle.mp_messages.specs.declared.history.Event.TheVariants.{Expand, Take, Start}
-use Rattle.mp_messages.specs.declared.message.EndKind.{EndKind}
-use Rattle.mp_messages.specs.declared.message.Message.{Message}
-use Rattle.mp_messages.specs.declared.message.Message.TheVariants.{Pick, Trace, Length, Done}
-use Rattle.mp_messages.specs.Reading.{message_of}
-use Rattle.mp_search.specs.Search.{may_expand}
-use Rattle.mp_snapshot.specs.Notes.{Notes}
-use Rattle.mp_snapshot.specs.Rules.{has, is_complete, is_under_way, is_whole}
-use Rattle.mp_machine.specs.AgentRecord.{AgentRecord, given_verdict, is_going}
-use Rattle.mp_machine.specs.LocalStep.{is_another, may, may_start}
-use Rattle.mp_machine.specs.Verdicts.{is_deciding}
+use Rattle.mp_world.proofs.Basics.{◌≡◌, ◌≢◌, ℕ, zero, suc, ◌+◌, ◌≤◌, ◌<◌, ◌^◌, Bool, true, false, ◌&&◌, List, [], ◌∷◌, length, Some, refl, sym, ap, subst, ◌∙◌, arith, ◌⊎◌, inl, inr, ◌==◌, filter, nat_le, nat_lt, not, if◌then◌else◌, slice_get, filter_map, list_all}
+use Rattle.mp_world.proofs.Basics.{option_map_or, and_from, and_left, and_right, eq-eqb, eqb-true, false_from_ne_true, false≢true, le-leb, lt-ltb, same_Some}
+use Rattle.mp_world.specs.AgentWords.{AgentTask, TaskStep, Event, Expand, Take, Start, EndKind, Message, Pick, Trace, Length, Done, message_of, Notes, has, is_complete, is_under_way, is_whole, AgentRecord, given_verdict, is_going, is_another, may, may_start}
+use Rattle.mp_world.specs.AgentWords.{is_deciding}
+use Rattle.mp_world.specs.SearchWords.{may_expand}
 use Rattle.mp_world.specs.Events.{agent_may, agent_of, has_message, is_legal, local_of}
 use Rattle.mp_world.specs.RoundRobin.{is_over}
 use Rattle.mp_world.specs.Team.{IsTeam, Team}
@@ -31,7 +16,7 @@ use Rattle.mp_team_snapshots.specs.Snapshots.{one_if_due}
 use Rattle.mp_team_snapshots.specs.Team.{IsTeamOf}
 use Rattle.mp_team_snapshots.proofs.Protocol.{IsOf, Sound}
 use Rattle.mp_team_snapshots.proofs.Worlds.{is_agent_of, is_of_agent, is_of_there, note_at, note_of, team_numbers, to_view, view}
-use Rattle.mp_team_states.proofs.Reached.{has_it}
+use Rattle.mp_team_states.proofs.ReachedEntries.{has_it}
 use Rattle.mp_team_verdicts.specs.Ending.{HasEnded, IsAt, Stage, due, is_of_end}
 use Rattle.mp_team_verdicts.specs.Ending.Stage.{over, picking, searching, walking, without_plan}
 use Rattle.mp_team_states.proofs.EachAgent.{each_agent}
@@ -41,7 +26,7 @@ use Rattle.mp_team_verdicts.proofs.Short.{path_entry}
 use Rattle.mp_team_snapshots.proofs.Taken.{is_its, its_notes}
 use Rattle.mp_team_verdicts.proofs.Complete.{IsStill, complete_if_still, not_due, other_false}
 use Rattle.mp_team_verdicts.proofs.Noting.{ListsItself, lists_itself, moved}
-use Rattle.mp_team_verdicts.proofs.Reached.{IsReached, in_runs, known}
+use Rattle.mp_team_verdicts.proofs.ReachedWorlds.{IsReached, in_runs, known}
 
 -- none of these events may happen in a world of a team of so many
 pub record IsStuck (agents : ℕ) (w : World) : Type 0 where

@@ -1,23 +1,9 @@
 -- What becomes of the end of the search where an agent takes a pick, a trace, a length or an end without a plan.
-use Rattle.std.proofs.Common.{◌≡◌, ℕ, Bool, true, false, ◌&&◌, List, [], length, Option, Some, All, refl, sym, ap, subst, ◌∙◌, append-nil, inr}
-use Rattle.std.specs.Prelude.{IsSomeAnd, Ok, Err, ◌==◌, filter, not}
-use Rattle.std.specs.Option.{option_map_or}
-use Rattle.std.proofs.lemmas.Bool.{eq-eqb}
-use Rattle.std.proofs.lemmas.Option.{same_Some}
-use Rattle.mp_task.specs.AgentTask.{AgentTask}
-use Rattle.mp_task.specs.Plan.{TaskStep}
-use Rattle.mp_messages.specs.declared.history.Event.TheVariants.{Take}
-use Rattle.mp_messages.specs.declared.message.EndKind.{EndKind}
+use Rattle.mp_world.proofs.Basics.{◌≡◌, ℕ, Bool, true, false, ◌&&◌, List, [], length, Option, Some, All, refl, sym, ap, subst, ◌∙◌, append-nil, inr, IsSomeAnd, Ok, Err, ◌==◌, filter, not, option_map_or, eq-eqb, same_Some}
 use Rattle.mp_messages.specs.declared.message.EndKind.TheVariants as kinds
-use Rattle.mp_messages.specs.declared.message.Message.{Message}
-use Rattle.mp_messages.specs.declared.message.Message.TheVariants.{Pick, Trace, Length, Done}
-use Rattle.mp_messages.specs.Reading.{message_of}
-use Rattle.mp_store.specs.Sent.{sent_entry}
-use Rattle.mp_machine.specs.declared.refusal.BadKind.TheVariants.{StrangeDone, StrangeLength, StrangePick, StrangeTrace}
-use Rattle.mp_machine.specs.AgentRecord.{AgentRecord, is_going}
-use Rattle.mp_machine.specs.Outgoing.{Step, without_messages}
-use Rattle.mp_machine.specs.Taking.{ending_of, is_strange_length, is_strange_pick, is_strange_trace, took_message, traced}
-use Rattle.mp_machine.specs.WalkingBack.{solved, walked, walked_from_goal}
+use Rattle.mp_world.specs.AgentWords.{AgentTask, TaskStep, Take, EndKind, Message, Pick, Trace, Length, Done, message_of, StrangeDone, StrangeLength, StrangePick, StrangeTrace, AgentRecord, is_going, Step, without_messages, ending_of, is_strange_length}
+use Rattle.mp_world.specs.AgentWords.{is_strange_pick, is_strange_trace, took_message, traced, solved, walked, walked_from_goal}
+use Rattle.mp_world.specs.SearchWords.{sent_entry}
 use Rattle.mp_world.specs.Events.{taken}
 use Rattle.mp_world.specs.Steps.{IsStepOf}
 use Rattle.mp_world.specs.Team.{AreTeamTasks}
@@ -98,10 +84,10 @@ module _ (value : Values) (publics : ℕ) (tasks : List AgentTask) (are : AreTea
       old.verdict.proved (subst (λ (k : ℕ). IsPath w k leads.number earlier) b_is leads.path)
 
   -- the agent is told of the end, and the others go on as before
-  told : (stage : Stage) (m : Message) (teller : ℕ) → ((i j : ℕ) (g : Bool) → due stage i j g ≡ one_if_due (i == teller && g) m) → is_of_end m ≡ true
+  end_taken : (stage : Stage) (m : Message) (teller : ℕ) → ((i j : ℕ) (g : Bool) → due stage i j g ≡ one_if_due (i == teller && g) m) → is_of_end m ≡ true
       → a ≡ teller → rest a b ≡ [] → (old : IsAt publics w stage) → Reads m → (after : AgentRecord) → without_messages after ≡ step.step
       → IsSameVerdict step.agent after → after.goal ≡ step.agent.goal → is_going after.ending ≡ false → AgentAt stage after → Comes
-  told stage m teller all is_end a_is none old read after is keeps goal ended mine =
+  end_taken stage m teller all is_end a_is none old read after is keeps goal ended mine =
       let same : after ≡ step.step.after = ap (λ (s : Step). s.after) is in
       let silent : [] ≡ step.step.out = ap (λ (s : Step). s.out) is in
       let over_now : is_going step.step.after.ending ≡ false = subst (λ (x : AgentRecord). is_going x.ending ≡ false) same ended in
@@ -135,14 +121,14 @@ module _ (value : Values) (publics : ℕ) (tasks : List AgentTask) (are : AreTea
             let after : AgentRecord = record step.agent { ending = ending_of kind } in
             let good = good_step (not (a == 1)) StrangeDone (without_messages after) step.step took in
             let mine = old.agents b step.agent step.there in
-            told (without_plan kind) (Done kind) 1 (λ i j g. refl) refl first none old read after good.1 (record { verdict = refl; number = refl }) refl
+            end_taken (without_plan kind) (Done kind) 1 (λ i j g. refl) refl first none old read after good.1 (record { verdict = refl; number = refl }) refl
             (ended_kind kind) (record { trail = mine.trail; picked = mine.picked; ending = inr refl });
         pick = picks;
         trace = traces;
         length = λ teller plan first none old read took.
             let after = solved step.agent (length plan) in
             let good = good_step (is_strange_length step.agent (length plan)) StrangeLength (without_messages after) step.step took in
-            told (over teller plan) (Length (length plan)) teller (λ i j g. refl) refl first none old read after good.1
+            end_taken (over teller plan) (Length (length plan)) teller (λ i j g. refl) refl first none old read after good.1
             (record { verdict = refl; number = refl }) refl refl
             (record { trail = (old.agents b step.agent step.there).trail; ending = inr (record { ending = refl; share = refl }) });
       }) stage m (due_is value publics tasks are team w next known known_next b a step room stage old m read is_end) old read took

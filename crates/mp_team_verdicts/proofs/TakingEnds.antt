@@ -1,23 +1,8 @@
 -- An agent takes a message of the end of the search.
-use Rattle.std.proofs.Common.{◌≡◌, ◌≢◌, ℕ, Bool, true, false, ◌&&◌, List, [], ◌∷◌, ◌++◌, length, Some, None, All, refl, sym, ap, subst, ◌∙◌, append-nil, ◌⊎◌, inl, inr}
-use Rattle.std.specs.Prelude.{◌==◌, filter, if◌then◌else◌}
-use Rattle.std.proofs.lemmas.Bool.{and_parts, cases_eq, eqb-true, false_from_ne_true}
-use Rattle.std.proofs.lemmas.List.Elements.{All-nil}
-use Rattle.std.proofs.lemmas.Option.{same_Some}
-use Rattle.mp_task.specs.AgentTask.{AgentTask}
-use Rattle.mp_task.specs.Plan.{TaskStep}
-use Rattle.mp_messages.specs.declared.history.Event.TheVariants.{Take}
-use Rattle.mp_messages.specs.declared.message.EndKind.{EndKind}
-use Rattle.mp_messages.specs.declared.message.Message.{Message}
-use Rattle.mp_messages.specs.declared.message.Message.TheVariants.{Done, Length, Pick, Trace}
-use Rattle.mp_messages.specs.Reading.{message_of}
-use Rattle.mp_snapshot.specs.Notes.{Notes}
-use Rattle.mp_snapshot.specs.Rules.{verdict}
-use Rattle.mp_machine.specs.AgentRecord.{AgentRecord, is_going}
-use Rattle.mp_machine.specs.LocalStep.{may_now}
+use Rattle.mp_world.proofs.Basics.{◌≡◌, ◌≢◌, ℕ, Bool, true, false, ◌&&◌, List, [], ◌∷◌, ◌++◌, length, Some, None, All, refl, sym, ap, subst, ◌∙◌, append-nil, ◌⊎◌, inl, inr, ◌==◌, filter, if◌then◌else◌, and_parts, cases_eq, eqb-true, false_from_ne_true, All-nil}
+use Rattle.mp_world.proofs.Basics.{same_Some}
 use Rattle.mp_machine.specs.declared.event.Local.TheVariants as locals
-use Rattle.mp_machine.specs.Outgoing.{Outgoing, Step}
-use Rattle.mp_machine.specs.WalkingBack.{walked}
+use Rattle.mp_world.specs.AgentWords.{AgentTask, TaskStep, Take, EndKind, Message, Done, Length, Pick, Trace, message_of, Notes, verdict, AgentRecord, is_going, may_now, Outgoing, Step, walked}
 use Rattle.mp_world.specs.Events.{taken}
 use Rattle.mp_world.specs.Steps.{IsStepOf}
 use Rattle.mp_world.specs.Team.{AreTeamTasks}
@@ -30,7 +15,7 @@ use Rattle.mp_team_snapshots.proofs.Protocol.{IsOf, pair}
 use Rattle.mp_team_snapshots.proofs.TakingFirst.{is_receiver, is_sender}
 use Rattle.mp_team_snapshots.proofs.Worlds.{is_agent_of, team_numbers}
 use Rattle.mp_team_states.specs.Paths.{IsPath}
-use Rattle.mp_team_states.proofs.Reached.{path_stays}
+use Rattle.mp_team_states.proofs.ReachedEntries.{path_stays}
 use Rattle.mp_team_states.proofs.WorldsGrow.{step_grows}
 use Rattle.mp_team_verdicts.specs.Ending.{HasWalked, IsAt, IsProved, Stage, due, end_messages, is_of_end, notes}
 use Rattle.mp_team_verdicts.specs.Ending.Stage.{over, picking, searching, walking, without_plan}

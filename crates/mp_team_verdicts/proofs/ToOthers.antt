@@ -1,20 +1,10 @@
 -- States go to other agents alone: none is under way from an agent to itself.
-use Rattle.std.proofs.Common.{◌≡◌, ◌≢◌, ℕ, ◌-◌, ◌≤◌, ◌⊎◌, Bool, true, false, List, [], length, Some, refl, sym, ap, subst, ◌∙◌, arith, inl, inr}
-use Rattle.std.specs.Prelude.{Contains, replicate, ◌==◌, if◌then◌else◌, slice_index_or}
-use Rattle.std.specs.List.{filter}
-use Rattle.std.proofs.lemmas.Bool.{cases_eq, eqb-true}
-use Rattle.std.proofs.lemmas.List.{get_or-replicate}
-use Rattle.std.proofs.lemmas.List.Elements.{All-contains, Contains-append_cases}
+use Rattle.mp_world.proofs.Basics.{◌≡◌, ◌≢◌, ℕ, ◌-◌, ◌≤◌, ◌⊎◌, Bool, true, false, List, [], length, Some, refl, sym, ap, subst, ◌∙◌, arith, inl, inr, Contains, replicate, ◌==◌, if◌then◌else◌, slice_index_or, filter, cases_eq, eqb-true, get_or-replicate}
+use Rattle.mp_world.proofs.Basics.{All-contains, Contains-append_cases}
 use Rattle.mp_list.proofs.Members.{no_member}
-use Rattle.mp_task.specs.AgentTask.{AgentTask}
-use Rattle.mp_messages.specs.declared.history.Event.{Event}
-use Rattle.mp_messages.specs.declared.history.Event.TheVariants.{Expand, Take, Start}
 use Rattle.mp_messages.specs.declared.message.Message.TheVariants as kinds
-use Rattle.mp_messages.specs.declared.message.State.{State}
-use Rattle.mp_messages.specs.Spelling.{spelling}
 use Rattle.mp_store.proofs.RankLemmas.{member_passes}
-use Rattle.mp_machine.specs.declared.outgoing.Out.{Out}
-use Rattle.mp_machine.specs.Outgoing.{in_bytes}
+use Rattle.mp_world.specs.AgentWords.{AgentTask, Event, Expand, Take, Start, State, spelling, Out, in_bytes}
 use Rattle.mp_world.specs.Events.{agent_of, local_of, run, sent_in, taken, without_taken}
 use Rattle.mp_world.specs.Steps.{IsStepOf, sent_between, sent_to}
 use Rattle.mp_world.specs.Team.{Team}

@@ -1,11 +1,6 @@
 -- What is so before a round until an agent has taken all messages of another one, and what is so from then on.
-use Rattle.std.proofs.Common.{◌≡◌, ◌≢◌, ℕ, Bool, true, false, ◌||◌, List, [], ◌∷◌, length, refl, sym, ap, subst, ◌∙◌, arith, ◌⊎◌, inl, inr}
-use Rattle.std.specs.Prelude.{◌==◌}
-use Rattle.std.specs.List.{range_with_len}
-use Rattle.std.proofs.lemmas.Bool.{eqb-true, false≢true}
-use Rattle.mp_messages.specs.declared.history.Event.{Event}
-use Rattle.mp_messages.specs.declared.history.Event.TheVariants.{Take}
-use Rattle.mp_machine.specs.Outgoing.{others}
+use Rattle.mp_world.proofs.Basics.{◌≡◌, ◌≢◌, ℕ, Bool, true, false, ◌||◌, List, [], ◌∷◌, length, refl, sym, ap, subst, ◌∙◌, arith, ◌⊎◌, inl, inr, ◌==◌, range_with_len, eqb-true, false≢true}
+use Rattle.mp_world.specs.AgentWords.{Event, Take, others}
 use Rattle.mp_world.specs.Events.{is_legal}
 use Rattle.mp_world.specs.RoundRobin.{AsLongAsItMay, ForEach, Round, Then, Turn}
 use Rattle.mp_world.specs.Steps.{IsStepOf}

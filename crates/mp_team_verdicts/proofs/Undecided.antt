@@ -1,9 +1,6 @@
 -- The search goes on where agent 1 has not decided it.
-use Rattle.std.proofs.Common.{◌≡◌, ℕ, true, false, Option, Some, sym, ap, subst, ◌∙◌}
-use Rattle.std.specs.Prelude.{IfSome}
-use Rattle.std.proofs.lemmas.Bool.{false≢true}
-use Rattle.mp_machine.specs.AgentRecord.{AgentRecord, given_verdict}
-use Rattle.mp_machine.specs.Verdicts.{is_deciding}
+use Rattle.mp_world.proofs.Basics.{◌≡◌, ℕ, true, false, Option, Some, sym, ap, subst, ◌∙◌, IfSome, false≢true}
+use Rattle.mp_world.specs.AgentWords.{AgentRecord, given_verdict, is_deciding}
 use Rattle.mp_world.specs.Team.{IsTeam, Team}
 use Rattle.mp_world.specs.World.{World, agent_at}
 use Rattle.mp_team_snapshots.specs.Team.{IsTeamOf}
@@ -12,7 +9,7 @@ use Rattle.mp_team_verdicts.specs.Ending.Stage.{over, picking, searching, walkin
 use Rattle.mp_team_verdicts.proofs.InRuns.{ends_so_far}
 use Rattle.mp_team_verdicts.proofs.Proving.{end_decides}
 use Rattle.mp_team_verdicts.specs.Quiet.{IsUndecided}
-use Rattle.mp_team_verdicts.proofs.Reached.{IsReached}
+use Rattle.mp_team_verdicts.proofs.ReachedWorlds.{IsReached}
 
 module _ (team : Team) (is_team : IsTeam team) (publics : ℕ) (of_team : IsTeamOf publics team.tasks) (w : World)
     (at : IsReached team w) (undecided : IsUndecided w) where

@@ -1,19 +1,9 @@
 -- The verdict of agent 1 is right.
-use Rattle.std.proofs.Common.{◌≡◌, ℕ, suc, ◌+◌, ◌<◌, ◌≤◌, ◌⊎◌, true, List, map, Option, Some, None, refl, sym, ap, subst, ◌∙◌, arith, inl, inr}
-use Rattle.std.specs.Prelude.{Contains, IsSomeAnd, IsTrue, slice_get, ◌&&◌}
-use Rattle.std.proofs.lemmas.Bool.{and_parts, eqb-true}
-use Rattle.mp_task.specs.AgentTask.{AgentTask}
-use Rattle.mp_task.specs.Plan.{JointState, TaskSolves, TaskStep, goals_hold, task_cost}
-use Rattle.mp_messages.specs.declared.history.Event.{Event}
-use Rattle.mp_messages.specs.declared.message.Findings.{Findings}
-use Rattle.mp_snapshot.specs.declared.verdict.Verdict.{Verdict}
-use Rattle.mp_snapshot.specs.declared.verdict.Verdict.TheVariants.{Proved, NoPlan, Spent, Continue}
-use Rattle.mp_snapshot.specs.VerdictRule.{is_cost, least_f, least_goal}
-use Rattle.mp_store.specs.declared.entry.Entry.{Entry}
-use Rattle.mp_store.specs.Record.{f as f_of}
-use Rattle.mp_search.specs.AgentState.{AgentState}
-use Rattle.mp_machine.specs.AgentRecord.{AgentRecord, given_verdict}
+use Rattle.mp_world.proofs.Basics.{◌≡◌, ℕ, suc, ◌+◌, ◌<◌, ◌≤◌, ◌⊎◌, true, List, map, Option, Some, None, refl, sym, ap, subst, ◌∙◌, arith, inl, inr, Contains, IsSomeAnd, IsTrue, slice_get, ◌&&◌, and_parts, eqb-true}
+use Rattle.mp_task.specs.Plan.{TaskSolves}
 use Rattle.mp_reach.proofs.PlanWitness.{plan_witness}
+use Rattle.mp_world.specs.AgentWords.{AgentTask, JointState, TaskStep, goals_hold, task_cost, Event, Findings, Verdict, Proved, NoPlan, Spent, Continue, is_cost, least_f, least_goal, AgentRecord, given_verdict}
+use Rattle.mp_world.specs.SearchWords.{Entry, f as f_of, AgentState}
 use Rattle.mp_world.specs.Events.{run}
 use Rattle.mp_world.specs.Joint.{joint}
 use Rattle.mp_world.specs.Team.{IsTeam, Team}
@@ -23,7 +13,7 @@ use Rattle.mp_world.proofs.Mail.{agent_of_team}
 use Rattle.mp_world.proofs.Runs.{run_of_team}
 use Rattle.mp_world.proofs.Stepping.{team_size}
 use Rattle.mp_team_states.specs.Paths.{AreReached}
-use Rattle.mp_team_states.proofs.Reached.{entry_in}
+use Rattle.mp_team_states.proofs.ReachedEntries.{entry_in}
 use Rattle.mp_team_states.proofs.StepsSound.{agent_sound}
 use Rattle.mp_team_states.specs.Estimates.{AreGoalsFlagged}
 use Rattle.mp_team_states.specs.TeamFound.{found_of}

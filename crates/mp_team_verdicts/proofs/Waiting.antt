@@ -1,14 +1,7 @@
 -- Messages of the end of a search that are under way after an event: those that were, but for the one that was taken, and those
 -- that went out. No two are under way from one agent to another.
-use Rattle.std.proofs.Common.{◌≡◌, ◌≢◌, ℕ, ◌≤◌, ◌<◌, ◌^◌, Bool, true, false, ◌&&◌, List, [], ◌∷◌, ◌++◌, length, All, refl, sym, ap, subst, ◌∙◌, arith, ◌⊎◌, inl, inr}
-use Rattle.std.specs.Prelude.{◌==◌, Ok, filter, if◌then◌else◌}
-use Rattle.std.proofs.lemmas.List.{length-append}
-use Rattle.mp_messages.specs.declared.history.Event.{Event}
-use Rattle.mp_messages.specs.declared.history.Event.TheVariants.{Expand, Take, Start}
-use Rattle.mp_messages.specs.declared.message.Message.{Message}
-use Rattle.mp_messages.specs.declared.message.Message.TheVariants.{Pick, Trace, Length, Done}
-use Rattle.mp_machine.specs.AgentRecord.{is_going}
-use Rattle.mp_machine.specs.Taking.{took_message}
+use Rattle.mp_world.proofs.Basics.{◌≡◌, ◌≢◌, ℕ, ◌≤◌, ◌<◌, ◌^◌, Bool, true, false, ◌&&◌, List, [], ◌∷◌, ◌++◌, length, All, refl, sym, ap, subst, ◌∙◌, arith, ◌⊎◌, inl, inr, ◌==◌, Ok, filter, if◌then◌else◌, length-append}
+use Rattle.mp_world.specs.AgentWords.{Event, Expand, Take, Start, Message, Pick, Trace, Length, Done, is_going, took_message}
 use Rattle.mp_world.specs.Events.{agent_of, taken}
 use Rattle.mp_world.specs.Steps.{IsStepOf}
 use Rattle.mp_world.specs.Team.{IsTeam, Team}
@@ -28,7 +21,7 @@ use Rattle.mp_team_verdicts.proofs.Fitting.{AllFit, ends_next}
 use Rattle.mp_team_verdicts.proofs.Frames.{IsKnownWorld, end_others, end_taken, ends_left}
 use Rattle.mp_team_verdicts.proofs.Stays.{event_comes}
 use Rattle.mp_team_verdicts.proofs.Calm.{Reached}
-use Rattle.mp_team_verdicts.proofs.Reached.{known}
+use Rattle.mp_team_verdicts.proofs.ReachedWorlds.{known}
 use Rattle.mp_team_verdicts.proofs.Stuck.{ends, is_agent}
 
 -- ---- one message at most

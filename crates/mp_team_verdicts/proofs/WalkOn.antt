@@ -1,24 +1,11 @@
 -- An agent walks the plan back: the walk goes on over a trace, or it is over.
-use Rattle.std.proofs.Common.{◌≡◌, ◌≢◌, ℕ, ◌+◌, ◌≤◌, ◌<◌, ◌^◌, Bool, true, false, ◌&&◌, List, [], ◌∷◌, ◌++◌, length, Some, All, refl, sym, ap, subst, ◌∙◌, append_assoc, arith, inl, inr}
-use Rattle.std.specs.Prelude.{◌==◌, filter, if◌then◌else◌, not}
-use Rattle.std.proofs.lemmas.Bool.{eq-eqb, eqb-true, false_from_ne_true}
-use Rattle.std.proofs.lemmas.List.{length-append}
-use Rattle.std.proofs.lemmas.List.Elements.{All-contains, All-weaker}
-use Rattle.mp_task.specs.AgentTask.{AgentTask}
-use Rattle.mp_task.specs.Plan.{TaskStep}
-use Rattle.mp_messages.specs.declared.history.Event.{Event}
-use Rattle.mp_messages.specs.declared.message.Message.{Message}
-use Rattle.mp_messages.specs.declared.message.Message.TheVariants.{Trace, Length}
-use Rattle.mp_search.specs.Search.{SearchRecord}
-use Rattle.mp_trail.specs.declared.steps.Noted.{Noted}
-use Rattle.mp_trail.specs.declared.steps.Walked.{Walked}
-use Rattle.mp_trail.specs.declared.steps.Walked.TheVariants.{Root, Hop}
-use Rattle.mp_trail.specs.Share.{share}
-use Rattle.mp_trail.specs.Walk.{Walk, walk}
+use Rattle.mp_world.proofs.Basics.{◌≡◌, ◌≢◌, ℕ, ◌+◌, ◌≤◌, ◌<◌, ◌^◌, Bool, true, false, ◌&&◌, List, [], ◌∷◌, ◌++◌, length, Some, All, refl, sym, ap, subst, ◌∙◌, append_assoc, arith, inl, inr, ◌==◌, filter, if◌then◌else◌, not, eq-eqb, eqb-true, false_from_ne_true}
+use Rattle.mp_world.proofs.Basics.{length-append, All-contains, All-weaker}
+use Rattle.mp_trail.specs.declared.steps.Walked.TheVariants.{Root}
+use Rattle.mp_trail.specs.Walk.{Walk}
 use Rattle.mp_machine.specs.declared.event.Ending.TheVariants.{Solved}
-use Rattle.mp_machine.specs.AgentRecord.{AgentRecord, is_going}
-use Rattle.mp_machine.specs.Outgoing.{Outgoing, Step, after_sending, others, to_each, to_one, to_others}
-use Rattle.mp_machine.specs.WalkingBack.{arrived, solved, walked}
+use Rattle.mp_world.specs.AgentWords.{AgentTask, TaskStep, Event, Message, Trace, Length, Noted, Walked, Hop, share, walk, AgentRecord, is_going, Outgoing, Step, after_sending, others, to_each, to_one, to_others, arrived, solved, walked}
+use Rattle.mp_world.specs.SearchWords.{SearchRecord}
 use Rattle.mp_world.specs.Events.{agent_of}
 use Rattle.mp_world.specs.Steps.{IsStepOf}
 use Rattle.mp_world.specs.Team.{AreTeamTasks}

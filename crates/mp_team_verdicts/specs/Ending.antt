@@ -192,7 +192,7 @@ has_plan (over by plan) = true
 -- Two stages are the same, but for the agent that tells a plan's length.
 pub data AreSame : Stage → Stage → Type 0 where
   same : (stage : Stage) → AreSame stage stage
-  told : (one other : ℕ) (plan : List TaskStep) → AreSame (over one plan) (over other plan)
+  any_teller : (one other : ℕ) (plan : List TaskStep) → AreSame (over one plan) (over other plan)
 
 -- The end of the search has come so far.
 pub record IsAt (publics : ℕ) (w : World) (stage : Stage) : Type 0 where

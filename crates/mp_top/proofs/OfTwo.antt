@@ -299,9 +299,9 @@ module _ (held other : Option Files) (request : Wanted) (replay : ToReplay) (rep
       law (values_of s.heuristic) s.limit first.team found.0 (reported report outcome) (reported again second.told.outcome) text
       (outcome_checked held request report ended text first) (few_agents held request report ended text first keeps) found.1
       (is_trace report text outcome told) (replayed_same team text_is) in (
-        same_printed outcome told same.search.told.traces same.search.answer same.text,
+        same_printed outcome told same.search.texts.traces same.search.answer same.text,
         same.search.alike,
-        same.search.told,
+        same.search.texts,
         same.search.answer,
         same.views,
       )
@@ -332,7 +332,7 @@ printed_again law turn files held other request replay first second keeps is tra
       ended =
           second.outcome.told.is_ended ∙ ap answer_status again.3
           ∙ sym (outcome_status held request first.report first.ended first.text first.outcome replay.search is);
-      runs = record { alike = again.1; told = again.2; answer = again.3 };
+      runs = record { alike = again.1; texts = again.2; answer = again.3 };
       views = again.4;
       log =
           log_again held other request replay first.report second.report first.ended second.ended first.text second.text
@@ -437,7 +437,7 @@ module _ (law : TeamLaw) (files others : Files) (request : Wanted) (s : Searchin
         let search =
         keeps (values_of s.heuristic) s.limit place r own theirs own_found.0 (reported first.report own_text) (reported second.report their_text)
         own_checked theirs_checked they_rename own_found.1 found_by_same in
-        record { alike = search.alike; told = search.told; answer = search.answer }
+        record { alike = search.alike; texts = search.texts; answer = search.answer }
 
     pub logs_kept : KeepsLogs → IsInTurn request → IsInTurn its → second.report.log ≡ first.report.log
     logs_kept keeps turn their_turn =

@@ -186,7 +186,7 @@ IsInTurn (makes w) = w.work.one ≡ true
 -- One schedule, the same messages between each two agents in the same order, one trace and the same counts, and one answer.
 pub record AreSameRuns (report other : Report) : Type 0 where
   pub alike : AreAlike report.log other.log
-  pub told : TellTheSame report.log other.log
+  pub texts : TellTheSame report.log other.log
   pub answer : other.answer ≡ report.answer
 
 -- The same was printed again, with the same status, and the same was found, and shown. The logs are equal where the events of

@@ -1,17 +1,10 @@
 -- The agents of a team and their tasks, and that the agents of an event are of the team.
-use Rattle.std.proofs.Common.{◌≡◌, ◌≢◌, ℕ, zero, suc, ◌<◌, Bool, true, false, ◌&&◌, List, [], ◌∷◌, length, get_or, Some, refl, sym, ap, ◌∙◌, arith}
-use Rattle.std.specs.Prelude.{◌==◌, Contains, nat_le, not, option_map, slice_get}
-use Rattle.std.proofs.lemmas.Bool.{and_parts, eqb-false, leb-true}
-use Rattle.std.proofs.lemmas.List.{get_or-map, length-map}
-use Rattle.std.proofs.lemmas.List.Elements.{All-contains}
-use Rattle.std.proofs.lemmas.List.FromFn.{get_or-range_with_len}
-use Rattle.std.proofs.lemmas.Option.{get_or_from_slice_get, none-some, slice_get-map, slice_get_within}
-use Rattle.mp_task.specs.AgentTask.{AgentTask}
+use Rattle.mp_world.proofs.Basics.{◌≡◌, ◌≢◌, ℕ, zero, suc, ◌<◌, Bool, true, false, ◌&&◌, List, [], ◌∷◌, length, get_or, Some, refl, sym, ap, ◌∙◌, arith, ◌==◌, Contains, nat_le, not, option_map, slice_get, and_parts, eqb-false, leb-true, get_or-map, length-map}
+use Rattle.mp_world.proofs.Basics.{All-contains, get_or-range_with_len, get_or_from_slice_get, none-some, slice_get-map, slice_get_within}
 use Rattle.mp_task.proofs.Agreeing.{Contains-slice_get}
 pub use Rattle.mp_task.proofs.Agreeing.{agree_numbered}
 use Rattle.mp_machine.specs.declared.event.Local.TheVariants as locals
-use Rattle.mp_machine.specs.AgentRecord.{AgentRecord, is_going}
-use Rattle.mp_machine.specs.LocalStep.{is_another, may}
+use Rattle.mp_world.specs.AgentWords.{AgentTask, AgentRecord, is_going, is_another, may}
 use Rattle.mp_world.specs.World.{AreNumbered, IsAgent, IsTeamWorld, World, agent_at}
 
 -- what holds of an agent of a team's world

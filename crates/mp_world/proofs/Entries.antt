@@ -1,13 +1,8 @@
 -- The entries that an event leaves in a log: its own one, and behind it the messages that went out.
-use Rattle.std.proofs.Common.{◌≡◌, ℕ, Bool, true, false, ◌&&◌, List, [], ◌∷◌, map, Some, refl, sym, ap, ◌∙◌}
-use Rattle.std.specs.Prelude.{◌==◌, All, if◌then◌else◌}
-use Rattle.std.proofs.lemmas.Bool.{eq-eqb, eqb-false, eqb-true}
-use Rattle.std.proofs.lemmas.List.Elements.{All-cons, All-head, All-nil, All-tail}
-use Rattle.mp_messages.specs.declared.history.Event.{Event}
-use Rattle.mp_messages.specs.declared.history.Event.TheVariants.{Expand, Take, Start}
+use Rattle.mp_world.proofs.Basics.{◌≡◌, ℕ, Bool, true, false, ◌&&◌, List, [], ◌∷◌, map, Some, refl, sym, ap, ◌∙◌, ◌==◌, All, if◌then◌else◌, eq-eqb, eqb-false, eqb-true, All-cons, All-head, All-nil, All-tail}
 use Rattle.mp_messages.specs.declared.history.Entry.{Entry}
-use Rattle.mp_messages.specs.History.{agent_of as owner_of, event_of, part, received, schedule, sent}
-use Rattle.mp_machine.specs.declared.outgoing.Out.{Out}
+use Rattle.mp_messages.specs.History.{agent_of as owner_of, event_of, received}
+use Rattle.mp_world.specs.AgentWords.{Event, Expand, Take, Start, part, schedule, sent, Out}
 use Rattle.mp_world.specs.Events.{agent_of}
 use Rattle.mp_world.specs.Logs.{entries_of, entry_of, put_by}
 use Rattle.mp_world.specs.Steps.{sent_to}

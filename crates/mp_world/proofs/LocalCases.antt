@@ -1,49 +1,22 @@
 -- The step of an agent by cases: what holds of each thing that an agent may do holds of its step. A law about such a
 -- step is a list of these cases, each with what the definitions give there.
-use Rattle.std.proofs.Common.{◌≡◌, ◌≢◌, ℕ, ◌+◌, Bool, true, false, List, [], ◌∷◌, ◌++◌, All, Option, Some, None, refl, sym, subst}
-use Rattle.std.specs.Prelude.{Result, Ok, Err, ◌==◌, ◌||◌, not, if◌then◌else◌}
-use Rattle.std.specs.List.{flat_map}
-use Rattle.std.specs.Option.{option_map_or}
-use Rattle.std.proofs.lemmas.Bool.{eqb-false, eqb-true, or_parts}
-use Rattle.std.proofs.lemmas.List.Elements.{All-append, All-map, All-nil}
-use Rattle.std.proofs.lemmas.Option.{none-some}
-use Rattle.mp_sets.specs.Numbers.{Numbers}
-use Rattle.mp_messages.specs.declared.message.EndKind.{EndKind}
+use Rattle.mp_world.proofs.Basics.{◌≡◌, ◌≢◌, ℕ, ◌+◌, Bool, true, false, List, [], ◌∷◌, ◌++◌, All, Option, Some, None, refl, sym, subst, Result, Ok, Err, ◌==◌, ◌||◌, not, if◌then◌else◌, flat_map, option_map_or, eqb-false, eqb-true, All-append, All-map, All-nil}
+use Rattle.mp_world.proofs.Basics.{none-some}
+use Rattle.std.proofs.lemmas.Bool.{or_parts}
 use Rattle.mp_messages.specs.declared.message.EndKind.TheVariants as kinds
-use Rattle.mp_messages.specs.declared.message.Findings.{Findings}
-use Rattle.mp_messages.specs.declared.message.Message.{Message}
-use Rattle.mp_messages.specs.declared.message.Message.TheVariants.{State as AState, Marker, Report, Pick, Trace, Length}
-use Rattle.mp_messages.specs.declared.message.Message.TheVariants.{Done}
-use Rattle.mp_messages.specs.declared.message.State.{State}
-use Rattle.mp_messages.specs.Reading.{message_of}
-use Rattle.mp_search.specs.declared.answer.Sending.{Sending}
-use Rattle.mp_search.specs.Expansion.{expanded}
-use Rattle.mp_search.specs.Receipt.{is_byte_right, is_token_given}
-use Rattle.mp_snapshot.specs.declared.verdict.Verdict.{Verdict}
-use Rattle.mp_snapshot.specs.declared.verdict.Verdict.TheVariants.{Proved, NoPlan, Spent, Continue}
-use Rattle.mp_snapshot.specs.Notes.{Notes}
-use Rattle.mp_snapshot.specs.Rules.{after_report, begun, has, is_strange_marker, is_strange_report, is_under_way}
-use Rattle.mp_snapshot.specs.Rules.{is_whole, own, verdict, with_marker}
-use Rattle.mp_store.specs.Sent.{sent_entry}
+use Rattle.mp_messages.specs.declared.message.Message.TheVariants.{State as AState}
 use Rattle.mp_trail.specs.declared.steps.Timed.{Timed}
-use Rattle.mp_trail.specs.declared.steps.Walked.{Walked}
-use Rattle.mp_trail.specs.declared.steps.Walked.TheVariants.{Root, Hop}
-use Rattle.mp_trail.specs.Walk.{walk}
+use Rattle.mp_trail.specs.declared.steps.Walked.TheVariants.{Root}
 use Rattle.mp_machine.specs.declared.event.Ending.{Ending}
-use Rattle.mp_machine.specs.declared.event.Local.{Local}
 use Rattle.mp_machine.specs.declared.event.Local.TheVariants.{Expand, Take, Start}
-use Rattle.mp_machine.specs.declared.refusal.BadKind.{BadKind}
-use Rattle.mp_machine.specs.declared.refusal.BadKind.TheVariants.{NotASpelling, UnknownToken, WrongByte, StrangeMarker}
-use Rattle.mp_machine.specs.declared.refusal.BadKind.TheVariants.{StrangeReport, StrangePick, StrangeTrace}
-use Rattle.mp_machine.specs.declared.refusal.BadKind.TheVariants.{StrangeLength, StrangeDone}
-use Rattle.mp_machine.specs.AgentRecord.{AgentRecord, given_verdict}
-use Rattle.mp_machine.specs.LocalStep.{local, outgoing_of, with_search}
-use Rattle.mp_machine.specs.Outgoing.{Outgoing, Step, after_sending, to_each, to_one, to_others, without_messages}
-use Rattle.mp_machine.specs.Snapshots.{by_verdict, findings, judged, judged_or_reported, marked, reported, started}
-use Rattle.mp_machine.specs.Snapshots.{with_notes}
-use Rattle.mp_machine.specs.Taking.{ending_of, is_strange_length, is_strange_pick, is_strange_trace, took, took_message}
-use Rattle.mp_machine.specs.Taking.{traced, unless_bad, with_state}
-use Rattle.mp_machine.specs.WalkingBack.{arrived, solved, walked, walked_from_goal}
+use Rattle.mp_machine.specs.declared.refusal.BadKind.TheVariants.{NotASpelling, StrangeMarker}
+use Rattle.mp_machine.specs.declared.refusal.BadKind.TheVariants.{StrangeReport}
+use Rattle.mp_machine.specs.Snapshots.{by_verdict, marked, reported}
+use Rattle.mp_world.specs.AgentWords.{EndKind, Findings, Message, Marker, Report, Pick, Trace, Length, Done, State, message_of, Verdict, Proved, NoPlan, Spent, Continue, Notes, after_report, begun, has, is_strange_marker, is_strange_report, is_under_way, is_whole, own}
+use Rattle.mp_world.specs.AgentWords.{verdict, with_marker, Walked, Hop, walk, Local, BadKind, UnknownToken, WrongByte, StrangePick, StrangeTrace, StrangeLength, StrangeDone, AgentRecord, given_verdict, local, outgoing_of, with_search, Outgoing, Step, after_sending}
+use Rattle.mp_world.specs.AgentWords.{to_each, to_one, to_others, without_messages, findings, judged, judged_or_reported, started, with_notes, ending_of, is_strange_length, is_strange_pick, is_strange_trace, took, took_message, traced, unless_bad, with_state, arrived}
+use Rattle.mp_world.specs.AgentWords.{solved, walked, walked_from_goal}
+use Rattle.mp_world.specs.SearchWords.{Numbers, Sending, expanded, is_byte_right, is_token_given, sent_entry}
 
 -- ---- messages that go out
 
@@ -318,7 +291,7 @@ pub record StepCases (P : AgentRecord → Step → Type 0) : Type 0 where
       → P r (after_sending (to_others r.task (Marker number)) s)
   pub picked : (r : AgentRecord) (s : Step) → P (record r { picked = true }) s → P r s
   -- a length or an end is told
-  pub told : (r : AgentRecord) (ending : Ending) (share : List Timed)
+  pub ended : (r : AgentRecord) (ending : Ending) (share : List Timed)
       → P r (without_messages (record r { ending = ending; share = share }))
 
 module _ (P : AgentRecord → Step → Type 0) (cases : StepCases P) where
@@ -357,8 +330,8 @@ module _ (P : AgentRecord → Step → Type 0) (cases : StepCases P) where
               let new : AgentRecord = record r { picked = true } in
               cases.picked r (walked_from_goal new) (from_goal_holds new (P new) (cases.acts new));
           trace = λ sent back entry there good holds. walked_holds r (P r) (cases.acts r) entry back;
-          length = λ plan good holds. cases.told r (solved r plan).ending (solved r plan).share;
-          done = λ kind first holds. cases.told r (ending_of kind) r.share;
+          length = λ plan good holds. cases.ended r (solved r plan).ending (solved r plan).share;
+          done = λ kind first holds. cases.ended r (ending_of kind) r.share;
         }) m s is state
 
     pub each_local : (event : Local) (bytes : List ℕ) (s : Step)

@@ -1,22 +1,14 @@
 -- The log of a run: its schedule, what is under way after it, and that it is a log of its team.
-use Rattle.std.proofs.Common.{◌≡◌, ◌≢◌, ℕ, zero, suc, ◌+◌, ◌-◌, ◌<◌, ◌≤◌, Bool, true, false, ◌&&◌, List, [], ◌∷◌, ◌++◌, length, map, drop, replicate, Some, refl, sym, ap, subst, ◌∙◌, append_assoc, append-nil, arith, length-append, length-drop, ◌⊎◌, inl, inr}
-use Rattle.std.specs.Prelude.{◌==◌, All, Contains, if◌then◌else◌, not, slice_get, slice_index_or}
-use Rattle.std.specs.Option.{option_map_or}
-use Rattle.std.proofs.lemmas.Bool.{eqb-false, eqb-true}
-use Rattle.std.proofs.lemmas.List.{drop-append-le, get_or-replicate}
-use Rattle.std.proofs.lemmas.List.Elements.{All-append, All-contains, All-nil, All-weaker, filter-append, filter_map-append}
-use Rattle.std.proofs.lemmas.Option.{none-some, same_Some, slice_get-get_or}
+use Rattle.mp_world.proofs.Basics.{◌≡◌, ◌≢◌, ℕ, zero, suc, ◌+◌, ◌-◌, ◌<◌, ◌≤◌, Bool, true, false, ◌&&◌, List, [], ◌∷◌, ◌++◌, length, map, drop, replicate, Some, refl, sym, ap, subst, ◌∙◌, append_assoc, append-nil, arith, length-append, ◌⊎◌, inl, inr, ◌==◌, All}
+use Rattle.mp_world.proofs.Basics.{Contains, if◌then◌else◌, not, slice_get, slice_index_or, option_map_or, eqb-false, eqb-true, get_or-replicate, All-append, All-contains, All-nil, All-weaker, filter-append, filter_map-append, none-some, same_Some, slice_get-get_or}
+use Rattle.std.proofs.Common.{length-drop}
+use Rattle.std.proofs.lemmas.List.{drop-append-le}
 use Rattle.mp_runs.specs.Run.{run as run_of}
 use Rattle.mp_runs.proofs.Runs.{run-none, run_parts}
-use Rattle.mp_task.specs.AgentTask.{AgentTask}
-use Rattle.mp_messages.specs.declared.history.Event.{Event}
-use Rattle.mp_messages.specs.declared.history.Event.TheVariants.{Expand, Take, Start}
 use Rattle.mp_messages.specs.declared.history.Entry.{Entry}
-use Rattle.mp_messages.specs.History.{IsHistory, MayFollow, agent_of as owner_of, event_of, part, put_between, received, schedule, sent, taken_between, under_way as under_way_in}
+use Rattle.mp_messages.specs.History.{IsHistory, MayFollow, agent_of as owner_of, event_of, put_between, received, taken_between, under_way as under_way_in}
 use Rattle.mp_messages.proofs.Histories.{history_empty, history_grows}
-use Rattle.mp_machine.specs.declared.outgoing.Out.{Out}
-use Rattle.mp_machine.specs.AgentRecord.{AgentRecord, new_record}
-use Rattle.mp_machine.specs.LocalStep.{may}
+use Rattle.mp_world.specs.AgentWords.{AgentTask, Event, Expand, Take, Start, part, schedule, sent, Out, AgentRecord, new_record, may}
 use Rattle.mp_world.specs.Events.{after_event, agent_of, has_message, local_of, local_step, sent_in, taken, without_taken}
 use Rattle.mp_world.specs.Logs.{HasDone, IsLocalLog, IsLog, entries_if_good, entries_of, entry_of, log_after, log_from, log_of_run, put_by}
 use Rattle.mp_world.specs.Logs.HasDone.{nothing, onward}

@@ -1,14 +1,12 @@
 -- Agents and messages of a world that changes in one place: an agent has done more, other messages are under way, and messages
 -- go out.
-use Rattle.std.proofs.Common.{◌≡◌, ◌≢◌, ℕ, zero, suc, ◌-◌, ◌<◌, Bool, true, false, ◌&&◌, eqb, ltb, List, [], ◌∷◌, ◌++◌, length, Some, refl, sym, ap, subst, ◌∙◌, append_assoc, append-nil, arith, ◌⊎◌, inl, inr}
-use Rattle.std.specs.Prelude.{◌==◌, if◌then◌else◌, All, slice_get, slice_index_or, slice_set}
+use Rattle.mp_world.proofs.Basics.{◌≡◌, ◌≢◌, ℕ, zero, suc, ◌-◌, ◌<◌, Bool, true, false, ◌&&◌, eqb, List, [], ◌∷◌, ◌++◌, length, Some, refl, sym, ap, subst, ◌∙◌, append_assoc, append-nil, arith, ◌⊎◌, inl, inr, ◌==◌, if◌then◌else◌, All, slice_get, slice_index_or}
+use Rattle.mp_world.proofs.Basics.{slice_set, and_parts, eq-eqb, eqb-true, eqb-false, leb-true, le-leb, ltb-true, ltb-false, get_or-set_same, get_or-set_other, length-set, All-set, none-some, slice_get_within}
+use Rattle.std.proofs.Common.{ltb}
 use Rattle.std.specs.List.{fold}
-use Rattle.std.proofs.lemmas.Bool.{and_parts, eq-eqb, eqb-true, eqb-false, leb-true, le-leb, ltb-true, ltb-false}
-use Rattle.std.proofs.lemmas.List.{get_or-set_same, get_or-set_other, length-set, set_past}
-use Rattle.std.proofs.lemmas.List.Elements.{All-set, All-get_or}
-use Rattle.std.proofs.lemmas.Option.{none-some, slice_get_within}
-use Rattle.mp_machine.specs.declared.outgoing.Out.{Out}
-use Rattle.mp_machine.specs.AgentRecord.{AgentRecord}
+use Rattle.std.proofs.lemmas.List.{set_past}
+use Rattle.std.proofs.lemmas.List.Elements.{All-get_or}
+use Rattle.mp_world.specs.AgentWords.{Out, AgentRecord}
 use Rattle.mp_world.specs.Events.{is_agent, with_sent}
 use Rattle.mp_world.specs.Steps.{sent_to}
 use Rattle.mp_world.specs.World.{World, IsAgent, agent_at, mail_of, under_way, with_agent, with_under_way}

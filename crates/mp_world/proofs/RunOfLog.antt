@@ -1,28 +1,16 @@
 -- A log of a team has a run, in which each agent does what its part of the log says.
-use Rattle.std.proofs.Common.{◌≡◌, ◌≢◌, ℕ, ◌+◌, ◌≤◌, Bool, true, false, ◌&&◌, List, [], ◌∷◌, ◌++◌, length, map, drop, Option, Some, None, refl, sym, ap, subst, ◌∙◌, append_assoc, append-nil, arith, length-append}
-use Rattle.std.specs.Prelude.{Result, Ok, ◌==◌, Contains, if◌then◌else◌, not, slice_get, slice_index_or}
-use Rattle.std.specs.Option.{option_and_then, option_map_or}
-use Rattle.std.proofs.Math.Dec.{eqb-suc-zero}
-use Rattle.std.proofs.lemmas.Bool.{eq-eqb, eqb-false, eqb-true}
+use Rattle.mp_world.proofs.Basics.{◌≡◌, ◌≢◌, ℕ, ◌+◌, ◌≤◌, Bool, true, false, ◌&&◌, List, [], ◌∷◌, ◌++◌, length, map, drop, Option, Some, None, refl, sym, ap, subst, ◌∙◌, append_assoc, append-nil, arith, length-append, Result, Ok, ◌==◌, Contains, if◌then◌else◌, not}
+use Rattle.mp_world.proofs.Basics.{slice_get, slice_index_or, option_and_then, option_map_or, eqb-suc-zero, eq-eqb, eqb-false, eqb-true, Contains-append_right, filter-append, filter_map-append, get_or_from_slice_get, none-some, same_Some}
 use Rattle.std.proofs.lemmas.List.{append_cancel_left, drop-append-le, length-take}
-use Rattle.std.proofs.lemmas.List.Elements.{Contains-append_right, filter-append, filter_map-append}
-use Rattle.std.proofs.lemmas.Option.{get_or_from_slice_get, none-some, same_Some}
 use Rattle.mp_runs.specs.Run.{run as run_of}
 use Rattle.mp_runs.proofs.Runs.{run-first, run-none}
 use Rattle.mp_list.proofs.Members.{contains_head}
-use Rattle.mp_sets.specs.Numbers.{Numbers}
-use Rattle.mp_task.specs.AgentTask.{AgentTask}
-use Rattle.mp_messages.specs.declared.history.Event.{Event}
-use Rattle.mp_messages.specs.declared.history.Event.TheVariants.{Expand, Take, Start}
 use Rattle.mp_messages.specs.declared.history.Entry.{Entry}
 use Rattle.mp_messages.specs.declared.history.Entry.TheVariants.{Act, Put, Took}
-use Rattle.mp_messages.specs.History.{IsHistory, MayFollow, agent_of as owner_of, part, put_between, received, schedule, sent, taken_between, under_way as under_way_in}
+use Rattle.mp_messages.specs.History.{IsHistory, MayFollow, agent_of as owner_of, put_between, received, taken_between, under_way as under_way_in}
 use Rattle.mp_messages.proofs.Histories.{history_front, history_in_order}
-use Rattle.mp_machine.specs.declared.outgoing.Out.{Out}
-use Rattle.mp_machine.specs.declared.refusal.BadKind.{BadKind}
-use Rattle.mp_machine.specs.AgentRecord.{AgentRecord, new_record}
-use Rattle.mp_machine.specs.LocalStep.{local, may}
-use Rattle.mp_machine.specs.Outgoing.{Step}
+use Rattle.mp_world.specs.AgentWords.{AgentTask, Event, Expand, Take, Start, part, schedule, sent, Out, BadKind, AgentRecord, new_record, local, may, Step}
+use Rattle.mp_world.specs.SearchWords.{Numbers}
 use Rattle.mp_world.specs.Events.{after_event, after_local, agent_may, agent_of, has_message, if_good, is_legal, local_of, local_step, sent_in, taken}
 use Rattle.mp_world.specs.Logs.{HasDone, HasRun, IsLog, entries_if_good, entries_of, entry_of, log_after, log_from, log_of_run, put_by}
 use Rattle.mp_world.specs.Logs.HasDone.{nothing, onward}

@@ -1,8 +1,8 @@
 -- What the world at the start has and each event keeps, the world after a run has.
-use Rattle.std.proofs.Common.{◌≡◌, List, [], ◌∷◌, ◌++◌, Some, subst}
+use Rattle.mp_world.proofs.Basics.{◌≡◌, List, [], ◌∷◌, ◌++◌, Some, subst}
 use Rattle.mp_runs.specs.Run.{run as run_of}
 use Rattle.mp_runs.proofs.Runs.{run_keeps, run_keeps_history}
-use Rattle.mp_messages.specs.declared.history.Event.{Event}
+use Rattle.mp_world.specs.AgentWords.{Event}
 use Rattle.mp_world.specs.Events.{after_event, run}
 use Rattle.mp_world.specs.IsRun.{IsRun}
 use Rattle.mp_world.specs.Steps.{IsStepOf}

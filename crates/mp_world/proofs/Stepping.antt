@@ -1,18 +1,10 @@
 -- What an event changes in a world, and that the world stays one of its team.
-use Rattle.std.proofs.Common.{◌≡◌, ℕ, zero, suc, ◌-◌, Bool, true, false, List, [], ◌∷◌, length, map, drop, Some, None, refl, sym, ap, subst, ◌∙◌}
-use Rattle.std.specs.Prelude.{Result, Ok, Err, if◌then◌else◌, All, replicate, slice_get, slice_set}
-use Rattle.std.specs.Option.{option_and_then, option_map_or}
-use Rattle.std.proofs.lemmas.Bool.{and_parts}
-use Rattle.std.proofs.lemmas.List.{length-map, length-replicate, length-set, map-set}
+use Rattle.mp_world.proofs.Basics.{◌≡◌, ℕ, zero, suc, ◌-◌, Bool, true, false, List, [], ◌∷◌, length, map, drop, Some, None, refl, sym, ap, subst, ◌∙◌, Result, Ok, Err, if◌then◌else◌, All, replicate, slice_get, slice_set, option_and_then, option_map_or, and_parts}
+use Rattle.mp_world.proofs.Basics.{length-map, length-replicate, length-set, none-some, same_Some}
+use Rattle.std.proofs.lemmas.List.{map-set}
 use Rattle.std.proofs.lemmas.List.Elements.{All-replicate}
-use Rattle.std.proofs.lemmas.Option.{none-some, option_and_then_some, same_Some}
-use Rattle.mp_task.specs.AgentTask.{AgentTask}
-use Rattle.mp_messages.specs.declared.history.Event.{Event}
-use Rattle.mp_messages.specs.declared.history.Event.TheVariants.{Expand, Take, Start}
-use Rattle.mp_machine.specs.declared.refusal.BadKind.{BadKind}
-use Rattle.mp_machine.specs.AgentRecord.{AgentRecord, new_record}
-use Rattle.mp_machine.specs.LocalStep.{local, may}
-use Rattle.mp_machine.specs.Outgoing.{Step}
+use Rattle.std.proofs.lemmas.Option.{option_and_then_some}
+use Rattle.mp_world.specs.AgentWords.{AgentTask, Event, Expand, Take, Start, BadKind, AgentRecord, new_record, local, may, Step}
 use Rattle.mp_world.specs.Events.{after_event, after_local, agent_may, agent_of, has_message, if_good, is_legal, local_of, local_step, sent_in, taken, without_taken}
 use Rattle.mp_world.specs.Steps.{IsStepOf}
 use Rattle.mp_world.specs.Team.{Team}

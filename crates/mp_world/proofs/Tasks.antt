@@ -1,12 +1,7 @@
 -- What an agent does never changes its task.
-use Rattle.std.proofs.Common.{◌≡◌, ℕ, List, Option, refl}
-use Rattle.std.specs.Prelude.{Ok}
-use Rattle.mp_sets.specs.Numbers.{Numbers}
-use Rattle.mp_machine.specs.declared.event.Local.{Local}
-use Rattle.mp_machine.specs.AgentRecord.{AgentRecord}
-use Rattle.mp_machine.specs.LocalStep.{local}
-use Rattle.mp_machine.specs.Outgoing.{Step}
-use Rattle.mp_machine.specs.Taking.{with_state}
+use Rattle.mp_world.proofs.Basics.{◌≡◌, ℕ, List, Option, refl, Ok}
+use Rattle.mp_world.specs.AgentWords.{Local, AgentRecord, local, Step, with_state}
+use Rattle.mp_world.specs.SearchWords.{Numbers}
 use Rattle.mp_world.proofs.LocalCases.{StepCases, each_local}
 
 abbrev KeepsTask : AgentRecord → Step → Type 0
@@ -25,7 +20,7 @@ keeping = record {
   notes = λ r new s keeps. keeps;
   begins = λ r new number s keeps. keeps;
   picked = λ r s keeps. keeps;
-  told = λ r ending share. refl;
+  ended = λ r ending share. refl;
 }
 
 module _ (value : Numbers → Numbers → Option ℕ) where

@@ -1,15 +1,8 @@
 -- What round robin makes is a run up to a world that is over, and it makes one schedule alone.
-use Rattle.std.proofs.Common.{◌≡◌, ℕ, true, false, List, [], ◌∷◌, ◌++◌, length, Some, None, refl, sym, ap, subst, ◌∙◌}
-use Rattle.std.specs.Prelude.{if◌then◌else◌}
-use Rattle.std.specs.List.{range_with_len}
-use Rattle.std.specs.Option.{option_and_then}
-use Rattle.std.proofs.lemmas.Bool.{false≢true}
-use Rattle.std.proofs.lemmas.Option.{none-some, same_Some}
+use Rattle.mp_world.proofs.Basics.{◌≡◌, ℕ, true, false, List, [], ◌∷◌, ◌++◌, length, Some, None, refl, sym, ap, subst, ◌∙◌, if◌then◌else◌, range_with_len, option_and_then, false≢true, none-some, same_Some}
 use Rattle.mp_runs.specs.Run.{run as run_of}
 use Rattle.mp_runs.proofs.Runs.{run-after, run-first, run-none, run-one}
-use Rattle.mp_messages.specs.declared.history.Event.{Event}
-use Rattle.mp_messages.specs.declared.history.Event.TheVariants.{Expand, Take, Start}
-use Rattle.mp_machine.specs.Outgoing.{others}
+use Rattle.mp_world.specs.AgentWords.{Event, Expand, Take, Start, others}
 use Rattle.mp_world.specs.Events.{after_event, agent_of, if_good, is_legal, local_step}
 use Rattle.mp_world.specs.RoundRobin.{AsLongAsItMay, ForEach, IfItMay, IsRoundRobin, Nothing, Round, Rounds, StartsIfFirst, Then, Turn, is_over}
 use Rattle.mp_world.specs.RoundRobin.AsLongAsItMay.{no_more, once_more}

@@ -18,3 +18,6 @@ pub mod Joint
 pub mod Answers
 -- the schedule in which the agents take turns
 pub mod RoundRobin
+-- words of the crates below that laws over runs use: of agents, and of an agent's search
+pub mod AgentWords
+pub mod SearchWords

@@ -1,6 +1,6 @@
 use Rattle.std.proofs.Common.{ap, ◌∙◌, arith}
 use Rattle.mp_machine.specs.LocalStep.{may}
-use Rattle.mp_schedule.proofs.Places.{found, may_is}
+use Rattle.mp_schedule.proofs.MachinePlaces.{found, may_is}
 use Rattle.mp_schedule.proofs.steps.may.Goals as goal
 
 pub returns : goal.returns

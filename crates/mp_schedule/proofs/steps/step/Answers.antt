@@ -2,7 +2,7 @@ use Rattle.std.proofs.Common.{◌≡◌, ◌-◌, Some, ap, subst, ◌∙◌, ar
 use Rattle.std.specs.Prelude.{option_map, slice_get, slice_set}
 use Rattle.mp_machine.specs.Machine.{IsStep, given}
 use Rattle.mp_world.specs.Events.{agent_of}
-use Rattle.mp_schedule.proofs.Places.{found}
+use Rattle.mp_schedule.proofs.MachinePlaces.{found}
 use Rattle.mp_schedule.proofs.steps.step.Goals as goal
 
 pub returns : goal.returns

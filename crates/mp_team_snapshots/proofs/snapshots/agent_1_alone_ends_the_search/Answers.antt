@@ -1,7 +1,5 @@
-use Rattle.std.proofs.Common.{ap}
-use Rattle.mp_machine.specs.declared.refusal.BadKind.TheVariants.{StrangeDone}
-use Rattle.mp_machine.specs.Outgoing.{without_messages}
-use Rattle.mp_machine.specs.Taking.{ending_of, unless_bad}
+use Rattle.mp_world.proofs.Basics.{ap}
+use Rattle.mp_world.specs.AgentWords.{StrangeDone, without_messages, ending_of, unless_bad}
 use Rattle.mp_team_snapshots.proofs.Ends.{end_is_good, ends_kept, ends_new}
 use Rattle.mp_team_snapshots.proofs.snapshots.agent_1_alone_ends_the_search.Goals as goal
 

@@ -1,4 +1,4 @@
-use Rattle.mp_messages.specs.declared.history.Event.TheVariants.{Expand}
+use Rattle.mp_world.specs.AgentWords.{Expand}
 use Rattle.mp_world.proofs.Runs.{run_with}
 use Rattle.mp_world.proofs.Stepping.{event_is_step, team_lists}
 use Rattle.mp_team_states.specs.Expansions.{nothing_known}

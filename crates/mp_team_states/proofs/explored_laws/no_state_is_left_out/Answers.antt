@@ -1,4 +1,4 @@
-use Rattle.std.proofs.Common.{sym, subst}
+use Rattle.mp_world.proofs.Basics.{sym, subst}
 use Rattle.mp_reach.specs.LeadsOn.{IsAny, IsRoot, LeadsOn}
 use Rattle.mp_reach.proofs.NothingLeftOut.{nothing_left_out}
 use Rattle.mp_team_states.specs.TeamFound.{found_of}

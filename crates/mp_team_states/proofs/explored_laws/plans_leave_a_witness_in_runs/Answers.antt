@@ -1,10 +1,10 @@
-use Rattle.mp_task.specs.Plan.{task_cost}
 use Rattle.mp_reach.proofs.PlanWitness.{plan_witness}
+use Rattle.mp_world.specs.AgentWords.{task_cost}
 use Rattle.mp_team_states.specs.TeamFound.{found_of}
 use Rattle.mp_team_states.proofs.Flags.{flags_of_joint}
 use Rattle.mp_team_states.proofs.Heuristics.{heuristic_in}
 use Rattle.mp_team_states.proofs.Runs.{run_invariant}
-use Rattle.mp_team_states.proofs.Shown.{shown_in}
+use Rattle.mp_team_states.proofs.Witnesses.{shown_in}
 use Rattle.mp_team_states.proofs.explored_laws.plans_leave_a_witness_in_runs.Goals as goal
 
 pub returns : goal.returns

@@ -2,7 +2,7 @@ use Rattle.mp_world.specs.World.{World}
 use Rattle.mp_world.proofs.Runs.{run_has}
 use Rattle.mp_team_states.specs.Paths.{AreReached}
 use Rattle.mp_team_states.specs.Sound.{AreStatesSound}
-use Rattle.mp_team_states.proofs.Reached.{event_reaches, one_path, told_rightly}
+use Rattle.mp_team_states.proofs.ReachedEntries.{event_reaches, one_path, told_rightly}
 use Rattle.mp_team_states.proofs.StartReached.{start_reaches}
 use Rattle.mp_team_states.proofs.StartSound.{start_states_sound}
 use Rattle.mp_team_states.proofs.StepsSound.{states_stay_sound}

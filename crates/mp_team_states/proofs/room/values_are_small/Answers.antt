@@ -1,5 +1,5 @@
-use Rattle.std.proofs.lemmas.List.Elements.{All-contains}
-use Rattle.mp_task.specs.Limits.{IsWithinLimits}
+use Rattle.mp_world.proofs.Basics.{All-contains}
+use Rattle.mp_world.specs.AgentWords.{IsWithinLimits}
 use Rattle.mp_team_states.proofs.room.values_are_small.Goals as goal
 
 pub returns : goal.returns

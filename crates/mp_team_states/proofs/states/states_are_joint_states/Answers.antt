@@ -1,4 +1,4 @@
-use Rattle.std.proofs.Common.{ap}
+use Rattle.mp_world.proofs.Basics.{ap}
 use Rattle.mp_world.specs.Joint.{joint}
 use Rattle.mp_team_states.proofs.GoodStates.{equal_if_joint, known_is_joint, own_facts, receiver_knows, tells_of_entry}
 use Rattle.mp_team_states.proofs.states.states_are_joint_states.Goals as goal

@@ -1,6 +1,5 @@
-use Rattle.std.proofs.Common.{sym, subst, ◌+◌, ◌<◌, ◌^◌, ◌∙◌, length}
-use Rattle.std.proofs.lemmas.Option.{same_Some}
-use Rattle.mp_machine.specs.AgentRecord.{AgentRecord}
+use Rattle.mp_world.proofs.Basics.{sym, subst, ◌+◌, ◌<◌, ◌^◌, ◌∙◌, length, same_Some}
+use Rattle.mp_world.specs.AgentWords.{AgentRecord}
 use Rattle.mp_world.specs.RoundRobin.{Round}
 use Rattle.mp_world.proofs.Agents.{agree_numbered, member_of}
 use Rattle.mp_world.proofs.Runs.{run_of_team}

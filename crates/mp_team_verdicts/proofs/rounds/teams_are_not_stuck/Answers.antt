@@ -1,6 +1,5 @@
-use Rattle.std.proofs.Common.{sym, subst, ◌+◌, ◌<◌, ◌^◌, ◌∙◌}
-use Rattle.std.proofs.lemmas.Option.{same_Some}
-use Rattle.mp_machine.specs.AgentRecord.{AgentRecord}
+use Rattle.mp_world.proofs.Basics.{sym, subst, ◌+◌, ◌<◌, ◌^◌, ◌∙◌, same_Some}
+use Rattle.mp_world.specs.AgentWords.{AgentRecord}
 use Rattle.mp_world.proofs.Agents.{agree_numbered, member_of}
 use Rattle.mp_world.proofs.Runs.{run_of_team}
 use Rattle.mp_team_snapshots.proofs.Agreeing.{are_of_team}

@@ -1,4 +1,4 @@
-use Rattle.std.specs.Prelude.{IsTrue}
+use Rattle.mp_world.proofs.Basics.{IsTrue}
 use Rattle.mp_world.proofs.Runs.{run_has, run_has_history, run_of_team}
 use Rattle.mp_world.proofs.laws.runs_have_what_events_keep.Goals as goal
 

@@ -1,12 +1,10 @@
 -- What shows in a world that a cost may be.
-use Rattle.std.proofs.Common.{ℕ, List, sym, ap, subst, ◌∙◌, arith}
-use Rattle.std.specs.Prelude.{Contains}
-use Rattle.mp_task.specs.AgentTask.{AgentTask}
-use Rattle.mp_task.specs.Plan.{goals_hold}
+use Rattle.mp_world.proofs.Basics.{ℕ, List, sym, ap, subst, ◌∙◌, arith, Contains}
 use Rattle.mp_reach.specs.Explored.{HasWitness}
 use Rattle.mp_reach.specs.Explored.HasWitness.{open_entry, under_way, goal_entry}
 use Rattle.mp_reach.specs.Found.{Entry as Seen, Message as Sent}
 use Rattle.mp_reach.specs.LeadsOn.{IsGoal, Known}
+use Rattle.mp_world.specs.AgentWords.{AgentTask, goals_hold}
 use Rattle.mp_world.specs.Team.{AreTeamTasks}
 use Rattle.mp_world.specs.World.{IsTeamWorld, World}
 use Rattle.mp_world.specs.World as worlds
@@ -14,7 +12,7 @@ use Rattle.mp_world.proofs.Agents.{agree_numbered}
 use Rattle.mp_world.proofs.Mail.{agent_of_team}
 use Rattle.mp_team_states.specs.Sound.{AreStatesSound}
 use Rattle.mp_team_states.proofs.GoodStates.{what_is_read}
-use Rattle.mp_team_states.proofs.Reached.{entry_in}
+use Rattle.mp_team_states.proofs.ReachedEntries.{entry_in}
 use Rattle.mp_team_states.proofs.StepsSound.{task_at}
 use Rattle.mp_team_states.specs.Estimates.{AreGoalsFlagged}
 use Rattle.mp_team_states.specs.TeamFound.{found_of}

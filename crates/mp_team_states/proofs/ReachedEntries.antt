@@ -1,25 +1,11 @@
 -- Each entry is reached by its path, in every world that a legal schedule leads to.
-use Rattle.std.proofs.Common.{◌≡◌, ℕ, zero, suc, ◌+◌, ◌<◌, ◌⊎◌, List, [], ◌∷◌, ◌++◌, Option, Some, None, refl, sym, ap, subst, ◌∙◌, arith, inl, inr}
-use Rattle.std.specs.Prelude.{IsSomeAnd, option_and_then, slice_get}
-use Rattle.std.specs.List.{sum_by}
-use Rattle.std.specs.Option.{option_map_or}
-use Rattle.std.proofs.lemmas.Bool.{cases_eq}
+use Rattle.mp_world.proofs.Basics.{◌≡◌, ℕ, zero, suc, ◌+◌, ◌<◌, ◌⊎◌, List, [], ◌∷◌, ◌++◌, Option, Some, None, refl, sym, ap, subst, ◌∙◌, arith, inl, inr, IsSomeAnd, option_and_then, slice_get, sum_by, option_map_or, cases_eq, same_Some}
 use Rattle.std.proofs.lemmas.List.Sums.{sum_by-append}
-use Rattle.std.proofs.lemmas.Option.{same_Some}
 use Rattle.mp_runs.proofs.Runs.{run-more}
-use Rattle.mp_task.specs.declared.act.Act.{Act}
-use Rattle.mp_task.specs.AgentTask.{AgentTask}
-use Rattle.mp_task.specs.Plan.{JointState, TaskStep, act_of, after_step, joint_start, step_cost, task_of}
-use Rattle.mp_messages.specs.declared.history.Event.{Event}
-use Rattle.mp_messages.specs.declared.message.State.{State}
-use Rattle.mp_store.specs.declared.entry.Entry.{Entry}
-use Rattle.mp_store.specs.declared.entry.Origin.{Origin}
-use Rattle.mp_store.specs.declared.entry.Origin.TheVariants.{Root, Own, From}
-use Rattle.mp_store.specs.Record.{Record}
-use Rattle.mp_search.specs.AgentState.{AgentState, successor}
-use Rattle.mp_search.specs.Receipt.{state_of}
+use Rattle.mp_task.specs.Plan.{step_cost}
 use Rattle.mp_search.proofs.KeyedStates.{all_get}
-use Rattle.mp_machine.specs.AgentRecord.{AgentRecord}
+use Rattle.mp_world.specs.AgentWords.{Act, AgentTask, JointState, TaskStep, act_of, after_step, joint_start, task_of, Event, State, AgentRecord}
+use Rattle.mp_world.specs.SearchWords.{Entry, Origin, Root, Own, From, Record, AgentState, successor, state_of}
 use Rattle.mp_world.specs.Team.{AreTeamTasks}
 use Rattle.mp_world.specs.Values.{Values}
 use Rattle.mp_world.specs.World.{IsTeamWorld, World, agent_at}

@@ -1,12 +1,8 @@
 -- Worlds that the legal schedules of a team lead to, and what holds of them.
-use Rattle.std.proofs.Common.{◌≡◌, ℕ, Bool, true, List, [], ◌∷◌, ◌++◌, Option, Some, refl, sym, ap, subst, ◌∙◌}
-use Rattle.std.specs.List.{list_all}
-use Rattle.std.specs.Option.{option_and_then}
-use Rattle.std.proofs.lemmas.Bool.{and_parts}
-use Rattle.std.proofs.lemmas.Option.{same_Some}
+use Rattle.mp_world.proofs.Basics.{◌≡◌, ℕ, Bool, true, List, [], ◌∷◌, ◌++◌, Option, Some, refl, sym, ap, subst, ◌∙◌, list_all, option_and_then, and_parts, same_Some}
 use Rattle.mp_runs.specs.Run.{run as run_of}
 use Rattle.mp_runs.proofs.Runs.{run-more, run-none, run_parts}
-use Rattle.mp_messages.specs.declared.history.Event.{Event}
+use Rattle.mp_world.specs.AgentWords.{Event}
 use Rattle.mp_world.specs.Events.{after_event, run}
 use Rattle.mp_world.specs.Steps.{IsStepOf}
 use Rattle.mp_world.specs.Team.{IsTeam, Team}
