@@ -43,6 +43,19 @@ impl<H: Heuristic> World<H> {
         }
     }
 
+    /// An agent takes a message of another one if it may: whether it did. Most agents that are asked have sent none, so it is
+    /// asked for a message before the agent is asked whether it may take one.
+    fn takes(&mut self, by: Agent, from: Agent) -> Result<bool, OutOfMemory>
+        requires { IsOfTeam (length self.old.tasks) (events.Take by from) }
+        ensures did { IfOk result (λ did. HappensIf H.value self.old (events.Take by from) did self.new) }
+        ensures failed { OnErr result (self.new.failed ≡ true) }
+    {
+        if self.has_none(by, from) {
+            return Ok(false);
+        }
+        self.happens(Event::Take { by, from })
+    }
+
     /// An agent takes the messages of another one, as long as there are any.
     fn take_all(&mut self, by: Agent, from: Agent) -> Result<(), OutOfMemory>
         requires by { by ≤ length self.old.tasks }
@@ -53,7 +66,7 @@ impl<H: Heuristic> World<H> {
     {
         self.comes_from_a_run();
         'messages: loop {
-            if !self.happens(Event::Take { by, from })? {
+            if !self.takes(by, from)? {
                 return Ok(());
             }
         }

@@ -9,6 +9,7 @@ ghost use Rattle.mp_schedule.specs.Laws.{KeepsLaws};
 ghost use Rattle.mp_schedule.specs.Machines.{AreNew, IsFree, limit_of, tasks_of};
 ghost use Rattle.mp_schedule.specs.TeamRun.{IsLogged, MayRun, start_run};
 ghost use Rattle.mp_team_states.specs.Expansions.{ExpandsOne};
+ghost use Rattle.mp_world.specs.Events.{is_legal};
 ghost use Rattle.mp_world.specs.RoundRobin.{is_over};
 
 use crate::laws::runs_keep_laws;
@@ -19,6 +20,7 @@ use crate::steps::{happen, refusal_of};
 use mp_list::OutOfMemory;
 use mp_machine::{Ending, Machine, StepRefusal};
 use mp_messages::{Event, Log};
+use mp_sets::Agent;
 use mp_task::Heuristic;
 use mp_team_verdicts::no_message_is_bad;
 use std::alloc::Global;
@@ -178,6 +180,13 @@ impl<H: Heuristic> World<H> {
         ensures { result ≡ self.now.failed }
     {
         self.failed
+    }
+
+    /// Whether no message is under way from one agent to another, so that none can be taken.
+    pub(crate) fn has_none(&self, by: Agent, from: Agent) -> bool
+        ensures { result ≡ true → is_legal self.now.world (events.Take by from) ≡ false }
+    {
+        self.mail.is_empty(from, by)
     }
 
     /// There are fewer events than a log in memory has room for.
