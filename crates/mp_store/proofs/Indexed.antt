@@ -1,24 +1,24 @@
 -- What the indices of a record say: the best entry of a key, the least open entry, whether a state was sent.
-use Rattle.std.proofs.Common.{◌≡◌, ℕ, ◌<◌, Bool, true, ◌&&◌, eqb, ltb, List, [], ◌∷◌, length, get_or, Option, Some, None, refl, sym, ap, ◌∙◌, arith}
-use Rattle.std.specs.Prelude.{nat_le}
-use Rattle.std.specs.BTreeSet.{BTreeSet, contains, keys, IsLowerBound}
-use Rattle.std.specs.List.{list_any}
+use Rattle.std.proofs.Common.{◌≡◌, ℕ, ◌<◌, Bool, true, eqb, List, length, get_or, Option, Some, None, refl, sym, ap, subst, ◌∙◌, arith}
+use Rattle.std.specs.Prelude.{Contains, nat_le, option_map}
 use Rattle.std.specs.Cmp.{IsEquivalence}
-use Rattle.std.specs.Ordering.{is_eq, is_gt}
-use Rattle.std.proofs.lemmas.Bool.{and_from, and_parts, eq-eqb, eqb-true, false≢true, lt-ltb, ltb-true, ne_eqb}
+use Rattle.std.proofs.lemmas.Bool.{eq-eqb, eqb-true, ne_eqb}
 use Rattle.std.proofs.lemmas.Bool.Decides.{nat_tests}
 use Rattle.std.proofs.lemmas.List.{get_or_default}
+use Rattle.std.proofs.lemmas.List.Elements.{All-contains}
 use Rattle.std.proofs.lemmas.Option.{get_or_from_slice_get, slice_get-get_or, slice_get_within}
+use Rattle.mp_list.proofs.FirstLemmas.{found_first, nothing_found}
+use Rattle.mp_list.proofs.Members.{no_member}
 use Rattle.mp_store.specs.declared.entry.Entry.{Entry}
 use Rattle.mp_store.specs.declared.number_store.Known.{Known}
 use Rattle.mp_store.specs.declared.rank.Rank.{Rank}
 use Rattle.mp_store.specs.Laws.{HasFallingCosts, IsLastEntry}
 use Rattle.mp_store.proofs.BestLemmas.{best_last, known_last}
 use Rattle.mp_store.specs.Minima.{Numbered, best, first_open}
-use Rattle.mp_store.specs.NumberFields.{IsIndexed, IsLastOf, entry_at, has_rank, is_open_rank, known_at, nothing}
-use Rattle.mp_store.specs.Ranks.{rank_cmp}
-use Rattle.mp_store.specs.Record.{Record, f, is_known, is_open}
-use Rattle.mp_store.proofs.RankLemmas.{IsThat, first_open_found, first_open_none, rank_of}
+use Rattle.mp_store.specs.NumberFields.{AreRanks, IsIndexed, IsLastOf, IsRankIn, entry_at, is_fresh, known_at, nothing}
+use Rattle.mp_store.specs.Ranks.{first_rank, is_sooner, rank_of}
+use Rattle.mp_store.specs.Record.{Record, is_known, is_open}
+use Rattle.mp_store.proofs.RankLemmas.{IsThat, first_open_found, first_open_none, sooner_strict}
 
 -- ---- the best entry of a key
 
@@ -55,55 +55,42 @@ known_by_last r k b falling last = known_last eqb nat_eq_equiv k r b (entry_at r
 
 -- ---- the least open entry
 
-module _ (es : List (Entry ℕ)) (ranks : BTreeSet Rank) (opens : (q : Rank) → contains rank_cmp ranks q ≡ is_open_rank es q) where
+module _ (es : List (Entry ℕ)) (ranks : List Rank) (are : AreRanks es ranks) where
   -- an open entry has its rank among them
-  open_has_rank : (x : Numbered ℕ) → IsThat (λ e. is_open e.mark) es x → contains rank_cmp ranks (rank_of x) ≡ true
+  open_has_rank : (x : Numbered ℕ) → IsThat (λ e. is_open e.mark) es x → Contains ranks (rank_of x)
   open_has_rank x that =
       let at : entry_at es x.0 ≡ x.1 = that_entry es (λ e. is_open e.mark) x that in
-      opens (rank_of x)
-      ∙ and_from (ltb x.0 (length es)) (has_rank (rank_of x) x.0 (entry_at es x.0)) (lt-ltb x.0 (length es) that.inside)
-      (ap (has_rank (rank_of x) x.0) at
-      ∙ and_from (eqb x.0 x.0) (is_open x.1.mark && (eqb (f x.1) (f x.1) && eqb x.1.h x.1.h)) (eq-eqb x.0 x.0 refl)
-      (and_from (is_open x.1.mark) (eqb (f x.1) (f x.1) && eqb x.1.h x.1.h) that.passes
-      (and_from (eqb (f x.1) (f x.1)) (eqb x.1.h x.1.h) (eq-eqb (f x.1) (f x.1) refl) (eq-eqb x.1.h x.1.h refl))))
+      subst (λ (e : Entry ℕ). Contains ranks (rank_of (x.0, e))) at
+      (are.whole x.0 that.inside (ap (λ (e : Entry ℕ). is_open e.mark) at ∙ that.passes))
 
-  pub no_open : keys ranks ≡ [] → first_open es ≡ None
-  no_open none =
-      first_open_none es (λ x that. false≢true (sym (ap (list_any (λ q. is_eq (rank_cmp (rank_of x) q))) none) ∙ open_has_rank x that))
+  pub first_in : (q : Rank) → first_rank ranks ≡ Some q → IsRankIn es q
+  first_in q is = All-contains (IsRankIn es) ranks q are.each (found_first is_sooner sooner_strict ranks q is).among
 
-  -- a rank among them is that of an open entry
-  pub record IsOpenAt (q : Rank) : Type 0 where
-    pub inside : q.number < length es
-    pub waiting : is_open (entry_at es q.number).mark ≡ true
-    pub rank : rank_of (q.number, entry_at es q.number) ≡ q
+  -- the first rank is that of the first open entry
+  first_ranked : is_fresh es (first_rank ranks) ≡ true → option_map rank_of (first_open es) ≡ first_rank ranks
+  first_ranked fresh = by (first_rank ranks) refl fresh
+    where
+      by : (o : Option Rank) → first_rank ranks ≡ o → is_fresh es o ≡ true → option_map rank_of (first_open es) ≡ o
+      by None is open_one =
+          ap (option_map rank_of)
+          (first_open_none es (λ x that. no_member (rank_of x) (subst (λ (qs : List Rank). Contains qs (rank_of x)) (nothing_found is_sooner ranks is) (open_has_rank x that))))
+      by (Some q) is open_one =
+          let at = first_in q is in
+          let first = found_first is_sooner sooner_strict ranks q is in
+          ap (option_map rank_of)
+          (first_open_found es q.number nothing at.inside open_one
+          (λ x that. ap (is_sooner (rank_of x)) at.is ∙ first.least (rank_of x) (open_has_rank x that)))
+          ∙ ap Some at.is
 
-  pub open_at : (q : Rank) → contains rank_cmp ranks q ≡ true → IsOpenAt q
-  open_at q found =
-      let e = entry_at es q.number in
-      let one = and_parts (ltb q.number (length es)) (has_rank q q.number e) (sym (opens q) ∙ found) in
-      let two = and_parts (eqb q.number q.number) (is_open e.mark && (eqb (f e) q.f && eqb e.h q.h)) one.1 in
-      let three = and_parts (is_open e.mark) (eqb (f e) q.f && eqb e.h q.h) two.1 in
-      let four = and_parts (eqb (f e) q.f) (eqb e.h q.h) three.1 in
-      let same_f = eqb-true (f e) q.f four.0 in
-      let same_h = eqb-true e.h q.h four.1 in
-      record {
-        inside = ltb-true q.number (length es) one.0;
-        waiting = three.0;
-        rank = λ j. record { f = same_f j; h = same_h j; number = q.number };
-      }
-
-  pub least_found : (q : Rank) → contains rank_cmp ranks q ≡ true → IsLowerBound rank_cmp ranks q → first_open es ≡ Some (q.number, entry_at es q.number)
-  least_found q found least =
-      let at = open_at q found in
-      first_open_found es q.number nothing at.inside at.waiting
-      (λ x that. ap (λ p. is_gt (rank_cmp p (rank_of x))) at.rank ∙ least (rank_of x) (open_has_rank x that))
-
-pub no_items : {X : Type 0} (xs : List X) → (0 < length xs → ⊥) → xs ≡ []
-no_items [] none = refl
-no_items (x ∷ xs) none = absurd (none (omega arith))
+  pub first_read : {X : Type 0} (read : Rank → X) → is_fresh es (first_rank ranks) ≡ true → option_map read (first_rank ranks) ≡ option_map (λ x. read (rank_of x)) (first_open es)
+  first_read {X} read fresh = sym (ap (option_map read) (first_ranked fresh)) ∙ by (first_open es)
+    where
+      by : (o : Option (Numbered ℕ)) → option_map read (option_map rank_of o) ≡ option_map (λ x. read (rank_of x)) o
+      by None = refl
+      by (Some x) = refl
 
 -- what the code reads of a known key tells whether an entry of it is as cheap
-pub known_by_read : (r : Record ℕ) (known : List Known) (ranks : BTreeSet Rank) (goal : Option (ℕ × ℕ)) → IsIndexed r known ranks goal
+pub known_by_read : (r : Record ℕ) (known : List Known) (ranks : List Rank) (goal : Option (ℕ × ℕ)) → IsIndexed r known ranks goal
     → (k g : ℕ) → k < length known → (m : Known) → m ≡ get_or known k m → (x : Entry ℕ) → x ≡ get_or r.entries m.best x
     → (b : Bool) → nat_le x.g g ≡ b → is_known eqb k g r.entries ≡ b
 known_by_read r known ranks goal indexed k g inside m m_is x x_is b asked =

@@ -1,27 +1,26 @@
 -- An entry is kept: what the record is then, and its indices.
-use Rattle.std.proofs.Common.{◌≡◌, ℕ, ◌+◌, ◌<◌, ◌≤◌, ◌^◌, Bool, true, false, cond, not, ◌&&◌, ◌||◌, eqb, ltb, List, [], ◌∷◌, ◌++◌, length, map, Option, Some, None, refl, sym, ap, subst, ◌∙◌, arith, inl, inr}
-use Rattle.std.specs.Prelude.{nat_le, option_map}
-use Rattle.std.specs.BTreeSet.{BTreeSet, contains}
+use Rattle.std.proofs.Common.{◌≡◌, ℕ, ◌+◌, ◌<◌, ◌≤◌, ◌^◌, Bool, true, false, cond, not, ◌&&◌, eqb, List, [], ◌∷◌, ◌++◌, length, map, Option, Some, None, refl, sym, ap, subst, ◌∙◌, arith, inl, inr}
+use Rattle.std.specs.Prelude.{IsPermutation, nat_le, option_map}
 use Rattle.std.specs.List.{list_any}
-use Rattle.std.specs.Ordering.{is_eq}
-use Rattle.std.proofs.lemmas.Bool.{and_left, and_right, cases_eq, cases_lt, cases_order, eq-eqb, le-ltb, lt-ltb, ne_eqb}
-use Rattle.std.proofs.lemmas.List.{get_or_append_left, get_or_push, length-map, length_push}
+use Rattle.std.proofs.lemmas.Bool.{cases_eq, cases_lt, false≢true}
+use Rattle.std.proofs.lemmas.List.{get_or-map, get_or_append_left, get_or_push, length-map, length_push}
 use Rattle.std.proofs.lemmas.List.Elements.{All-push}
 use Rattle.mp_list.specs.First.{leftmost}
 use Rattle.mp_list.proofs.FirstLemmas.{found_first, leftmost_append}
 use Rattle.mp_store.specs.declared.entry.Entry.{Entry}
-use Rattle.mp_store.specs.declared.entry.Mark.TheVariants.{Open}
+use Rattle.mp_store.specs.declared.entry.Mark.TheVariants.{Open, Replaced}
 use Rattle.mp_store.specs.declared.number_store.Known.{Known}
 use Rattle.mp_store.specs.declared.rank.Rank.{Rank}
 use Rattle.mp_store.specs.Laws.{IsEarlier}
 use Rattle.mp_store.specs.Minima.{Numbered, is_cheaper, least_goal, those}
-use Rattle.mp_store.specs.NumberFields.{IsIndexed, IsLastOf, better_goal, entry_at, has_rank, is_at_most, is_open_rank, known_at, nothing}
-use Rattle.mp_store.specs.Ranks.{rank_cmp}
+use Rattle.mp_store.specs.NumberFields.{AreRanks, IsIndexed, IsLastOf, better_goal, entry_at, is_at_most, is_fresh, known_at, nothing}
+use Rattle.mp_store.specs.Ranks.{first_rank, rank_of}
 use Rattle.mp_store.specs.Record.{Record, f, gives_way, is_known, is_open, kept}
 use Rattle.mp_store.specs.Sent.{was_sent}
 use Rattle.mp_store.proofs.Closing.{last_through}
 use Rattle.mp_store.proofs.Marks.{all_through, giving_way_marks, goal_of, goal_through, sent_through, shown}
-use Rattle.mp_store.proofs.RankLemmas.{cheaper_later, cheaper_strict, rank_of, rank_tie, those_have}
+use Rattle.mp_store.proofs.OpenRanks.{ranks_moved, ranks_pushed, ranks_through}
+use Rattle.mp_store.proofs.RankLemmas.{cheaper_later, cheaper_strict, those_have}
 use Rattle.mp_store.proofs.Mapped.{sent-append, those-push}
 use Rattle.mp_store.proofs.Sound.{kept_sound}
 
@@ -59,35 +58,6 @@ module _ (es : List (Entry ℕ)) (e : Entry ℕ) where
         last = λ m behind inside same. absurd (omega arith);
       }
 
-  -- the open entries are the new one and the open ones of before
-  pub opens_pushed : e.mark ≡ Open → (q : Rank) → is_open_rank (es ++ e ∷ []) q ≡ (is_eq (rank_cmp (rank_of (length es, e)) q) || is_open_rank es q)
-  opens_pushed waiting q =
-      let len : length (es ++ e ∷ []) ≡ length es + 1 = length_push es e in
-      let tie = rank_tie (rank_of (length es, e)) q in
-      let apart : (length es ≡ q.number → ⊥) → is_eq (rank_cmp (rank_of (length es, e)) q) ≡ false =
-      λ other. tie ∙ and_right (eqb (f e) q.f) (eqb e.h q.h && eqb (length es) q.number) (and_right (eqb e.h q.h) (eqb (length es) q.number) (ne_eqb (length es) q.number other)) in
-      elim (cases_order q.number (length es)) [
-        | inl same ↦
-            (λ j. lt-ltb q.number (length (es ++ e ∷ [])) (omega arith) j && has_rank q q.number (new_last q.number same j))
-            ∙ (λ j. eq-eqb q.number q.number refl j && (is_open (waiting j) && (eqb (f e) q.f && eqb e.h q.h)))
-            ∙ whole (eqb (f e) q.f) (eqb e.h q.h) (has_rank q q.number (entry_at es q.number))
-            ∙ sym (λ j. (eqb (f e) q.f && (eqb e.h q.h && eq-eqb (length es) q.number (sym same) j)) || (le-ltb q.number (length es) (omega arith) j && has_rank q q.number (entry_at es q.number)))
-            ∙ ap (λ b. b || is_open_rank es q) (sym tie)
-        | inr (inl before) ↦
-            (λ j. lt-ltb q.number (length (es ++ e ∷ [])) (omega arith) j && has_rank q q.number (old_entry q.number before j))
-            ∙ ap (λ b. b && has_rank q q.number (entry_at es q.number)) (sym (lt-ltb q.number (length es) before))
-            ∙ ap (λ b. b || is_open_rank es q) (sym (apart (λ is. omega arith)))
-        | inr (inr behind) ↦
-            and_left (ltb q.number (length (es ++ e ∷ []))) (has_rank q q.number (entry_at (es ++ e ∷ []) q.number)) (le-ltb q.number (length (es ++ e ∷ [])) (omega arith))
-            ∙ sym (and_left (ltb q.number (length es)) (has_rank q q.number (entry_at es q.number)) (le-ltb q.number (length es) (omega arith)))
-            ∙ ap (λ b. b || is_open_rank es q) (sym (apart (λ is. omega arith)))
-      ]
-    where
-      whole : (a b c : Bool) → (a && b) ≡ ((a && (b && true)) || (false && c))
-      whole true true c = refl
-      whole true false c = refl
-      whole false b c = refl
-
   -- the least goal is the one of before, unless the new one is cheaper
   goal_pushed : (ns : List ℕ) → better_goal (least_goal (record { entries = es; sent = ns })) e.goal e.g (length es) ≡ least_goal (record { entries = es ++ e ∷ []; sent = ns })
   goal_pushed ns =
@@ -109,7 +79,7 @@ module _ (es : List (Entry ℕ)) (e : Entry ℕ) where
 
 -- ---- the record with the entry
 
-module _ (r : Record ℕ) (known : List Known) (ranks : BTreeSet Rank) (goal : Option (ℕ × ℕ)) (indexed : IsIndexed r known ranks goal)
+module _ (r : Record ℕ) (known : List Known) (ranks : List Rank) (goal : Option (ℕ × ℕ)) (indexed : IsIndexed r known ranks goal)
     (e : Entry ℕ) (fresh : is_known eqb e.key e.g r.entries ≡ false) (waiting : e.mark ≡ Open) (bounded : f e < 2 ^ 60) (earlier : IsEarlier (length r.entries) e.origin) where
   abbrev waiting_entries : List (Entry ℕ)
   waiting_entries = map (gives_way eqb e.key) r.entries
@@ -117,14 +87,32 @@ module _ (r : Record ℕ) (known : List Known) (ranks : BTreeSet Rank) (goal : O
   same_len : length waiting_entries ≡ length r.entries
   same_len = length-map r.entries (gives_way eqb e.key)
 
+  -- ranks to which its own came are the right ones
+  pub kept_ranks : (new : List Rank) → IsPermutation (rank_of (length r.entries, e) ∷ ranks) new → AreRanks (map (gives_way eqb e.key) r.entries ++ e ∷ []) new
+  kept_ranks new moved =
+      ranks_moved (waiting_entries ++ e ∷ []) (rank_of (length r.entries, e) ∷ ranks) new moved
+      (subst (λ n. AreRanks (waiting_entries ++ e ∷ []) (rank_of (n, e) ∷ ranks)) same_len
+      (ranks_pushed waiting_entries ranks (ranks_through r.entries waiting_entries ranks (giving_way_marks eqb e.key r.entries) opened indexed.ranked) e))
+    where
+      if_open : (x : Entry ℕ) (b : Bool) → is_open (cond b (record x { mark = Replaced }) x).mark ≡ true → is_open x.mark ≡ true
+      if_open x true h = absurd (false≢true h)
+      if_open x false h = h
+
+      opened : (n : ℕ) → n < length r.entries → is_open (entry_at (map (gives_way eqb e.key) r.entries) n).mark ≡ true → is_open (entry_at r.entries n).mark ≡ true
+      opened n inside h =
+          let x = entry_at r.entries n in
+          if_open x (eqb x.key e.key && is_open x.mark)
+          (ap (λ (y : Entry ℕ). is_open y.mark) (sym (get_or-map (gives_way eqb e.key) r.entries n nothing nothing inside)) ∙ h)
+
   -- the indices of the record, where those of keys and ranks took the entry up
-  pub kept_indexed : (known' : List Known) (rest : BTreeSet Rank) → length known ≤ length known' → e.key < length known'
+  pub kept_indexed : (known' : List Known) (rest : List Rank) → length known ≤ length known' → e.key < length known'
       → (known_at known' e.key).best ≡ length r.entries
       → ((k : ℕ) → k < length known' → (k ≡ e.key → ⊥) → (k < length known) × ((known_at known' k).best ≡ (known_at known k).best))
       → ((k g : ℕ) → k < length known' → was_sent eqb k g r ≡ is_at_most (known_at known' k).sent g)
-      → ((q : Rank) → contains rank_cmp rest q ≡ (is_eq (rank_cmp (rank_of (length r.entries, e)) q) || is_open_rank (map (gives_way eqb e.key) r.entries) q))
+      → AreRanks (map (gives_way eqb e.key) r.entries ++ e ∷ []) rest
+      → is_fresh (map (gives_way eqb e.key) r.entries ++ e ∷ []) (first_rank rest) ≡ true
       → IsIndexed (kept eqb e r) known' rest (better_goal goal e.goal e.g (length r.entries))
-  kept_indexed known' rest more key best_new best_old sents opens =
+  kept_indexed known' rest more key best_new best_old sents ranked fresh_first =
       let alike = giving_way_marks eqb e.key r.entries in
       record {
         sound = kept_sound eqb e r indexed.sound fresh waiting bounded earlier;
@@ -146,7 +134,8 @@ module _ (r : Record ℕ) (known : List Known) (ranks : BTreeSet Rank) (goal : O
             ap (list_any (λ x. eqb x.key k && nat_le x.g g)) (sent-append waiting_entries (e ∷ []) r.sent (λ i d inside. let old = indexed.sound.sent i d inside in omega (arith, same_len)))
             ∙ sym (sent_through eqb k g r.entries waiting_entries r.sent alike)
             ∙ sents k g h;
-        opens = λ q. opens q ∙ sym (opens_pushed waiting_entries e waiting q ∙ ap (λ n. is_eq (rank_cmp (rank_of (n, e)) q) || is_open_rank waiting_entries q) same_len);
+        ranked = ranked;
+        fresh = fresh_first;
         least =
             (λ j. better_goal (indexed.least j) e.goal e.g (length r.entries))
             ∙ (λ j. better_goal (goal_through r.entries waiting_entries r.sent alike j) e.goal e.g (sym same_len j))

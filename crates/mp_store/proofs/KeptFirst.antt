@@ -1,8 +1,6 @@
 -- The first entry of a new key is kept.
-use Rattle.std.proofs.Common.{◌≡◌, ℕ, ◌+◌, ◌<◌, ◌^◌, Bool, true, false, cond, ◌&&◌, ◌||◌, eqb, List, [], ◌∷◌, ◌++◌, length, map, get_or, Option, None, refl, sym, ap, subst, ◌∙◌, arith, inl, inr}
-use Rattle.std.specs.Prelude.{nat_le}
-use Rattle.std.specs.BTreeMap.{is_at}
-use Rattle.std.specs.BTreeSet.{BTreeSet, contains}
+use Rattle.std.proofs.Common.{◌≡◌, ℕ, ◌+◌, ◌<◌, ◌^◌, true, false, cond, ◌&&◌, eqb, List, [], ◌∷◌, ◌++◌, length, map, get_or, Option, None, sym, ap, subst, ◌∙◌, arith, inl, inr}
+use Rattle.std.specs.Prelude.{IsPermutation, nat_le}
 use Rattle.std.proofs.lemmas.Bool.{and_left, cases_lt, ne_eqb}
 use Rattle.std.proofs.lemmas.List.{get_or_append_left, get_or_push, length_push, map-id}
 use Rattle.std.proofs.lemmas.List.Folds.{list_any_none}
@@ -12,24 +10,20 @@ use Rattle.mp_store.specs.declared.entry.Offer.TheVariants.{Kept, Worse}
 use Rattle.mp_store.specs.declared.number_store.Known.{Known}
 use Rattle.mp_store.specs.declared.rank.Rank.{Rank}
 use Rattle.mp_store.specs.Laws.{IsEarlier}
-use Rattle.mp_store.specs.NumberFields.{IsIndexed, better_goal, is_at_most, is_open_rank, known_at}
-use Rattle.mp_store.specs.Ranks.{rank_cmp}
+use Rattle.mp_store.specs.NumberFields.{IsIndexed, better_goal, is_at_most, is_fresh, known_at}
+use Rattle.mp_store.specs.Ranks.{first_rank, rank_of}
 use Rattle.mp_store.specs.Record.{Record, f, gives_way, is_known, is_open, kept, offered}
 use Rattle.mp_store.specs.Sent.{sent_entries, was_sent}
-use Rattle.mp_store.proofs.Keeping.{kept_indexed}
+use Rattle.mp_store.proofs.Keeping.{kept_indexed, kept_ranks}
 use Rattle.mp_store.proofs.Mapped.{map-agree}
 use Rattle.mp_store.proofs.Naming.{all_sent}
-use Rattle.mp_store.proofs.RankLemmas.{rank_of}
+use Rattle.mp_store.proofs.OpenRanks.{fresh_pushed}
 
 -- what is known of the keys, and of a new one whose first entry has a number
 abbrev pub with_key : List Known → ℕ → List Known
 with_key known n = known ++ record { best = n; sent = None } ∷ []
 
-pub either : (b c : Bool) → cond b true c ≡ (b || c)
-either true c = refl
-either false c = refl
-
-module _ (r : Record ℕ) (known : List Known) (ranks : BTreeSet Rank) (goal : Option (ℕ × ℕ)) (indexed : IsIndexed r known ranks goal)
+module _ (r : Record ℕ) (known : List Known) (ranks : List Rank) (goal : Option (ℕ × ℕ)) (indexed : IsIndexed r known ranks goal)
     (e : Entry ℕ) (new : e.key ≡ length known) (waiting : e.mark ≡ Open) (bounded : f e < 2 ^ 60) (earlier : IsEarlier (length r.entries) e.origin) where
   abbrev unlike : Entry ℕ → Type 0
   unlike x = x.key < length known
@@ -64,9 +58,9 @@ module _ (r : Record ℕ) (known : List Known) (ranks : BTreeSet Rank) (goal : O
       let inside : x.key < length known = all_sent unlike r.entries indexed.keyed r.sent i d h in
       and_left (eqb x.key k) (nat_le x.g g) (ne_eqb x.key k (λ same. omega arith)))
 
-  pub first_indexed : (rest : BTreeSet Rank) → ((q : Rank) → contains rank_cmp rest q ≡ cond (is_at (rank_cmp (rank_of (length r.entries, e))) q) true (contains rank_cmp ranks q))
+  pub first_indexed : (rest : List Rank) → IsPermutation (rank_of (length r.entries, e) ∷ ranks) rest
       → IsIndexed (record { entries = r.entries ++ e ∷ []; sent = r.sent }) (with_key known (length r.entries)) rest (better_goal goal e.goal e.g (length r.entries))
-  first_indexed rest updates =
+  first_indexed rest moved =
       let this : Known = record { best = length r.entries; sent = None } in
       let past : Known = record { best = 0; sent = None } in
       let len : length (with_key known (length r.entries)) ≡ length known + 1 = length_push known this in
@@ -82,10 +76,9 @@ module _ (r : Record ℕ) (known : List Known) (ranks : BTreeSet Rank) (goal : O
         | inl inside ↦ indexed.sents k g inside ∙ ap (λ (x : Known). is_at_most x.sent g) (sym (old k inside))
         | inr behind ↦ let is : k ≡ length known = omega arith in none_sent k g is ∙ ap (λ (x : Known). is_at_most x.sent g) (sym (last k is))
       ])
-      (λ q.
-      updates q
-      ∙ either (is_at (rank_cmp (rank_of (length r.entries, e))) q) (contains rank_cmp ranks q)
-      ∙ ap (λ b. is_at (rank_cmp (rank_of (length r.entries, e))) q || b) (indexed.opens q ∙ ap (λ xs. is_open_rank xs q) (sym none_gives_way))))
+      (kept_ranks r known ranks goal indexed e none_known waiting bounded earlier rest moved)
+      (subst (λ xs. is_fresh (xs ++ e ∷ []) (first_rank rest) ≡ true) (sym none_gives_way)
+      (fresh_pushed r.entries ranks indexed.ranked e rest moved (ap is_open waiting) indexed.fresh)))
     where
       below : (k n : ℕ) → k < n + 1 → (k ≡ n → ⊥) → k < n
       below k n h other = omega arith

@@ -12,6 +12,8 @@ pub mod Growing
 pub mod RankLemmas
 -- the best entry of a key
 pub mod BestLemmas
+-- the ranks of open entries
+pub mod OpenRanks
 -- what the indices say
 pub mod Indexed
 -- the least open entry is closed

@@ -1,30 +1,26 @@
 -- The order of open entries, and the first one of them.
-use Rattle.std.proofs.Common.{◌≡◌, ℕ, ◌+◌, ◌<◌, Bool, true, false, cond, not, ◌&&◌, eqb, filter, List, [], ◌∷◌, length, get_or, Option, Some, None, Ordering, Less, Equal, Greater, refl, sym, ap, subst, ◌∙◌, arith, inl, inr}
+use Rattle.std.proofs.Common.{◌≡◌, ℕ, ◌+◌, ◌<◌, Bool, true, false, cond, not, ◌&&◌, eqb, filter, List, [], ◌∷◌, length, map, get_or, Option, Some, None, All, Ordering, Less, Equal, Greater, refl, sym, ap, subst, ◌∙◌, arith, inl, inr}
 use Rattle.std.specs.Prelude.{◌⊎◌, Contains, nat_le}
+use Rattle.std.specs.BinaryHeap.{IsUpperBound}
 use Rattle.std.specs.List.{enumerate_from}
-use Rattle.std.specs.Ordering.{is_eq, is_gt, is_lt, nat_cmp, ordering_then, ordering_reverse}
+use Rattle.std.specs.Ordering.{is_eq, is_lt, nat_cmp, ordering_then}
 use Rattle.std.specs.Cmp.{IsTotalOrder, nat_cmp_total, on_total, then_total, unsigned_tied}
 use Rattle.std.proofs.lemmas.Bool.{and_parts, eqb-true, false≢true, lt-ltb}
 use Rattle.std.proofs.lemmas.Bool.Decides.{nat_tests}
-use Rattle.std.proofs.lemmas.List.{get_or_default}
-use Rattle.std.proofs.lemmas.List.Elements.{All-contains, All-contains_itself, All-filter, filter_passes}
+use Rattle.std.specs.declared.cmp.Reverse.{Reverse}
+use Rattle.std.proofs.lemmas.List.{get_or-map, get_or_default, length-map}
+use Rattle.std.proofs.lemmas.List.Elements.{All-cons, All-contains, All-contains_itself, All-filter, All-nil, filter_passes}
 use Rattle.std.proofs.lemmas.List.FromFn.{get_or-enumerate_from, length-enumerate_from}
-use Rattle.mp_list.specs.First.{IsFirst, IsStrictOrder, leftmost}
+use Rattle.mp_list.specs.First.{IsFirst, IsStrictOrder, IsTotal, leftmost}
 use Rattle.mp_list.proofs.FirstLemmas.{found_first, none_first, nothing_found}
 use Rattle.mp_list.proofs.Members.{contains_cases, contains_head, contains_tail, no_member}
-use Rattle.mp_list.proofs.Orders.{strict_from_total}
+use Rattle.mp_list.proofs.Orders.{strict_from_total, total_from_exact}
 use Rattle.mp_store.specs.declared.entry.Entry.{Entry}
 use Rattle.mp_store.specs.declared.rank.Rank.{Rank}
 use Rattle.mp_store.specs.Minima.{Numbered, cheaper_cmp, first_open, is_cheaper, is_nearer, nearer_cmp, those}
-use Rattle.mp_store.specs.Ranks.{rank_cmp}
+use Rattle.mp_store.specs.OpenFields.{from_first}
+use Rattle.mp_store.specs.Ranks.{first_rank, is_sooner, rank_cmp, rank_of}
 use Rattle.mp_store.specs.Record.{f, is_open}
-
--- the rank of an entry
-abbrev pub rank_of : {K : Type 0} → Numbered K → Rank
-rank_of x = record { f = f x.1; h = x.1.h; number = x.0 }
-
-nearer_by_rank : {K : Type 0} (x y : Numbered K) → nearer_cmp x y ≡ rank_cmp (rank_of x) (rank_of y)
-nearer_by_rank x y = refl
 
 pub rank_total : IsTotalOrder rank_cmp
 rank_total = then_total (on_total (λ q. q.f) nat_cmp_total) (then_total (on_total (λ q. q.h) nat_cmp_total) (on_total (λ q. q.number) nat_cmp_total))
@@ -35,10 +31,26 @@ both_tie Equal q = refl
 both_tie Greater q = refl
 
 -- ranks tie where their parts are the same
-pub rank_tie : (p q : Rank) → is_eq (rank_cmp p q) ≡ (eqb p.f q.f && (eqb p.h q.h && eqb p.number q.number))
+rank_tie : (p q : Rank) → is_eq (rank_cmp p q) ≡ (eqb p.f q.f && (eqb p.h q.h && eqb p.number q.number))
 rank_tie p q =
     both_tie (nat_cmp p.f q.f) (ordering_then (nat_cmp p.h q.h) (nat_cmp p.number q.number))
     ∙ (λ j. unsigned_tied p.f q.f j && (both_tie (nat_cmp p.h q.h) (nat_cmp p.number q.number) ∙ (λ t. unsigned_tied p.h q.h t && unsigned_tied p.number q.number t)) j)
+
+same_rank : (p q : Rank) → rank_cmp p q ≡ Equal → p ≡ q
+same_rank p q e =
+    let parts = and_parts (eqb p.f q.f) (eqb p.h q.h && eqb p.number q.number) (sym (rank_tie p q) ∙ ap is_eq e) in
+    let others = and_parts (eqb p.h q.h) (eqb p.number q.number) parts.1 in
+    let same_f = eqb-true p.f q.f parts.0 in
+    let same_h = eqb-true p.h q.h others.0 in
+    let same_number = eqb-true p.number q.number others.1 in
+    (λ j. record { f = same_f j; h = same_h j; number = same_number j })
+
+pub sooner_strict : IsStrictOrder is_sooner
+sooner_strict = strict_from_total rank_cmp rank_total
+
+-- ranks of which none comes before the other are the same
+sooner_total : IsTotal is_sooner
+sooner_total = total_from_exact rank_cmp rank_total same_rank
 
 -- ---- entries with their numbers
 
@@ -113,42 +125,44 @@ none_found before items none = ap (leftmost before None) (none_of items none)
 nearer_strict : {K : Type 0} → IsStrictOrder (is_nearer {K = K})
 nearer_strict = strict_from_total nearer_cmp (then_total (on_total (λ x. f x.1) nat_cmp_total) (then_total (on_total (λ x. x.1.h) nat_cmp_total) (on_total (λ x. x.0) nat_cmp_total)))
 
-not_after : (p q : Rank) → is_gt (rank_cmp p q) ≡ false → is_lt (rank_cmp q p) ≡ false
-not_after p q h = ap is_lt (rank_total.antisymm q p) ∙ by (rank_cmp p q) h
-  where
-    by : (o : Ordering) → is_gt o ≡ false → is_lt (ordering_reverse o) ≡ false
-    by Less e = refl
-    by Equal e = refl
-    by Greater e = absurd (false≢true (sym e))
-
-level_rank : (p q : Rank) → is_lt (rank_cmp p q) ≡ false → is_lt (rank_cmp q p) ≡ false → p.number ≡ q.number
-level_rank p q h k =
-    let tie : is_eq (rank_cmp p q) ≡ true = by (rank_cmp p q) h (ap is_lt (sym (rank_total.antisymm q p)) ∙ k) in
-    let parts = and_parts (eqb p.f q.f) (eqb p.h q.h && eqb p.number q.number) (sym (rank_tie p q) ∙ tie) in
-    eqb-true p.number q.number (and_parts (eqb p.h q.h) (eqb p.number q.number) parts.1).1
-  where
-    by : (o : Ordering) → is_lt o ≡ false → is_lt (ordering_reverse o) ≡ false → is_eq o ≡ true
-    by Less e g = absurd (false≢true (sym e))
-    by Equal e g = refl
-    by Greater e g = absurd (false≢true (sym g))
-
 pub first_open_found : {K : Type 0} (es : List (Entry K)) (n : ℕ) (d : Entry K) → n < length es → is_open (get_or es n d).mark ≡ true
-    → ((x : Numbered K) → IsThat (λ e. is_open e.mark) es x → is_gt (rank_cmp (rank_of (n, get_or es n d)) (rank_of x)) ≡ false)
+    → ((x : Numbered K) → IsThat (λ e. is_open e.mark) es x → is_sooner (rank_of x) (rank_of (n, get_or es n d)) ≡ false)
     → first_open es ≡ Some (n, get_or es n d)
 first_open_found {K} es n d inside waiting least =
     let e = get_or es n d in
     first_of is_nearer nearer_strict (those (λ e. is_open e.mark) es) (n, e)
     (record {
       among = those_hold (λ e. is_open e.mark) es n d inside waiting;
-      least = λ x found. not_after (rank_of (n, e)) (rank_of x) (least x (those_have (λ e. is_open e.mark) es x found));
+      least = λ x found. least x (those_have (λ e. is_open e.mark) es x found);
     })
     (λ x found h k.
     let that = those_have (λ e. is_open e.mark) es x found in
-    let number : x.0 ≡ n = level_rank (rank_of x) (rank_of (n, e)) h k in
+    let number : x.0 ≡ n = ap (λ (q : Rank). q.number) (sooner_total (rank_of x) (rank_of (n, e)) h k) in
     (λ j. (number j, (sym that.is ∙ get_or_default es x.0 x.1 d that.inside ∙ ap (λ k. get_or es k d) number) j)))
 
 pub first_open_none : {K : Type 0} (es : List (Entry K)) → ((x : Numbered K) → IsThat (λ e. is_open e.mark) es x → ⊥) → first_open es ≡ None
 first_open_none es none = none_found is_nearer (those (λ e. is_open e.mark) es) (λ x found. none x (those_have (λ e. is_open e.mark) es x found))
+
+-- ---- the first rank
+
+pub first_rank_is : (ranks : List Rank) (q : Rank) → IsFirst is_sooner ranks q → first_rank ranks ≡ Some q
+first_rank_is ranks q is = first_of is_sooner sooner_strict ranks q is (λ p found h k. sooner_total p q h k)
+
+contains_map : {X Y : Type 0} (g : X → Y) (xs : List X) (x : X) → Contains xs x → Contains (map g xs) (g x)
+contains_map g xs x (k, lt, is) = (k, (let len = length-map xs g in omega (arith, lt)), get_or-map g xs k x (g x) lt ∙ ap g is)
+
+none_sooner : (x : Reverse Rank) (xs : List (Reverse Rank)) → IsUpperBound from_first x xs → All (λ (q : Rank). is_sooner q x.0 ≡ false) (map (λ (y : Reverse Rank). y.0) xs)
+none_sooner x [] h = All-nil (λ (q : Rank). is_sooner q x.0 ≡ false)
+none_sooner x (y ∷ ys) h = All-cons (λ (q : Rank). is_sooner q x.0 ≡ false) y.0 (map (λ (z : Reverse Rank). z.0) ys) h.0 (none_sooner x ys h.1)
+
+-- what is on top of a heap
+pub top_is_first : (x : Reverse Rank) (xs : List (Reverse Rank)) → Contains xs x → IsUpperBound from_first x xs → first_rank (map (λ (y : Reverse Rank). y.0) xs) ≡ Some x.0
+top_is_first x xs among above =
+    let ranks = map (λ (y : Reverse Rank). y.0) xs in
+    first_rank_is ranks x.0 (record {
+      among = contains_map (λ (y : Reverse Rank). y.0) xs x among;
+      least = λ q found. All-contains (λ (p : Rank). is_sooner p x.0 ≡ false) ranks q (none_sooner x xs above) found;
+    })
 
 -- ---- the cheapest entry
 

@@ -1,7 +1,6 @@
 -- The state of an entry is sent: what the record is then, and its indices.
 use Rattle.std.proofs.Common.{◌≡◌, ℕ, ◌<◌, Bool, true, false, cond, ◌&&◌, ◌||◌, eqb, List, [], ◌∷◌, ◌++◌, length, get_or, Option, Some, None, refl, sym, ap, subst, ◌∙◌, arith, inl, inr}
 use Rattle.std.specs.Prelude.{filter_map, nat_le, slice_get, slice_set}
-use Rattle.std.specs.BTreeSet.{BTreeSet}
 use Rattle.std.specs.List.{cons_option, list_any}
 use Rattle.std.specs.Option.{option_map_or}
 use Rattle.std.proofs.lemmas.Bool.{cases_eq, eq-eqb, ne_eqb}
@@ -22,7 +21,7 @@ use Rattle.mp_store.proofs.Sound.{sent_sound}
 abbrev pub sent_at : List Known → ℕ → ℕ → List Known
 sent_at known k g = slice_set known k (record (known_at known k) { sent = Some g })
 
-module _ (r : Record ℕ) (known : List Known) (ranks : BTreeSet Rank) (goal : Option (ℕ × ℕ)) (indexed : IsIndexed r known ranks goal)
+module _ (r : Record ℕ) (known : List Known) (ranks : List Rank) (goal : Option (ℕ × ℕ)) (indexed : IsIndexed r known ranks goal)
     (n : ℕ) (inside : n < length r.entries) where
   abbrev this : Entry ℕ
   this = entry_at r.entries n
@@ -107,7 +106,8 @@ module _ (r : Record ℕ) (known : List Known) (ranks : BTreeSet Rank) (goal : O
         keyed = λ i d h. subst (λ m. (get_or r.entries i d).key < m) (sym len) (indexed.keyed i d h);
         bests = λ k h. subst (IsLastOf r.entries k) (sym (best_stays k)) (indexed.bests k (omega arith));
         sents = λ k g h. sents_now new k g (omega arith);
-        opens = indexed.opens;
+        ranked = indexed.ranked;
+        fresh = indexed.fresh;
         least = indexed.least;
       }
 

@@ -16,6 +16,8 @@ pub mod Numbered
 pub mod NumberFields
 -- the order of open entries
 pub mod Ranks
+-- a heap of ranks as the list of them
+pub mod OpenFields
 -- keys in the place of numbers
 pub mod Named
 -- keys as rows of words

@@ -1,6 +1,5 @@
 -- The plain record that the fields of a store over numbers stand for, and what its indices say.
-use Rattle.std.specs.Prelude.{◌≡◌, ℕ, ◌<◌, Bool, false, ◌==◌, ◌&&◌, nat_le, nat_lt, List, length, slice_index_or, slice_set, All, Option, Some, None, if◌then◌else◌}
-use Rattle.std.specs.BTreeSet.{BTreeSet, contains}
+use Rattle.std.specs.Prelude.{◌≡◌, ℕ, ◌<◌, Bool, true, false, ◌==◌, nat_le, List, length, slice_index_or, All, Contains, Option, Some, None, if◌then◌else◌}
 use Rattle.mp_store.specs.declared.entry.Entry.{Entry}
 use Rattle.mp_store.specs.declared.entry.Mark.TheVariants.{Replaced}
 use Rattle.mp_store.specs.declared.entry.Origin.TheVariants.{Root}
@@ -10,8 +9,8 @@ use Rattle.mp_store.specs.declared.rank.Rank.{Rank}
 use Rattle.mp_store.specs.Laws.{IsSound}
 use Rattle.mp_store.specs.Minima.{least_goal}
 use Rattle.mp_store.specs.Numbered.{NumberedRecord}
-use Rattle.mp_store.specs.Ranks.{rank_cmp}
-use Rattle.mp_store.specs.Record.{Record, is_open, f, new_entry}
+use Rattle.mp_store.specs.Ranks.{first_rank, rank_of}
+use Rattle.mp_store.specs.Record.{Record, is_open, new_entry}
 use Rattle.mp_store.specs.Sent.{was_sent}
 
 -- what stands past the end of a list of entries
@@ -25,21 +24,25 @@ entry_at entries n = slice_index_or entries n nothing
 abbrev pub known_at : List Known → ℕ → Known
 known_at keys k = slice_index_or keys k (record { best = 0; sent = None })
 
--- whether an entry of a number is open and has a rank
-abbrev pub has_rank : Rank → ℕ → Entry ℕ → Bool
-has_rank q number e = (q.number == number) && (is_open e.mark && ((f e == q.f) && (e.h == q.h)))
+-- the rank of an entry, open or not
+pub record IsRankIn (entries : List (Entry ℕ)) (q : Rank) : Type 0 where
+  pub inside : q.number < length entries
+  pub is : rank_of (q.number, entry_at entries q.number) ≡ q
 
--- whether an open entry has a rank
-abbrev pub is_open_rank : List (Entry ℕ) → Rank → Bool
-is_open_rank entries q =
-    nat_lt q.number (length entries) && has_rank q q.number (entry_at entries q.number)
+-- ranks of entries, among which is that of each open one
+pub record AreRanks (entries : List (Entry ℕ)) (ranks : List Rank) : Type 0 where
+  pub each : All (IsRankIn entries) ranks
+  pub whole : (n : ℕ) → n < length entries → is_open (entry_at entries n).mark ≡ true
+      → Contains ranks (rank_of (n, entry_at entries n))
 
--- the entries when that of a number gives way to a cheaper one
-abbrev pub replaced_at : ℕ → List (Entry ℕ) → List (Entry ℕ)
-replaced_at n entries =
-    if is_open (entry_at entries n).mark
-    then slice_set entries n (record (entry_at entries n) { mark = Replaced })
-    else entries
+-- whether a rank, if there is one, is that of an open entry
+abbrev pub is_fresh : List (Entry ℕ) → Option Rank → Bool
+is_fresh entries None = true
+is_fresh entries (Some q) = is_open (entry_at entries q.number).mark
+
+-- an entry when a cheaper one of its key comes
+abbrev pub given_way : Entry ℕ → Entry ℕ
+given_way e = if is_open e.mark then record e { mark = Replaced } else e
 
 -- the last entry of a key
 pub record IsLastOf (entries : List (Entry ℕ)) (key n : ℕ) : Type 0 where
@@ -67,15 +70,17 @@ record_of t = record { entries = t.entries.items; sent = t.sent.items }
 abbrev pub numbered_record : Inside → NumberedRecord
 numbered_record t = record { kept = record_of t; keys = length t.keys.items }
 
--- the indices of a record: what is known of each key, the ranks of the open entries, the least goal
-pub record IsIndexed (r : Record ℕ) (keys : List Known) (ranks : BTreeSet Rank)
+-- the indices of a record: what is known of each key, the ranks of the open entries, of which one is
+-- the first rank, the least goal
+pub record IsIndexed (r : Record ℕ) (keys : List Known) (ranks : List Rank)
     (goal : Option (ℕ × ℕ)) : Type 0 where
   pub sound : IsSound ◌==◌ r
   pub keyed : All (λ e. e.key < length keys) r.entries
   pub bests : (k : ℕ) → k < length keys → IsLastOf r.entries k (known_at keys k).best
   pub sents : (k g : ℕ) → k < length keys
       → was_sent ◌==◌ k g r ≡ is_at_most (known_at keys k).sent g
-  pub opens : (q : Rank) → contains rank_cmp ranks q ≡ is_open_rank r.entries q
+  pub ranked : AreRanks r.entries ranks
+  pub fresh : is_fresh r.entries (first_rank ranks) ≡ true
   pub least : goal ≡ least_goal r
 
 abbrev pub IsNumberStore : Inside → Type 0

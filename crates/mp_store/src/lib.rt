@@ -6,6 +6,7 @@ mod key;
 mod keys;
 mod laws;
 mod number_store;
+mod open_list;
 mod rank;
 mod store;
 

@@ -1,21 +1,20 @@
 //! A store whose keys are numbers.
 
-ghost use Rattle.std.specs.Prelude.{All, nat_le, ◌≡◌, ◌==◌, ◌&&◌, ◌+◌, ◌<◌, ◌^◌, not, false, Some, IfOk, OnOk, OnErr, length, slice_get};
-ghost use Rattle.std.specs.BTreeSet.{contains};
+ghost use Rattle.std.specs.Prelude.{All, nat_le, ◌≡◌, ◌==◌, ◌+◌, ◌<◌, ◌^◌, true, false, Some, IfOk, OnOk, OnErr, length, slice_get};
 ghost use Rattle.mp_store.specs.declared.entry.Offer.TheVariants.{Kept};
 ghost use Rattle.mp_store.specs.declared.rank.Rank.{Rank};
 ghost use Rattle.mp_store.specs.Laws.{IsEarlier, IsSound};
 ghost use Rattle.mp_store.specs.Minima.{least_f, least_goal, popped, best};
-ghost use Rattle.mp_store.specs.NumberFields.{entry_at, replaced_at, has_rank, is_at_most, better_goal};
-ghost use Rattle.mp_store.specs.Ranks.{rank_cmp};
-ghost use Rattle.mp_store.specs.Record.{empty, new_entry, f, is_known, kept, offered};
+ghost use Rattle.mp_store.specs.NumberFields.{AreRanks, is_fresh, given_way, is_at_most, better_goal};
+ghost use Rattle.mp_store.specs.Ranks.{first_rank};
+ghost use Rattle.mp_store.specs.Record.{empty, new_entry, is_open, is_known, kept, offered};
 ghost use Rattle.mp_store.specs.Sent.{mark_sent, sent_entry};
 
 use crate::entry::{Entry, Mark, Offer, Origin};
+use crate::open_list::OpenList;
 use crate::rank::Rank;
 use mp_list::OutOfMemory;
 use std::alloc::Global;
-use std::collections::BTreeSet;
 use std::marker::Model;
 
 /// What is known of a key.
@@ -35,8 +34,8 @@ pub(crate) struct NumberStore {
     entries: Vec<Entry<u64>>,
     /// What is known of each key.
     keys: Vec<Known>,
-    /// The open entries.
-    open: BTreeSet<Rank>,
+    /// The ranks of the open entries. Those of others stay in it until they come first.
+    open: OpenList,
     /// The entries whose states were sent, by their sent numbers.
     sent: Vec<u64>,
     /// The least cost of a goal entry, and the lowest number of such an entry.
@@ -63,7 +62,7 @@ impl NumberStore {
         NumberStore {
             entries: Vec::new(alloc),
             keys: Vec::new(alloc),
-            open: BTreeSet::new(alloc),
+            open: OpenList::new(alloc),
             sent: Vec::new(alloc),
             goal: None,
         }
@@ -124,9 +123,10 @@ impl NumberStore {
         ensures keys { self.new.keys ≡ self.old.keys }
         ensures keyed { All (λ e. e.key < self.new.keys) self.new.kept.entries }
     {
-        match self.open.pop_first() {
+        match self.open.first() {
             Some(rank) => {
                 self.entries[rank.number as usize].mark = Mark::Expanded;
+                drop_stale(&self.entries, &mut self.open);
                 Some(rank.number)
             }
             None => None,
@@ -212,7 +212,8 @@ impl NumberStore {
             })
             .unwrap();
         let best = self.keys[key as usize].best;
-        give_way(&mut self.entries, &mut self.open, best);
+        give_way(&mut self.entries[best as usize]);
+        drop_stale(&self.entries, &mut self.open);
         self.keys[key as usize].best = number;
         self.goal = better_goal(self.goal, goal, g, number);
         Ok(Offer::Kept(number))
@@ -303,17 +304,39 @@ fn better_goal(goal: Option<(u64, u64)>, is_goal: bool, g: u64, number: u64) -> 
 }
 
 /// Makes an entry give way to a cheaper one of its key: if it is open, it is so no longer.
-fn give_way(entries: &mut Vec<Entry<u64>>, ranks: &mut BTreeSet<Rank>, number: u64)
-    requires inside { number < length entries.old.items }
-    requires bounded { f (entry_at entries.old.items number) < 2 ^ 60 }
-    ensures entries { entries.new.items ≡ replaced_at number entries.old.items }
-    ensures ranks { (q : Rank) → contains rank_cmp ranks.new q
-        ≡ (contains rank_cmp ranks.old q
-        && not (has_rank q number (entry_at entries.old.items number))) }
+fn give_way(entry: &mut Entry<u64>)
+    ensures { entry.new ≡ given_way entry.old }
 {
-    let entry = entries[number as usize];
     if entry.mark == Mark::Open {
-        ranks.remove(&rank_of(entry.g, entry.h, number));
-        entries[number as usize].mark = Mark::Replaced;
+        entry.mark = Mark::Replaced;
+    }
+}
+
+/// Whether an entry is still to be expanded.
+fn is_waiting(entry: &Entry<u64>) -> bool
+    ensures { result ≡ is_open entry.now.mark }
+{
+    entry.mark == Mark::Open
+}
+
+/// Whether the first rank, if there is one, is that of an open entry.
+fn is_fresh(entries: &Vec<Entry<u64>>, ranks: &OpenList) -> bool
+    requires { AreRanks entries.now.items ranks.now }
+    ensures { result ≡ is_fresh entries.now.items (first_rank ranks.now) }
+{
+    match ranks.first() {
+        Some(rank) => is_waiting(&entries[rank.number as usize]),
+        None => true,
+    }
+}
+
+/// Takes out first ranks until one is that of an open entry.
+fn drop_stale(entries: &Vec<Entry<u64>>, ranks: &mut OpenList)
+    requires { AreRanks entries.now.items ranks.old }
+    ensures ranked { AreRanks entries.now.items ranks.new }
+    ensures fresh { is_fresh entries.now.items (first_rank ranks.new) ≡ true }
+{
+    'stale: while !is_fresh(entries, ranks) {
+        let _ = ranks.pop_first();
     }
 }

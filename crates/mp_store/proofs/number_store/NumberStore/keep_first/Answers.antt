@@ -1,6 +1,5 @@
-use Rattle.std.proofs.Common.{◌≡◌, ℕ, ◌+◌, true, cond, eqb, List, [], ◌∷◌, ◌++◌, length, Option, None, rules, refl, sym, ap, subst, ◌∙◌}
-use Rattle.std.specs.BTreeMap.{is_at}
-use Rattle.std.specs.BTreeSet.{contains}
+use Rattle.std.proofs.Common.{◌≡◌, ℕ, ◌+◌, eqb, List, [], ◌∷◌, ◌++◌, length, Option, None, rules, refl, sym, ap, subst, ◌∙◌}
+use Rattle.std.specs.Prelude.{IsPermutation}
 use Rattle.mp_store.specs.declared.entry.Entry.{Entry}
 use Rattle.mp_store.specs.declared.entry.Offer.TheVariants.{Kept}
 use Rattle.mp_store.specs.declared.number_store.Known.{Known}
@@ -8,11 +7,10 @@ use Rattle.mp_store.specs.declared.rank.Rank.{Rank}
 use Rattle.mp_store.specs.Laws.{IsEarlier}
 use Rattle.mp_store.specs.NumberFields.{IsIndexed, better_goal, record_of}
 use Rattle.mp_store.specs.Numbered.{NumberedRecord}
-use Rattle.mp_store.specs.Ranks.{rank_cmp}
+use Rattle.mp_store.specs.Ranks.{rank_of}
 use Rattle.mp_store.specs.Record.{new_entry, offered}
 use Rattle.mp_store.proofs.Carry.{carry_three, pushed}
 use Rattle.mp_store.proofs.KeptFirst.{first_indexed, first_offered, with_key}
-use Rattle.mp_store.proofs.RankLemmas.{rank_of}
 use Rattle.mp_store.proofs.number_store.NumberStore.keep_first.Goals as goal
 
 pub invariant_of-self-2 : goal.invariant_of-self-2
@@ -33,11 +31,11 @@ invariant_of-self-2 c =
     c.better_goal-self-inside.ensures ∙ ap (better_goal s.goal c.args.goal c.args.g) number in
     let rank : c.rank_of.result ≡ rank_of (length s.entries.items, e) =
     c.rank_of.ensures ∙ (λ j. record { f = c.args.g + c.args.h; h = c.args.h; number = number j }) in
-    let updates : (q : Rank) → contains rank_cmp c.insert.new.self q ≡ cond (is_at (rank_cmp (rank_of (length s.entries.items, e))) q) true (contains rank_cmp s.«open» q) =
-    λ q. c.in_ok-insert.ensures.updates.0 q ∙ ap (λ p. cond (is_at (rank_cmp p) q) true (contains rank_cmp s.«open» q)) rank in
+    let moved : IsPermutation (rank_of (length s.entries.items, e) ∷ s.«open») c.insert.new.self =
+    subst (λ (q : Rank). IsPermutation (q ∷ s.«open») c.insert.new.self) rank c.in_ok-insert.ensures.ok in
     carry_three (λ (es : List (Entry ℕ)) (ks : List Known) (g : Option (ℕ × ℕ)). IsIndexed (record { entries = es; sent = s.sent.items }) ks c.insert.new.self g) _ _ _ _ _ _
     (sym entries) (sym keys) (sym least)
-    (first_indexed (record_of s) s.keys.items s.«open» s.goal c.self.invariant e refl refl c.requires.bounded earlier c.insert.new.self updates)
+    (first_indexed (record_of s) s.keys.items s.«open» s.goal c.self.invariant e refl refl c.requires.bounded earlier c.insert.new.self moved)
 
 pub returns-clause-offered : goal.returns-clause-offered
 returns-clause-offered c =
