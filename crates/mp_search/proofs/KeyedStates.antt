@@ -18,7 +18,7 @@ use Rattle.mp_list.specs.First.{leftmost}
 use Rattle.mp_list.proofs.FirstLemmas.{found_first}
 use Rattle.mp_tokens.proofs.Orders.{set_found}
 use Rattle.mp_tokens.proofs.Places.{old_or_new, with_old, with_new}
-use Rattle.std.proofs.lemmas.Option.{slice_get-map, slice_get_within, get_or_from_slice_get}
+use Rattle.std.proofs.lemmas.Option.{same_Some, slice_get-get_or, slice_get-map, slice_get_within, get_or_from_slice_get}
 use Rattle.mp_store.specs.declared.entry.Entry.{Entry}
 use Rattle.mp_store.specs.declared.entry.Origin.TheVariants.{Root}
 use Rattle.mp_store.specs.declared.entry.Mark.TheVariants.{Expanded, Replaced}
@@ -112,6 +112,22 @@ best_inside s r n is = by (leftmost is_cheaper None all) refl is
         let that = those_have (λ e. same_state e.key s) r.entries x first.among in
         let number : x.0 ≡ n = cc in
         subst (λ m. m < length r.entries) number that.inside
+
+-- it is an entry of the state
+pub best_has : (s : AgentState) (r : Record AgentState) (n : ℕ) → best same_state s r ≡ Some n → (e : Entry AgentState) → slice_get r.entries n ≡ Some e → e.key ≡ s
+best_has s r n is e at = by (leftmost is_cheaper None all) refl is
+  where
+    all : List (Numbered AgentState)
+    all = those (λ e. same_state e.key s) r.entries
+
+    by : (o : Option (Numbered AgentState)) → leftmost is_cheaper None all ≡ o → option_map (λ x. x.0) o ≡ Some n → e.key ≡ s
+    by None found number = absurd (let impossible : ⊥ = cc in impossible)
+    by (Some x) found number =
+        let first = found_first is_cheaper cheaper_strict all x found in
+        let that = those_have (λ e. same_state e.key s) r.entries x first.among in
+        let here : slice_get r.entries x.0 ≡ Some x.1 = slice_get-get_or r.entries x.0 x.1 that.inside ∙ ap Some that.is in
+        let one : x.1 ≡ e = same_Some x.1 e (sym here ∙ ap (slice_get r.entries) (same_Some x.0 n number) ∙ at) in
+        ap (λ (y : Entry AgentState). y.key) (sym one) ∙ (Decides-state x.1.key s).0 that.passes
 
 -- and so it is where there is one
 pub all_inside : (s : AgentState) (r : Record AgentState) (o : Option ℕ) → o ≡ best same_state s r → IfSome o (λ n. n < length r.entries)
@@ -211,6 +227,14 @@ mine_of_key sets r n e seen is found =
     in
     let one : seen ≡ named_entry (state_of_key sets) e = cc in
     ap (λ (x : Entry AgentState). x.key.mine) one
+
+-- an entry of the store as a state's
+pub named_at : (sets : List Numbers) (r : Record Key) (seen : Record AgentState) → named (state_of_key sets) r ≡ seen → (n : ℕ) (e : Entry Key)
+    → slice_get r.entries n ≡ Some e → slice_get seen.entries n ≡ Some (named_entry (state_of_key sets) e)
+named_at sets r seen is n e at =
+    ap (λ (x : Record AgentState). slice_get x.entries n) (sym is)
+    ∙ slice_get-map (named_entry (state_of_key sets)) r.entries n
+    ∙ ap (option_map (named_entry (state_of_key sets))) at
 
 -- what stands at a place past the end
 pub none_at_place : {X : Type 0} (xs : List X) (n : ℕ) (d : X) → slice_get xs n ≡ None → get_or xs n d ≡ d

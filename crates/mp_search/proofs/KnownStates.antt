@@ -12,12 +12,14 @@ use Rattle.mp_store.specs.declared.entry.Offer.TheVariants as offers
 use Rattle.mp_store.specs.declared.entry.Origin.{Origin}
 use Rattle.mp_store.specs.Minima.{Numbered, best, is_cheaper, those}
 use Rattle.mp_store.specs.Record.{Record, is_known, kept, new_entry, offered}
+use Rattle.mp_store.proofs.BestKept.{best_kept}
 use Rattle.mp_store.proofs.BestLemmas.{none_best}
 use Rattle.mp_store.proofs.RankLemmas.{cheaper_less, cheaper_strict, those_have, those_hold}
 use Rattle.mp_search.specs.declared.answer.Received.{Received}
 use Rattle.mp_search.specs.declared.answer.Received.TheVariants.{Worse}
 use Rattle.mp_search.specs.AgentState.{AgentState, is_goal_state, same_state}
-use Rattle.mp_search.specs.Offering.{by_keep_rule, offered_at, offered_with}
+use Rattle.mp_search.proofs.KeyedStates.{Decides-state}
+use Rattle.mp_search.specs.Offering.{best_after, by_keep_rule, offered_at, offered_with}
 
 -- what is no cheaper costs as much or more
 as_much : {K : Type 0} (x y : Numbered K) → is_cheaper x y ≡ false → y.1.g ≤ x.1.g
@@ -100,3 +102,40 @@ pub record_offered : (t : AgentTask) (seen s : AgentState) (g : ℕ) (found valu
 record_offered t seen s g found value origin answer old new same found_is offered =
     ap (λ (x : Received × Record AgentState). x.1) offered
     ∙ (λ j. (offered_at t (same j) g (found_is j) origin old).1)
+
+-- ---- the best entry of a state after an offer of it
+
+module _ (t : AgentTask) (s : AgentState) (g : ℕ) (origin : Origin) (r : Record AgentState) where
+  best_with : (h : ℕ) → best same_state s (offered_with t s g h origin r).1 ≡ best_after (best same_state s r) (offered_with t s g h origin r).0
+  unfolding offered_with
+  best_with h = by (nat_lt (g + h) (2 ^ 60))
+    where
+      new : Entry AgentState
+      new = new_entry s g h origin (is_goal_state t s)
+
+      ruled : Bool → Received × Record AgentState
+      ruled known = by_keep_rule (if known then (offers.Worse, r) else (offers.Kept (length r.entries), kept same_state new r))
+
+      decided : (known : Bool) → is_known same_state s g r.entries ≡ known → best same_state s (ruled known).1 ≡ best_after (best same_state s r) (ruled known).0
+      decided true is = refl
+      decided false is = best_kept same_state new r ((Decides-state s s).1 refl) is
+
+      ranged : Bool → Received × Record AgentState
+      ranged b = if b then by_keep_rule (offered same_state new r) else (Worse, r)
+
+      by : (b : Bool) → best same_state s (ranged b).1 ≡ best_after (best same_state s r) (ranged b).0
+      by true = decided (is_known same_state s g r.entries) refl
+      by false = refl
+
+  best_at : (value : Option ℕ) → best same_state s (offered_at t s g value origin r).1 ≡ best_after (best same_state s r) (offered_at t s g value origin r).0
+  best_at None = refl
+  best_at (Some h) = best_with h
+
+-- said of the state by its other name
+pub best_offered : (t : AgentTask) (seen s : AgentState) (g : ℕ) (value : Option ℕ) (origin : Origin) (found : Option ℕ) (answer : Received) (old new : Record AgentState)
+    → seen ≡ s → found ≡ best same_state s old → (answer, new) ≡ offered_at t seen g value origin old → best_after found answer ≡ best same_state s new
+best_offered t seen s g value origin found answer old new same found_is offered =
+    let whole : (answer, new) ≡ offered_at t s g value origin old = offered ∙ (λ j. offered_at t (same j) g value origin old) in
+    (λ j. best_after (found_is j) (whole j).0)
+    ∙ sym (best_at t s g origin old value)
+    ∙ ap (λ (x : Received × Record AgentState). best same_state s x.1) (sym whole)

@@ -21,6 +21,12 @@ reception_of offers.Worse = Worse
 abbrev pub by_keep_rule : Offer × Record AgentState → Received × Record AgentState
 by_keep_rule (answer, r) = (reception_of answer, r)
 
+-- the best entry of a state after an offer of it, by that before
+abbrev pub best_after : Option ℕ → Received → Option ℕ
+best_after found (Kept entry) = Some entry
+best_after found Dead = found
+best_after found Worse = found
+
 -- A state is offered at a cost and with an estimate. The keep rule decides, where both together are below 2 ^ 60.
 unfoldable pub offered_with : AgentTask → AgentState → ℕ → ℕ → Origin → Record AgentState → Received × Record AgentState
 offered_with t s g h origin r =

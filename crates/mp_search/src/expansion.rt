@@ -5,7 +5,8 @@ ghost use Rattle.mp_task.specs.Limits.{ActFits};
 ghost use Rattle.mp_applicable.specs.Far.{IsFarIndexOf};
 ghost use Rattle.mp_applicable.specs.Index.{IsIndexOf};
 ghost use Rattle.mp_store.specs.Laws.{IsEarlier};
-ghost use Rattle.mp_search.specs.AgentState.{applies};
+ghost use Rattle.mp_store.specs.Minima.{best};
+ghost use Rattle.mp_search.specs.AgentState.{applies, same_state};
 ghost use Rattle.mp_search.specs.Applying.{is_applicable_in, AreFound, HasApplied, HasRoom};
 ghost use Rattle.mp_search.specs.Expansion.{expanded, with_action, with_actions};
 ghost use Rattle.mp_search.specs.Offering.{offered_at, own_value};
@@ -14,7 +15,7 @@ ghost use Rattle.mp_search.specs.StateKeys.{reached_state, HasSizes};
 ghost use Rattle.mp_search.specs.Steps.{parent_of, AreStatesOf, HaveSent, IsExpanding};
 
 use crate::answer::SendingList;
-use crate::offering::offer_at;
+use crate::offering::{best_after, offer_found};
 use crate::reached::Reached;
 use crate::sending::send_if_due;
 use crate::states::States;
@@ -124,8 +125,9 @@ fn action(task: &Task, number: u32) -> &Act
     &task.acts.as_slice()[number as usize]
 }
 
-/// Offers a state that an own action led to, at a cost. The heuristic is asked only where no entry of the state costs as
-/// much or less: elsewhere the keep rule refuses the state, whatever the estimate.
+/// Offers a state that an own action led to, at a cost, and gives the best entry that it has then. The state is looked up
+/// once. The heuristic is asked only where no entry of the state costs as much or less: elsewhere the keep rule refuses
+/// the state, whatever the estimate.
 fn offer_new<H: Heuristic>(
     task: &Task,
     heuristic: &mut H,
@@ -133,25 +135,27 @@ fn offer_new<H: Heuristic>(
     reached: &mut Reached,
     g: u64,
     origin: Origin,
-) -> Result<(), OutOfMemory>
+) -> Result<Option<u64>, OutOfMemory>
     requires heuristic { H.is_for heuristic.old task.now }
     requires states { AreStatesOf task.now states.old }
     requires sizes { HasSizes task.now.publics task.now.privates reached.old }
     requires parent { IsEarlier (length states.old.kept.entries) origin }
     ensures kept { OnOk result (states.new.kept ≡ (offered_at task.now (reached_state reached.old) g
         (own_value task.now (H.value task.now) (reached_state reached.old)) origin states.old.kept).1) }
+    ensures best { IfOk result (λ found. found ≡ best same_state (reached_state reached.old) states.new.kept) }
     ensures longer { OnOk result (length states.old.kept.entries ≤ length states.new.kept.entries) }
     ensures states { OnOk result (AreStatesOf task.now states.new) }
     ensures heuristic { H.is_for heuristic.new task.now }
     ensures state { reached_state reached.new ≡ reached_state reached.old }
     ensures sizes { HasSizes task.now.publics task.now.privates reached.new }
 {
-    if states.is_known(reached, g) {
-        return Ok(());
+    let found = states.best(reached);
+    if states.is_as_cheap(found, g) {
+        return Ok(found);
     }
     let value = heuristic.value(&reached.key.publics, &reached.mine)?;
-    offer_at(task, states, reached, g, value, origin)?;
-    Ok(())
+    let received = offer_found(task, states, reached, found, g, value, origin)?;
+    Ok(best_after(found, received))
 }
 
 /// Applies an own action that may be applied: the state that it leads to is offered, and sent where that is due.
@@ -189,7 +193,7 @@ fn add_action<H: Heuristic>(
         action: number,
         parent: parent.number,
     };
-    offer_new(task, heuristic, states, reached, g, origin)?;
+    let found = offer_new(task, heuristic, states, reached, g, origin)?;
     let is_public = task.is_public(number);
     send_if_due(
         alloc,
@@ -200,6 +204,7 @@ fn add_action<H: Heuristic>(
         &parent.state,
         states,
         reached,
+        found,
         out,
     )
 }

@@ -2,7 +2,9 @@
 
 ghost use Rattle.std.specs.Prelude.{◌≡◌, ◌≤◌, ◌+◌, ◌^◌, nat_lt, IfOk, OnOk, length};
 ghost use Rattle.mp_store.specs.Laws.{IsEarlier};
-ghost use Rattle.mp_search.specs.Offering.{offered_at, offered_with, reception_of};
+ghost use Rattle.mp_store.specs.Minima.{best};
+ghost use Rattle.mp_search.specs.AgentState.{same_state};
+ghost use Rattle.mp_search.specs.Offering.{best_after, offered_at, offered_with, reception_of};
 ghost use Rattle.mp_search.specs.StateKeys.{reached_state, HasSizes};
 ghost use Rattle.mp_search.specs.Steps.{AreStatesOf};
 
@@ -34,16 +36,29 @@ fn reception(offer: Offer) -> Received
     }
 }
 
-/// Offers a state at a cost and with an estimate.
+/// The best entry of a state after an offer of it, by that before.
+pub(crate) fn best_after(found: Option<u64>, received: Received) -> Option<u64>
+    ensures { result ≡ best_after found received }
+{
+    match received {
+        Received::Kept(entry) => Some(entry),
+        Received::Dead => found,
+        Received::Worse => found,
+    }
+}
+
+/// Offers a state at a cost and with an estimate. Its best entry is known, if it has one.
 #[tactic(auto, unfolding(crate::specs::Offering::offered_with), using(crate::proofs::SendingSteps::same_states))]
 fn offer_with(
     task: &Task,
     states: &mut States,
     state: &mut Reached,
+    found: Option<u64>,
     g: u64,
     h: u64,
     origin: Origin,
 ) -> Result<Received, OutOfMemory>
+    requires found { found ≡ best same_state (reached_state state.old) states.old.kept }
     requires states { AreStatesOf task.now states.old }
     requires sizes { HasSizes task.now.publics task.now.privates state.old }
     requires parent { IsEarlier (length states.old.kept.entries) origin }
@@ -58,7 +73,34 @@ fn offer_with(
         return Ok(Received::Worse);
     }
     let goal = is_goal(task, state);
-    Ok(reception(states.offer(state, g, h, origin, goal)?))
+    Ok(reception(states.offer(state, found, g, h, origin, goal)?))
+}
+
+/// Offers a state at a cost, with an estimate or none. Its best entry is known, if it has one.
+pub(crate) fn offer_found(
+    task: &Task,
+    states: &mut States,
+    state: &mut Reached,
+    found: Option<u64>,
+    g: u64,
+    value: Option<u64>,
+    origin: Origin,
+) -> Result<Received, OutOfMemory>
+    requires found { found ≡ best same_state (reached_state state.old) states.old.kept }
+    requires states { AreStatesOf task.now states.old }
+    requires sizes { HasSizes task.now.publics task.now.privates state.old }
+    requires parent { IsEarlier (length states.old.kept.entries) origin }
+    ensures offered { IfOk result (λ answer. (answer, states.new.kept)
+        ≡ offered_at task.now (reached_state state.old) g value origin states.old.kept) }
+    ensures states { OnOk result (AreStatesOf task.now states.new) }
+    ensures longer { OnOk result (length states.old.kept.entries ≤ length states.new.kept.entries) }
+    ensures state { reached_state state.new ≡ reached_state state.old }
+    ensures sizes { HasSizes task.now.publics task.now.privates state.new }
+{
+    match value {
+        Some(h) => offer_with(task, states, state, found, g, h, origin),
+        None => Ok(Received::Dead),
+    }
 }
 
 /// Offers a state at a cost, with an estimate or none.
@@ -80,8 +122,6 @@ pub(crate) fn offer_at(
     ensures state { reached_state state.new ≡ reached_state state.old }
     ensures sizes { HasSizes task.now.publics task.now.privates state.new }
 {
-    match value {
-        Some(h) => offer_with(task, states, state, g, h, origin),
-        None => Ok(Received::Dead),
-    }
+    let found = states.best(state);
+    offer_found(task, states, state, found, g, value, origin)
 }

@@ -1,10 +1,11 @@
 //! What is sent of a state.
 
 ghost use Rattle.std.specs.Prelude.{◌≡◌, ◌<◌, IfOk, OnOk, Some, length, map};
+ghost use Rattle.mp_store.specs.Minima.{best};
 ghost use Rattle.mp_store.specs.Sent.{mark_sent};
 ghost use Rattle.mp_task.specs.Public as public;
 ghost use Rattle.mp_applicable.specs.Far.{IsFarIndexOf};
-ghost use Rattle.mp_search.specs.AgentState.{start_state, start_tag, with_tag};
+ghost use Rattle.mp_search.specs.AgentState.{same_state, start_state, start_tag, with_tag};
 ghost use Rattle.mp_search.specs.Search.{tokens_given};
 ghost use Rattle.mp_search.specs.Sending.{is_due, sent_best, sent_entry_of, sent_if_due};
 ghost use Rattle.mp_search.specs.StateKeys.{reached_state, HasSizes, IsMessageOf};
@@ -94,24 +95,24 @@ fn send_entry(
     out.push(Sending { state, to })
 }
 
-/// Sends the best entry of a state, if it has one.
+/// Sends the best entry of a state, which is known, if it has one.
 fn send_best(
     alloc: Global,
     task: &Task,
     far: &FarIndex,
     states: &mut States,
-    state: &mut Reached,
+    state: &Reached,
+    found: Option<u64>,
     out: &mut SendingList,
 ) -> Result<(), OutOfMemory>
     requires index { IsFarIndexOf task.now far.now }
     requires states { AreStatesOf task.now states.old }
-    requires sizes { HasSizes task.now.publics task.now.privates state.old }
-    ensures sent { OnOk result (HaveSent task.now (sent_best task.now (reached_state state.old) states.old.kept)
+    requires sizes { HasSizes task.now.publics task.now.privates state.now }
+    requires found { found ≡ best same_state (reached_state state.now) states.old.kept }
+    ensures { OnOk result (HaveSent task.now (sent_best task.now (reached_state state.now) states.old.kept)
         out.old out.new states.old states.new) }
-    ensures state { reached_state state.new ≡ reached_state state.old }
-    ensures sizes { HasSizes task.now.publics task.now.privates state.new }
 {
-    match states.best(state) {
+    match found {
         Some(entry) => send_entry(alloc, task, far, states, state, entry, out),
         None => Ok(()),
     }
@@ -135,7 +136,7 @@ fn is_due(
     is_visible(task, is_public, act, before, state) && has_receivers(task, far, state)
 }
 
-/// Sends a state that an own action led to, where that is due.
+/// Sends a state that an own action led to, where that is due. Its best entry is known, if it has one.
 #[tactic(auto, unfolding(crate::specs::Sending::sent_if_due), using(crate::proofs::SendingSteps::nothing_sent))]
 pub(crate) fn send_if_due(
     alloc: Global,
@@ -145,22 +146,22 @@ pub(crate) fn send_if_due(
     act: &Act,
     before: &Reached,
     states: &mut States,
-    state: &mut Reached,
+    state: &Reached,
+    found: Option<u64>,
     out: &mut SendingList,
 ) -> Result<(), OutOfMemory>
     requires index { IsFarIndexOf task.now far.now }
     requires public { is_public ≡ public.is_public act.now }
     requires states { AreStatesOf task.now states.old }
     requires before { HasSizes task.now.publics task.now.privates before.now }
-    requires sizes { HasSizes task.now.publics task.now.privates state.old }
-    ensures sent { OnOk result (HaveSent task.now
-        (sent_if_due task.now act.now (reached_state before.now) (reached_state state.old) states.old.kept)
+    requires sizes { HasSizes task.now.publics task.now.privates state.now }
+    requires found { found ≡ best same_state (reached_state state.now) states.old.kept }
+    ensures { OnOk result (HaveSent task.now
+        (sent_if_due task.now act.now (reached_state before.now) (reached_state state.now) states.old.kept)
         out.old out.new states.old states.new) }
-    ensures state { reached_state state.new ≡ reached_state state.old }
-    ensures sizes { HasSizes task.now.publics task.now.privates state.new }
 {
     if is_due(task, far, is_public, act, before, state) {
-        return send_best(alloc, task, far, states, state, out);
+        return send_best(alloc, task, far, states, state, found, out);
     }
     Ok(())
 }

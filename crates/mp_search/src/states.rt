@@ -6,7 +6,7 @@ ghost use Rattle.mp_store.specs.Minima.{best, least_goal, least_f, popped};
 ghost use Rattle.mp_store.specs.Record.{empty, f, is_known, new_entry, offered};
 ghost use Rattle.mp_store.specs.Sent.{mark_sent, sent_entry};
 ghost use Rattle.mp_tokens.specs.Order.{with_set, place, set_at};
-ghost use Rattle.mp_search.specs.AgentState.{same_state};
+ghost use Rattle.mp_search.specs.AgentState.{same_state, AgentState};
 ghost use Rattle.mp_search.specs.Search.{is_open_below, sent_sets};
 ghost use Rattle.mp_search.specs.StateKeys.{reached_state, HasSizes, IsShown, IsSent};
 
@@ -114,22 +114,77 @@ impl States {
         self.store.best(&state.key)
     }
 
-    /// Whether an entry of a state costs g or less. Writes the index of the own set into the key.
-    pub(crate) fn is_known(&self, state: &mut Reached, g: u64) -> bool
-        requires { HasSizes self.now.publics self.now.privates state.old }
-        ensures known { result ≡ is_known same_state (reached_state state.old) g self.now.kept.entries }
-        ensures state { reached_state state.new ≡ reached_state state.old }
-        ensures sizes { HasSizes self.now.publics self.now.privates state.new }
+    /// Whether there is an entry, and it costs g or less: where it is the best one of a state, some entry of the state does.
+    pub(crate) fn is_as_cheap(&self, found: Option<u64>, g: u64) -> bool
+        requires { IfSome found (λ n. n < length self.now.kept.entries) }
+        ensures { (s : AgentState) → found ≡ best same_state s self.now.kept
+            → result ≡ is_known same_state s g self.now.kept.entries }
     {
-        match self.best(state) {
-            Some(number) => self.entry(number).g <= g,
+        match found {
+            Some(number) => self.store.cost(number) <= g,
             None => false,
         }
     }
 
-    /// Offers a state: it is worse exactly where an entry of it costs g or less. Writes the index of the own set into
-    /// the key. Memory is taken for what is kept alone.
+    /// Offers a state whose best entry is known, if it has one: it is worse exactly where that costs g or less. The state
+    /// is looked up only where it has none. Memory is taken for what is kept alone.
     pub(crate) fn offer(
+        &mut self,
+        state: &mut Reached,
+        found: Option<u64>,
+        g: u64,
+        h: u64,
+        origin: Origin,
+        goal: bool,
+    ) -> Result<Offer, OutOfMemory>
+        requires found { found ≡ best same_state (reached_state state.old) self.old.kept }
+        requires sizes { HasSizes self.old.publics self.old.privates state.old }
+        requires bounded { g + h < 2 ^ 60 }
+        requires parent { IsEarlier (length self.old.kept.entries) origin }
+        ensures offered { IfOk result (λ answer. (answer, self.new.kept)
+            ≡ offered same_state (new_entry (reached_state state.old) g h origin goal) self.old.kept) }
+        ensures used { self.new.used ≡ self.old.used }
+        ensures publics { self.new.publics ≡ self.old.publics }
+        ensures privates { self.new.privates ≡ self.old.privates }
+        ensures sets { OnOk result (sent_sets self.new.kept ≡ sent_sets self.old.kept) }
+        ensures longer { OnOk result (length self.old.kept.entries ≤ length self.new.kept.entries) }
+        ensures state { reached_state state.new ≡ reached_state state.old }
+        ensures sizes { HasSizes self.new.publics self.new.privates state.new }
+    {
+        match found {
+            Some(entry) => self.offer_again(state, entry, g, h, origin, goal),
+            None => self.offer_new(state, g, h, origin, goal),
+        }
+    }
+
+    /// Offers a state whose best entry is known.
+    fn offer_again(
+        &mut self,
+        state: &Reached,
+        entry: u64,
+        g: u64,
+        h: u64,
+        origin: Origin,
+        goal: bool,
+    ) -> Result<Offer, OutOfMemory>
+        requires best { best same_state (reached_state state.now) self.old.kept ≡ Some entry }
+        requires bounded { g + h < 2 ^ 60 }
+        requires parent { IsEarlier (length self.old.kept.entries) origin }
+        ensures offered { IfOk result (λ answer. (answer, self.new.kept)
+            ≡ offered same_state (new_entry (reached_state state.now) g h origin goal) self.old.kept) }
+        ensures used { self.new.used ≡ self.old.used }
+        ensures publics { self.new.publics ≡ self.old.publics }
+        ensures privates { self.new.privates ≡ self.old.privates }
+        ensures sets { OnOk result (sent_sets self.new.kept ≡ sent_sets self.old.kept) }
+        ensures longer { OnOk result (length self.old.kept.entries ≤ length self.new.kept.entries) }
+    {
+        let _ = self.store.count();
+        let _ = state;
+        self.store.offer_again(entry, g, h, origin, goal)
+    }
+
+    /// Offers a state. Writes the index of the own set into the key.
+    fn offer_new(
         &mut self,
         state: &mut Reached,
         g: u64,

@@ -26,7 +26,7 @@ module _ {K : Type 0} (same : K → K → Bool) (key : K) (g : ℕ) where
   known_unmarked : (es : List (Entry K)) → is_known same key g (map unmarked es) ≡ is_known same key g es
   known_unmarked es = any-map unmarked (λ e. Unit {0}) is_cheap is_cheap (λ e h. refl) es (λ k d h. tt)
 
-  known_through : (es others : List (Entry K)) → SameButMarks es others → is_known same key g es ≡ is_known same key g others
+  pub known_through : (es others : List (Entry K)) → SameButMarks es others → is_known same key g es ≡ is_known same key g others
   known_through es others alike = sym (known_unmarked es) ∙ ap (is_known same key g) alike.same ∙ known_unmarked others
 
   known_kept : (e : Entry K) (r : Record K) → is_known same key g (kept same e r).entries ≡ (is_known same key g r.entries || (is_cheap e || false))

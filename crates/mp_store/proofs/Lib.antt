@@ -14,6 +14,8 @@ pub mod RankLemmas
 pub mod BestLemmas
 -- the ranks of open entries
 pub mod OpenRanks
+-- the best entry of a key once it is kept
+pub mod BestKept
 -- what the indices say
 pub mod Indexed
 -- the least open entry is closed

@@ -118,6 +118,14 @@ impl Store {
         }
     }
 
+    /// What it cost to reach the state of an entry.
+    pub fn cost(&self, number: u64) -> u64
+        requires { number < length self.now.entries }
+        ensures { IsSomeAnd (slice_get self.now.entries number) (λ e. result ≡ e.g) }
+    {
+        self.numbers.entry(number).g
+    }
+
     /// Closes the least open entry by f, then h, then number, and gives its number: none exactly where
     /// none is open.
     pub fn pop_least(&mut self) -> Option<u64>
@@ -177,6 +185,26 @@ impl Store {
             Some(place) => self.numbers.offer(place as u64, g, h, origin, goal),
             None => keep_first(&mut self.keys, &mut self.numbers, key, g, h, origin, goal),
         }
+    }
+
+    /// Offers the state of an entry again, which takes no look-up of its key. In all else it is as `offer`.
+    pub fn offer_again(
+        &mut self,
+        entry: u64,
+        g: u64,
+        h: u64,
+        origin: Origin,
+        goal: bool,
+    ) -> Result<Offer, OutOfMemory>
+        requires inside { entry < length self.old.entries }
+        requires bounded { g + h < 2 ^ 60 }
+        requires parent { IsEarlier (length self.old.entries) origin }
+        ensures offered { IsSomeAnd (slice_get self.old.entries entry) (λ e. IfOk result (λ answer. (answer, self.new)
+            ≡ offered same_key (new_entry e.key g h origin goal) self.old)) }
+        ensures err { OnErr result (self.new ≡ self.old) }
+    {
+        let key = self.numbers.entry(entry).key;
+        self.numbers.offer(key, g, h, origin, goal)
     }
 }
 

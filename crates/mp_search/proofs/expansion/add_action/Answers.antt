@@ -11,7 +11,7 @@ returns-clause-sent g c =
     let t = c.args.task.now in
     let value = g.H.Heuristic.value t in
     let p = parent_of c.args.parent.now in
-    on_ok c.send_if_due.result _ _ c.send_if_due.ensures.sent
+    on_ok c.send_if_due.result _ _ c.send_if_due.ensures
     (λ sent.
     action_sent t value p c.args.number c.args.act.now c.args.states.now c.send_if_due.new.states c.args.out.now c.send_if_due.new.out
     c.requires.applies
@@ -20,4 +20,4 @@ returns-clause-sent g c =
     (successor_sent t value p c.args.number c.args.act.now
     (reached_state c.follow.new.self) (reached_state c.offer_new.new.reached)
     c.args.states.now c.offer_new.new.states c.send_if_due.new.states c.args.out.now c.send_if_due.new.out
-    c.offer_new.ensures.state c.in_ok-offer_new.ensures.kept c.in_ok-offer_new.ensures.longer sent)))
+    c.offer_new.ensures.state c.in_ok-found.ensures.kept c.in_ok-found.ensures.longer sent)))

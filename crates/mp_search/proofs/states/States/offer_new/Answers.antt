@@ -6,8 +6,8 @@ use Rattle.std.proofs.Common.{ℕ, All, ◌<◌, subst, ◌≡◌, length, sym, 
 use Rattle.mp_tokens.specs.Table.{TokenTable}
 use Rattle.mp_sets.specs.Numbers.{SizedSet}
 use Rattle.mp_search.specs.StateKeys.{IsKeyOf, KeptStates, reached_state, state_of_key}
-use Rattle.mp_search.proofs.OfferedStates.{different_grown, keyed_offered, seen_offered}
-use Rattle.mp_search.proofs.states.States.offer.Goals as goal
+use Rattle.mp_search.proofs.OfferedStates.{different_grown, keyed_grown, keyed_offered, named_grown, seen_offered}
+use Rattle.mp_search.proofs.states.States.offer_new.Goals as goal
 
 pub invariant_of-self-2 : goal.invariant_of-self-2
 invariant_of-self-2 c =
@@ -20,7 +20,9 @@ invariant_of-self-2 c =
     } in
     record {
       different = different_grown s.publics s.tokens.sets c.give_index.new.tokens.sets c.args.state.now.mine.members c.self.invariant.different grown s.store c.self.invariant.keyed;
-      keyed = keyed_offered s.publics s.tokens.sets c.give_index.new.tokens.sets c.args.state.now.mine.members c.self.invariant.different grown s.store c.self.invariant.keyed
+      keyed = keyed_offered s.publics c.give_index.new.tokens.sets
+          (different_grown s.publics s.tokens.sets c.give_index.new.tokens.sets c.args.state.now.mine.members c.self.invariant.different grown s.store c.self.invariant.keyed)
+          s.store (keyed_grown s.publics s.tokens.sets c.give_index.new.tokens.sets c.args.state.now.mine.members c.self.invariant.different grown s.store c.self.invariant.keyed)
           key of_key c.args.g c.args.h c.args.origin c.args.goal c.offer_copy.result c.offer_copy.new.self c.offer_copy.ensures.offered c.offer_copy.ensures.err;
     }
 
@@ -38,9 +40,13 @@ returns-clause-offered c =
       mine = c.in_ok-give_index.ensures.index.1 j;
       tags = c.in_ok-give_index.ensures.tags j;
     } in
-    seen_offered s.publics s.tokens.sets c.give_index.new.tokens.sets c.args.state.now.mine.members c.self.invariant.different grown s.store c.self.invariant.keyed
+    seen_offered s.publics c.give_index.new.tokens.sets
+    (different_grown s.publics s.tokens.sets c.give_index.new.tokens.sets c.args.state.now.mine.members c.self.invariant.different grown s.store c.self.invariant.keyed)
+    s.store (keyed_grown s.publics s.tokens.sets c.give_index.new.tokens.sets c.args.state.now.mine.members c.self.invariant.different grown s.store c.self.invariant.keyed)
     key of_key c.args.g c.args.h c.args.origin c.args.goal c.offer_copy.result c.offer_copy.new.self
-    (reached_state c.args.state.now) state c.args.self.now.kept (ap (λ (x : KeptStates). x.kept) c.self.view_is) c.offer_copy.ensures.offered
+    (reached_state c.args.state.now) state c.args.self.now.kept
+    (named_grown s.publics s.tokens.sets c.give_index.new.tokens.sets c.args.state.now.mine.members c.self.invariant.different grown s.store c.self.invariant.keyed ∙ ap (λ (x : KeptStates). x.kept) c.self.view_is)
+    c.offer_copy.ensures.offered
 
 pub returns-clause-sets : goal.returns-clause-sets
 returns-clause-sets c =
