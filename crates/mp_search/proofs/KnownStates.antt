@@ -13,7 +13,6 @@ use Rattle.mp_store.specs.declared.entry.Origin.{Origin}
 use Rattle.mp_store.specs.Minima.{Numbered, best, is_cheaper, those}
 use Rattle.mp_store.specs.Record.{Record, is_known, kept, new_entry, offered}
 use Rattle.mp_store.proofs.BestKept.{best_kept}
-use Rattle.mp_store.proofs.BestLemmas.{none_best}
 use Rattle.mp_store.proofs.RankLemmas.{cheaper_less, cheaper_strict, those_have, those_hold}
 use Rattle.mp_search.specs.declared.answer.Received.{Received}
 use Rattle.mp_search.specs.declared.answer.Received.TheVariants.{Worse}
@@ -35,12 +34,6 @@ as_much x y no_cheaper =
 module _ {K : Type 0} (same : K → K → Bool) (key : K) (r : Record K) (g : ℕ) where
   abbrev passes : Entry K → Bool
   passes e = same e.key key && nat_le e.g g
-
-  -- without a best entry none is known
-  pub unknown : best same key r ≡ None → is_known same key g r.entries ≡ false
-  unknown none =
-      list_any_none passes r.entries
-      (λ i d inside. and_left (same (get_or r.entries i d).key key) (nat_le (get_or r.entries i d).g g) (none_best same key r none i d inside))
 
   -- some entry of the key costs g or less where the first one by cost does
   known_first : (x : Numbered K) → IsFirst is_cheaper (those (λ e. same e.key key) r.entries) x → is_known same key g r.entries ≡ nat_le x.1.g g

@@ -1,6 +1,6 @@
 //! The states that an agent keeps.
 
-ghost use Rattle.std.specs.Prelude.{◌↔◌, IsNone, ◌≡◌, ◌+◌, ◌<◌, ◌≤◌, ◌^◌, ◌∷◌, [], IfOk, OnOk, IsSomeAnd, IfSome, Some, OnErr, length, slice_get};
+ghost use Rattle.std.specs.Prelude.{◌↔◌, IsNone, ◌≡◌, ◌+◌, ◌<◌, ◌≤◌, ◌^◌, ◌∷◌, [], IfOk, OnOk, IsSomeAnd, IfSome, None, Some, OnErr, length, slice_get};
 ghost use Rattle.mp_store.specs.Laws.{IsEarlier};
 ghost use Rattle.mp_store.specs.Minima.{best, least_goal, least_f, popped};
 ghost use Rattle.mp_store.specs.Record.{empty, f, is_known, new_entry, offered};
@@ -126,8 +126,8 @@ impl States {
         }
     }
 
-    /// Offers a state whose best entry is known, if it has one: it is worse exactly where that costs g or less. The state
-    /// is looked up only where it has none. Memory is taken for what is kept alone.
+    /// Offers a state whose best entry is known, if it has one: it is worse exactly where that costs g or less. Takes no
+    /// look-up of the state. Memory is taken for what is kept alone.
     pub(crate) fn offer(
         &mut self,
         state: &mut Reached,
@@ -183,7 +183,7 @@ impl States {
         self.store.offer_again(entry, g, h, origin, goal)
     }
 
-    /// Offers a state. Writes the index of the own set into the key.
+    /// Offers a state that has no entry. Writes the index of the own set into the key.
     fn offer_new(
         &mut self,
         state: &mut Reached,
@@ -192,6 +192,7 @@ impl States {
         origin: Origin,
         goal: bool,
     ) -> Result<Offer, OutOfMemory>
+        requires new { best same_state (reached_state state.old) self.old.kept ≡ None }
         requires sizes { HasSizes self.old.publics self.old.privates state.old }
         requires bounded { g + h < 2 ^ 60 }
         requires parent { IsEarlier (length self.old.kept.entries) origin }
@@ -207,7 +208,7 @@ impl States {
     {
         let _ = self.store.count();
         give_index(&mut self.tokens, state)?;
-        self.store.offer_copy(&state.key, g, h, origin, goal)
+        self.store.keep_new(&state.key, g, h, origin, goal)
     }
 
     /// Notes that the state of an entry is sent, and gives it the next sent number, and the token of its own set: none

@@ -153,3 +153,9 @@ module _ {K : Type 0} (same : K → K → Bool) (key : K) (r : Record K) where
           (subst (λ (xs : List (Numbered K)). Contains xs (i, get_or r.entries i d)) (nothing_found is_cheaper (those (λ e. same e.key key) r.entries) is)
           (those_hold (λ e. same e.key key) r.entries i d inside has))
       nowhere (Some x) is none i d inside has = absurd (let impossible : ⊥ = cc in impossible)
+
+  -- and none is known
+  pub unknown : (g : ℕ) → best same key r ≡ None → is_known same key g r.entries ≡ false
+  unknown g none =
+      list_any_none (λ e. same e.key key && nat_le e.g g) r.entries
+      (λ i d inside. and_left (same (get_or r.entries i d).key key) (nat_le (get_or r.entries i d).g g) (none_best none i d inside))

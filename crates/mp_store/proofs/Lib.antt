@@ -38,3 +38,5 @@ pub mod KeyRowLemmas
 pub mod KeyPlaces
 -- offers over numbers and over keys
 pub mod Offering
+-- each key has an entry
+pub mod Entries

@@ -1,6 +1,6 @@
 //! The store of one agent.
 
-ghost use Rattle.std.specs.Prelude.{◌≡◌, ◌==◌, ◌+◌, ◌<◌, ◌^◌, ◌∷◌, ◌++◌, [], ℕ, All, IfOk, IsSomeAnd, OnErr, OnOk, length, slice_get};
+ghost use Rattle.std.specs.Prelude.{◌≡◌, ◌==◌, ◌+◌, ◌<◌, ◌^◌, ◌∷◌, ◌++◌, [], ℕ, All, IfOk, IsSomeAnd, None, OnErr, OnOk, length, slice_get};
 ghost use Rattle.mp_rows.specs.Apart.{AreOnce};
 ghost use Rattle.mp_store.specs.KeyRows.{key_at, no_key};
 ghost use Rattle.mp_store.specs.Keys.{same_key};
@@ -183,8 +183,27 @@ impl Store {
     {
         match self.keys.find(key) {
             Some(place) => self.numbers.offer(place as u64, g, h, origin, goal),
-            None => keep_first(&mut self.keys, &mut self.numbers, key, g, h, origin, goal),
+            None => self.keep_new(key, g, h, origin, goal),
         }
+    }
+
+    /// Keeps a state that has no entry, which takes no look-up of its key. In all else it is as `offer_copy`.
+    pub fn keep_new(
+        &mut self,
+        key: &Key,
+        g: u64,
+        h: u64,
+        origin: Origin,
+        goal: bool,
+    ) -> Result<Offer, OutOfMemory>
+        requires new { best same_key key.now self.old ≡ None }
+        requires bounded { g + h < 2 ^ 60 }
+        requires parent { IsEarlier (length self.old.entries) origin }
+        ensures offered { IfOk result (λ answer. (answer, self.new)
+            ≡ offered same_key (new_entry key.now g h origin goal) self.old) }
+        ensures err { OnErr result (self.new ≡ self.old) }
+    {
+        keep_first(&mut self.keys, &mut self.numbers, key, g, h, origin, goal)
     }
 
     /// Offers the state of an entry again, which takes no look-up of its key. In all else it is as `offer`.

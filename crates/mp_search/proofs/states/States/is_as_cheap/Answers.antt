@@ -6,7 +6,8 @@ use Rattle.mp_store.specs.Named.{named_entry}
 use Rattle.mp_search.specs.AgentState.{same_state}
 use Rattle.mp_search.specs.StateKeys.{KeptStates, state_of_key}
 use Rattle.mp_search.proofs.KeyedStates.{entry_told, named_at}
-use Rattle.mp_search.proofs.KnownStates.{known_best, unknown}
+use Rattle.mp_store.proofs.BestLemmas.{unknown}
+use Rattle.mp_search.proofs.KnownStates.{known_best}
 use Rattle.mp_search.proofs.states.States.is_as_cheap.Goals as goal
 
 pub returns-in-Some : goal.returns-in-Some

@@ -1,3 +1,4 @@
+use Rattle.mp_store.proofs.Entries.{have_marked, same_keys}
 use Rattle.std.proofs.Common.{◌≡◌, ℕ, ◌<◌, eqb, length, Option, Result, Ok, Err, sym, ap, ◌∙◌}
 use Rattle.std.specs.Prelude.{IfOk}
 use Rattle.mp_list.specs.declared.memory.OutOfMemory.{OutOfMemory}
@@ -16,6 +17,12 @@ over_keys : (res : Result (Option ℕ) OutOfMemory) (name : ℕ → Key) (new : 
     → ◌≡◌ {A = Option ℕ × Record Key} (wanted.0, named name wanted.1) whole → IfOk res (λ number. (number, new) ≡ wanted) → IfOk res (λ number. (number, named name new) ≡ whole)
 over_keys (Ok x) name new wanted whole is answer = ap (λ (p : Option ℕ × Record ℕ). (p.0, named name p.1)) answer ∙ is
 over_keys (Err x) name new wanted whole is answer = tt
+
+pub invariant_of-self : goal.invariant_of-self
+invariant_of-self c =
+    let s = c.self.inside in
+    same_keys s.keys s.numbers c.mark_sent.new.self c.self.invariant.count c.self.invariant.once c.mark_sent.ensures.keys c.mark_sent.ensures.keyed
+    (have_marked (length s.keys) s.numbers c.self.invariant.have c.mark_sent.new.self c.args.entry c.mark_sent.result c.mark_sent.ensures.sent c.mark_sent.ensures.err)
 
 pub returns-clause-sent : goal.returns-clause-sent
 returns-clause-sent c =

@@ -1,3 +1,4 @@
+use Rattle.mp_store.proofs.Entries.{have_offered, same_keys}
 use Rattle.std.proofs.Common.{◌≡◌, ◌<◌, length, Some, Option, refl, sym, ap, subst, ◌∙◌, arith}
 use Rattle.std.specs.Prelude.{IfOk, IsSomeAnd, option_map, slice_get}
 use Rattle.std.proofs.lemmas.Option.{slice_get-map}
@@ -9,6 +10,13 @@ use Rattle.mp_store.specs.Named.{named, named_entry}
 use Rattle.mp_store.specs.Record.{Record, new_entry, offered}
 use Rattle.mp_store.proofs.Offering.{offered_known}
 use Rattle.mp_store.proofs.store.Store.offer_again.Goals as goal
+
+pub invariant_of-self : goal.invariant_of-self
+invariant_of-self c =
+    let s = c.self.inside in
+    same_keys s.keys s.numbers c.offer.new.self c.self.invariant.count c.self.invariant.once c.offer.ensures.keys c.offer.ensures.keyed
+    (have_offered (length s.keys) s.numbers c.self.invariant.have c.offer.new.self
+    (new_entry c.entry.result.now.key c.args.g c.args.h c.args.origin c.args.goal) c.offer.result c.offer.ensures.offered c.offer.ensures.err)
 
 pub returns-clause-offered : goal.returns-clause-offered
 returns-clause-offered c =
