@@ -1,21 +1,19 @@
 -- Own actions one after another, and the expansion of an entry.
-use Rattle.std.proofs.Common.{Result, Ok, Err, ◌≡◌, ℕ, zero, suc, ◌+◌, ◌-◌, ◌<◌, ◌≤◌, Bool, true, false, cond, List, [], ◌∷◌, ◌++◌, length, drop, get_or, Option, Some, None, refl, sym, ap, subst, ◌∙◌, inl, inr, arith}
-use Rattle.std.specs.Prelude.{◌⊎◌, if◌then◌else◌, slice_get, slice_set, option_map, Contains, IfOk, IsSomeAnd}
+use Rattle.std.proofs.Common.{Result, Ok, Err, ◌≡◌, ℕ, zero, suc, ◌+◌, ◌-◌, ◌<◌, ◌≤◌, Bool, true, false, List, [], ◌∷◌, ◌++◌, length, drop, get_or, Option, Some, None, refl, sym, ap, ◌∙◌, inl, inr, arith}
+use Rattle.std.specs.Prelude.{◌⊎◌, if◌then◌else◌, slice_get, slice_set, IfOk, IsSomeAnd}
 use Rattle.std.specs.Option.{option_map_or}
-use Rattle.std.proofs.lemmas.List.{append-nil, append_assoc, drop_all, drop_more, get_or-set_same, length-set}
+use Rattle.std.proofs.lemmas.List.{append-nil, append_assoc, drop_all, drop_more, get_or-set_same}
 use Rattle.std.proofs.lemmas.Option.{get_or_from_slice_get, slice_get_cases, slice_get_within}
 use Rattle.std.specs.FinSet as set
 use Rattle.mp_sets.specs.Numbers.{HasNoneFrom, IsLeastFrom, Numbers, SizedSet}
 use Rattle.mp_task.specs.declared.act.Act.{Act}
 use Rattle.mp_task.specs.AgentTask.{AgentTask}
 use Rattle.mp_store.specs.declared.entry.Entry.{Entry}
-use Rattle.mp_store.specs.Record.{Record, is_open}
+use Rattle.mp_store.specs.Record.{Record}
 use Rattle.mp_list.specs.declared.memory.OutOfMemory.{OutOfMemory}
-use Rattle.mp_list.specs.First.{earlier, leftmost}
-use Rattle.mp_list.proofs.Members.{contains_head, contains_tail}
 use Rattle.mp_store.specs.declared.entry.Mark.TheVariants.{Expanded}
-use Rattle.mp_store.specs.Minima.{Numbered, popped, closed, first_open, is_nearer, least_open, those}
-use Rattle.mp_store.proofs.RankLemmas.{those_have}
+use Rattle.mp_store.specs.Minima.{closed, least_open}
+use Rattle.mp_store.proofs.Popped.{least_inside}
 use Rattle.mp_search.specs.declared.answer.Sending.{Sending}
 use Rattle.mp_search.specs.declared.answer.ExpandRefusal.TheVariants.{AtLimit, Nothing}
 use Rattle.mp_search.specs.AgentState.{AgentState, applies, successor}
@@ -160,42 +158,7 @@ module _ (t : AgentTask) (value : Numbers → Numbers → Option ℕ) (n expansi
       ∙ ap (λ (o : Option (Entry AgentState)). option_map_or (λ x. one_more expansions (all x)) o ([], record { kept = r; expansions = expansions })) (sym there)
       ∙ ap (λ (o : Option ℕ). option_map_or (λ m. option_map_or (λ x. expanded_entry t value m x (record { kept = r; expansions = expansions })) (slice_get r.entries m) ([], record { kept = r; expansions = expansions })) o ([], record { kept = r; expansions = expansions })) (sym least)
 
--- ---- what is found is one of the items
-
-leftmost_keeps : {X : Type 0} (P : X → Type 0) (before : X → X → Bool) (known : X) (xs : List X) → P known → ((x : X) → Contains xs x → P x)
-    → (f : X) → leftmost before (Some known) xs ≡ Some f → P f
-leftmost_keeps P before known [] here all f is = subst P (let same : known ≡ f = cc in same) here
-leftmost_keeps {X} P before known (x ∷ xs) here all f is =
-    leftmost_keeps P before (earlier before (Some known) x) xs (by (before x known)) (λ y found. all y (contains_tail x xs y found)) f is
-  where
-    by : (b : Bool) → P (cond b x known)
-    by true = all x (contains_head x xs)
-    by false = here
-
-leftmost_among : {X : Type 0} (P : X → Type 0) (before : X → X → Bool) (xs : List X) → ((x : X) → Contains xs x → P x)
-    → (f : X) → leftmost before None xs ≡ Some f → P f
-leftmost_among P before [] all f is = absurd (let impossible : ⊥ = cc in impossible)
-leftmost_among P before (x ∷ xs) all f is = leftmost_keeps P before x xs (all x (contains_head x xs)) (λ y found. all y (contains_tail x xs y found)) f is
-
-pub least_inside : {K : Type 0} (r : Record K) (n : ℕ) → least_open r ≡ Some n → n < length r.entries
-least_inside {K} r n least = by (first_open r.entries) refl least
-  where
-    by : (o : Option (Numbered K)) → first_open r.entries ≡ o → option_map (λ x. x.0) o ≡ Some n → n < length r.entries
-    by None found e = absurd (let impossible : ⊥ = cc in impossible)
-    by (Some x) found e =
-        let inside =
-        leftmost_among (λ (y : Numbered K). y.0 < length r.entries) is_nearer (those (λ e. is_open e.mark) r.entries)
-        (λ y among. (those_have (λ e. is_open e.mark) r.entries y among).inside) x found
-        in
-        let number : x.0 ≡ n = cc in
-        subst (λ m. m < length r.entries) number inside
-
-pub closed_length : {K : Type 0} (n : ℕ) (r : Record K) → length (closed n r).entries ≡ length r.entries
-closed_length {K} n r = by (slice_get r.entries n)
-  where
-    by : (o : Option (Entry K)) → length (option_map_or (λ (e : Entry K). record r { entries = slice_set r.entries n (record e { mark = Expanded }) }) o r).entries ≡ length r.entries
-    by None = refl
-    by (Some e) = length-set r.entries n (record e { mark = Expanded })
+-- ---- the entry that is expanded
 
 -- the entry that was closed
 pub closed_entry : {K : Type 0} (n : ℕ) (r : Record K) (old e : Entry K) → slice_get r.entries n ≡ Some old → slice_get (closed n r).entries n ≡ Some e → e ≡ record old { mark = Expanded }
@@ -206,18 +169,6 @@ closed_entry {K} n r old e there is =
     let at : slice_get (slice_set r.entries n (record old { mark = Expanded })) n ≡ Some e = ap (λ (x : Record K). slice_get x.entries n) (sym after) ∙ is in
     sym (get_or_from_slice_get (slice_set r.entries n (record old { mark = Expanded })) n e e at)
     ∙ get_or-set_same r.entries n (record old { mark = Expanded }) e (slice_get_within r.entries n old there)
-
-module _ (r : Record AgentState) (n : ℕ) (o : Option ℕ) (new : Record AgentState) (pops : (o, new) ≡ popped r) (some : o ≡ Some n) where
-  pub popped_least : least_open r ≡ Some n
-  popped_least = sym (ap (λ (x : Option ℕ × Record AgentState). x.0) pops) ∙ some
-
-  pub popped_kept : new ≡ closed n r
-  popped_kept =
-      ap (λ (x : Option ℕ × Record AgentState). x.1) pops ∙ ap (λ (o : Option ℕ). option_map_or (λ n. closed n r) o r) popped_least
-
-  pub popped_inside : n < length new.entries
-  popped_inside =
-      subst (λ (m : ℕ). n < m) (sym (ap (λ (k : Record AgentState). length k.entries) popped_kept ∙ closed_length n r)) (least_inside r n popped_least)
 
 -- ---- the expansion of the entry that was closed
 

@@ -40,3 +40,5 @@ pub mod KeyPlaces
 pub mod Offering
 -- each key has an entry
 pub mod Entries
+-- the least open entry is one of those that are kept
+pub mod Popped

@@ -1,6 +1,7 @@
 -- Lists of tags at their places.
 use Rattle.std.proofs.Common.{◌≡◌, ℕ, suc, ◌<◌, Bool, true, false, ◌&&◌, ◌||◌, cond, eqb, List, [], ◌∷◌, ◌++◌, length, get_or, position, Option, Some, None, refl, sym, ap, ◌∙◌, arith}
-use Rattle.std.specs.Prelude.{IfNone, IfSome, is_some}
+use Rattle.std.specs.Prelude.{IfNone, IfSome, is_some, slice_get}
+use Rattle.std.proofs.lemmas.Option.{get_or_from_slice_get, slice_get_within}
 use Rattle.std.specs.Bool.{Decides}
 use Rattle.std.specs.List.{list_any}
 use Rattle.std.specs.Cmp.Lexicographic.{pointwise}
@@ -26,6 +27,12 @@ found_tags tags sought None is = tt
 found_tags tags sought (Some n) is =
     let at = position-Some (same_tags sought) tags n [] (sym is) in
     (at.0, sym ((Decides-tags sought (tags_at tags n)).0 at.1))
+
+-- tags that are the same as those at a place
+pub tags_there : (tags : List (List Tag)) (sought there : List Tag) (n : ℕ) → slice_get tags n ≡ Some there → same_tags sought there ≡ true
+    → (n < length tags) × (tags_at tags n ≡ sought)
+tags_there tags sought there n at same =
+    (slice_get_within tags n there at, get_or_from_slice_get tags n there [] at ∙ sym ((Decides-tags sought there).0 same))
 
 pub none_tags : (tags : List (List Tag)) (sought : List Tag) (r : Option ℕ) → is_some r ≡ list_any (same_tags sought) tags → IfNone r ((n : ℕ) → n < length tags → tags_at tags n ≡ sought → ⊥)
 none_tags tags sought None is = λ n inside same.

@@ -1,8 +1,8 @@
 //! The keys of a store, each once.
 
-ghost use Rattle.std.specs.Prelude.{◌≡◌, ◌≤◌, ◌+◌, ◌-◌, ◌∷◌, ◌++◌, ◌<◌, ◌^◌, [], ℕ, IfNone, IfOk, IfSome, OnErr, OnOk, length, take};
+ghost use Rattle.std.specs.Prelude.{◌≡◌, ◌≤◌, ◌+◌, ◌-◌, ◌∷◌, ◌++◌, ◌<◌, ◌^◌, [], ℕ, IfNone, IfOk, IfSome, IsTrue, OnErr, OnOk, length, take};
 ghost use Rattle.mp_rows.specs.Apart.{row_at, AreOnce, IsNew};
-ghost use Rattle.mp_store.specs.KeyRows.{key_at, key_in, keys_at, no_key, tags_at, AreKeys, AreTags, HasGrown, IsKeyRow};
+ghost use Rattle.mp_store.specs.KeyRows.{key_at, key_in, keys_at, no_key, place_in, tags_at, AreKeys, AreTags, HasGrown, IsKeyRow};
 ghost use Rattle.mp_store.specs.Views.{seen_key};
 
 use crate::entry::KeyView;
@@ -20,6 +20,8 @@ pub(crate) struct Keys {
     alloc: Global,
     /// Each list of tags that a key has, once.
     tags: IndexSet<Tags>,
+    /// The place where tags are looked for first.
+    near: usize,
     /// For each key the size of its public facts, the place of its tags, the index of its own set, and the words of its
     /// public facts.
     rows: Rows,
@@ -51,6 +53,7 @@ impl Keys {
         Keys {
             alloc,
             tags: IndexSet::new(alloc),
+            near: 0,
             rows: Rows::new(alloc),
         }
     }
@@ -60,7 +63,7 @@ impl Keys {
         ensures found { IfSome result (λ n. (n < length self.now) × (key_at self.now n ≡ key.now)) }
         ensures none { IfNone result ((n : ℕ) → n < length self.now → key_at self.now n ≡ key.now → ⊥) }
     {
-        find_key(&self.tags, &self.rows, key)
+        find_key(&self.tags, self.near, &self.rows, key)
     }
 
     /// The key at a place.
@@ -72,6 +75,14 @@ impl Keys {
         view_of(self.alloc, self.tags.as_slice(), row)
     }
 
+    /// From now on tags are looked for first where those of the key at a place are.
+    pub(crate) fn aim(&mut self, place: usize)
+        requires { place < length self.old }
+        ensures { self.new ≡ self.old }
+    {
+        self.near = place_in(self.rows.row(place));
+    }
+
     /// Adds a key that is not there. For want of memory the keys stay as they were.
     pub(crate) fn push(&mut self, key: &Key) -> Result<(), OutOfMemory>
         requires { (n : ℕ) → n < length self.old → key_at self.old n ≡ key.now → ⊥ }
@@ -79,7 +90,7 @@ impl Keys {
         ensures err { OnErr result (self.new ≡ self.old) }
         ensures once { AreOnce no_key self.new }
     {
-        push_key(&mut self.tags, &mut self.rows, key)
+        push_key(&mut self.tags, self.near, &mut self.rows, key)
     }
 
     /// Takes the last key away, if there is one.
@@ -91,11 +102,24 @@ impl Keys {
     }
 }
 
-/// The place of tags: none exactly where they are not there.
-fn find_tags(tags: &IndexSet<Tags>, sought: &Tags) -> Option<usize>
+/// Whether tags are at a place.
+fn are_at(tags: &IndexSet<Tags>, place: usize, sought: &Tags) -> bool
+    ensures { IsTrue result → (place < length tags.now.keys) × (tags_at tags.now.keys place ≡ sought.now) }
+{
+    match tags.get_index(place) {
+        Some(there) => *sought == *there,
+        None => false,
+    }
+}
+
+/// The place of tags, which are looked for at a place first: none exactly where they are not there.
+fn find_tags(tags: &IndexSet<Tags>, near: usize, sought: &Tags) -> Option<usize>
     ensures found { IfSome result (λ n. (n < length tags.now.keys) × (tags_at tags.now.keys n ≡ sought.now)) }
     ensures none { IfNone result ((n : ℕ) → n < length tags.now.keys → tags_at tags.now.keys n ≡ sought.now → ⊥) }
 {
+    if are_at(tags, near, sought) {
+        return Some(near);
+    }
     tags.get_index_of(sought)
 }
 
@@ -123,14 +147,18 @@ fn add_place(tags: &mut IndexSet<Tags>, new: &Tags) -> Result<usize, OutOfMemory
     Ok(place)
 }
 
-/// The place of tags, which are added if they are not there.
-fn place_of_tags(tags: &mut IndexSet<Tags>, sought: &Tags) -> Result<usize, OutOfMemory>
+/// The place of tags, which are looked for at a place first, and added if they are not there.
+fn place_of_tags(
+    tags: &mut IndexSet<Tags>,
+    near: usize,
+    sought: &Tags,
+) -> Result<usize, OutOfMemory>
     requires { AreTags tags.old.keys }
     ensures place { IfOk result (λ n. (n < length tags.new.keys) × (tags_at tags.new.keys n ≡ sought.now)) }
     ensures tags { AreTags tags.new.keys }
     ensures grown { HasGrown tags.old.keys tags.new.keys }
 {
-    match find_tags(tags, sought) {
+    match find_tags(tags, near, sought) {
         Some(place) => Ok(place),
         None => add_place(tags, sought),
     }
@@ -153,15 +181,15 @@ fn find_row(rows: &Rows, size: u32, place: usize, mine: u64, words: &[u64]) -> O
     rows.find(&[size as u64, place as u64, mine], words)
 }
 
-/// The place of a key.
-fn find_key(tags: &IndexSet<Tags>, rows: &Rows, key: &Key) -> Option<usize>
+/// The place of a key, whose tags are looked for at a place first.
+fn find_key(tags: &IndexSet<Tags>, near: usize, rows: &Rows, key: &Key) -> Option<usize>
     requires { AreKeys tags.now.keys rows.now }
     ensures found { IfSome result (λ n. (n < length (keys_at tags.now.keys rows.now))
         × (key_at (keys_at tags.now.keys rows.now) n ≡ key.now)) }
     ensures none { IfNone result ((n : ℕ) → n < length (keys_at tags.now.keys rows.now)
         → key_at (keys_at tags.now.keys rows.now) n ≡ key.now → ⊥) }
 {
-    let Some(place) = find_tags(tags, &key.tags) else {
+    let Some(place) = find_tags(tags, near, &key.tags) else {
         return None;
     };
     find_row(rows, size_of(key), place, key.mine, key.publics.words())
@@ -182,8 +210,13 @@ fn push_row(
     rows.push(&[size as u64, place as u64, mine], words)
 }
 
-/// Adds a key that is not there.
-fn push_key(tags: &mut IndexSet<Tags>, rows: &mut Rows, key: &Key) -> Result<(), OutOfMemory>
+/// Adds a key that is not there, whose tags are looked for at a place first.
+fn push_key(
+    tags: &mut IndexSet<Tags>,
+    near: usize,
+    rows: &mut Rows,
+    key: &Key,
+) -> Result<(), OutOfMemory>
     requires keys { AreKeys tags.old.keys rows.old }
     requires new { (n : ℕ) → n < length (keys_at tags.old.keys rows.old)
         → key_at (keys_at tags.old.keys rows.old) n ≡ key.now → ⊥ }
@@ -192,7 +225,7 @@ fn push_key(tags: &mut IndexSet<Tags>, rows: &mut Rows, key: &Key) -> Result<(),
         ≡ keys_at tags.old.keys rows.old ++ key.now ∷ []) }
     ensures err { OnErr result (keys_at tags.new.keys rows.new ≡ keys_at tags.old.keys rows.old) }
 {
-    let place = place_of_tags(tags, &key.tags)?;
+    let place = place_of_tags(tags, near, &key.tags)?;
     push_row(rows, size_of(key), place, key.mine, key.publics.words())?;
     Ok(())
 }
@@ -205,6 +238,14 @@ fn size_in(word: u64) -> u32
     word as u32
 }
 
+/// The place of the tags in a row.
+fn place_in(row: &[u64]) -> usize
+    requires { 3 ≤ length row.now }
+    ensures { result ≡ place_in row.now }
+{
+    row[1] as usize
+}
+
 /// The key that a row and tags tell.
 fn view_of<'a>(alloc: Global, tags: &'a [Tags], row: &'a [u64]) -> KeyView<'a>
     requires { IsKeyRow (length tags.now) row.now }
@@ -213,6 +254,6 @@ fn view_of<'a>(alloc: Global, tags: &'a [Tags], row: &'a [u64]) -> KeyView<'a>
     KeyView {
         publics: BitsView::new(alloc, size_in(row[0]), &row[3..]),
         mine: row[2],
-        tags: &tags[row[1] as usize],
+        tags: &tags[place_in(row)],
     }
 }

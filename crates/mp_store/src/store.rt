@@ -1,6 +1,6 @@
 //! The store of one agent.
 
-ghost use Rattle.std.specs.Prelude.{◌≡◌, ◌==◌, ◌+◌, ◌<◌, ◌^◌, ◌∷◌, ◌++◌, [], ℕ, All, IfOk, IsSomeAnd, None, OnErr, OnOk, length, slice_get};
+ghost use Rattle.std.specs.Prelude.{◌≡◌, ◌==◌, ◌+◌, ◌<◌, ◌^◌, ◌∷◌, ◌++◌, [], ℕ, All, IfOk, IfSome, IsSomeAnd, None, OnErr, OnOk, length, slice_get};
 ghost use Rattle.mp_rows.specs.Apart.{AreOnce};
 ghost use Rattle.mp_store.specs.KeyRows.{key_at, no_key};
 ghost use Rattle.mp_store.specs.Keys.{same_key};
@@ -127,11 +127,13 @@ impl Store {
     }
 
     /// Closes the least open entry by f, then h, then number, and gives its number: none exactly where
-    /// none is open.
+    /// none is open. What is looked up next is looked for near it first: what it leads to has the same tags.
     pub fn pop_least(&mut self) -> Option<u64>
         ensures { (result, self.new) ≡ popped self.old }
     {
-        self.numbers.pop_least()
+        let least = self.numbers.pop_least();
+        aim(&mut self.keys, &self.numbers, least);
+        least
     }
 
     /// Notes that the state of an entry is sent, and gives it the next sent number: none exactly where
@@ -224,6 +226,17 @@ impl Store {
     {
         let key = self.numbers.entry(entry).key;
         self.numbers.offer(key, g, h, origin, goal)
+    }
+}
+
+/// From now on tags are looked for first where those of an entry are, if there is one.
+fn aim(keys: &mut Keys, numbers: &NumberStore, least: Option<u64>)
+    requires count { length keys.old ≡ numbers.now.keys }
+    requires inside { IfSome least (λ n. n < length numbers.now.kept.entries) }
+    ensures { keys.new ≡ keys.old }
+{
+    if let Some(number) = least {
+        keys.aim(numbers.entry(number).key as usize);
     }
 }
 

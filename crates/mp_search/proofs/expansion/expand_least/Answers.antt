@@ -1,4 +1,5 @@
-use Rattle.mp_search.proofs.ActionSteps.{if_expanded, popped_inside, popped_kept, popped_least}
+use Rattle.mp_store.proofs.Popped.{popped_inside, popped_kept, popped_least}
+use Rattle.mp_search.proofs.ActionSteps.{if_expanded}
 use Rattle.mp_search.proofs.expansion.expand_least.Goals as goal
 
 pub expand_entry-requires-clause-inside : goal.expand_entry-requires-clause-inside
