@@ -1,6 +1,6 @@
 //! A list that only grows at its end.
 
-ghost use Rattle.std.specs.Prelude.{◌≡◌, ◌++◌, ◌∷◌, [], ◌<◌, ◌^◌, length, slice_get, IfOk, OnOk, OnErr};
+ghost use Rattle.std.specs.Prelude.{◌≡◌, ◌++◌, ◌∷◌, [], ◌<◌, ◌^◌, length, slice_get, slice_set, IfOk, OnOk, OnErr};
 ghost use Rattle.std.specs.Option.{option_copied};
 ghost use Rattle.std.specs.Iterator.Runs.{EveryRun, ItemsMapTo};
 ghost use Rattle.std.specs.Slice.Iter.{iter_rest, iter_steps};
@@ -53,6 +53,26 @@ impl<T> List<T> {
     {
         self.items.push(item)?;
         Ok(())
+    }
+
+    /// Takes all items out. Their memory stays for items that are added later.
+    pub fn clear(&mut self)
+    where
+        T: Drop,
+        ensures { self.new ≡ [] }
+    {
+        self.items.clear();
+    }
+
+    /// Puts an item in a place, counted from 0. Where the list is not longer than that, it stays as it was.
+    pub fn set(&mut self, at: usize, item: T)
+    where
+        T: Drop,
+        ensures { self.new ≡ slice_set self.old at item }
+    {
+        if at < self.items.len() {
+            self.items[at] = item;
+        }
     }
 
     /// The number of items.

@@ -71,6 +71,22 @@ impl<T> SmallList<T> {
         }
     }
 
+    /// The empty list, with memory for this many items where they are two or more. Refuses only for want of memory.
+    pub fn with_capacity(alloc: Global, capacity: usize) -> Result<SmallList<T>, OutOfMemory>
+    where
+        T: Drop,
+        ensures { IfOk result (λ list. list ≡ []) }
+    {
+        if capacity < 2 {
+            return Ok(SmallList::new(alloc));
+        }
+        let items = Vec::with_capacity(alloc, capacity)?;
+        Ok(SmallList {
+            kept: Kept::Many(Box::new(alloc, items)?),
+            alloc,
+        })
+    }
+
     /// Adds an item at the end. For want of memory the list stays as it was.
     pub fn push(&mut self, item: T) -> Result<(), OutOfMemory>
     where

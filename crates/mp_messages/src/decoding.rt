@@ -178,7 +178,8 @@ fn costs(bytes: &[u8]) -> Option<((u64, u64, u64), &[u8])>
 fn tags(alloc: Global, count: u16, bytes: &[u8]) -> Result<(Tags, &[u8]), DecodeRefusal>
     ensures { Gives (λ x. (x.0, x.1.now)) result (tags_at count bytes.now) }
 {
-    let mut tags = Tags::new(alloc);
+    let room = (count as usize).min(bytes.len() / 9);
+    let mut tags = Tags::with_capacity(alloc, room)?;
     let mut rest = bytes;
     for _ in 0..count {
         let Some((tag, after)) = tag(rest) else {
@@ -198,7 +199,8 @@ fn facts(
 ) -> Result<(FactList, &[u8]), DecodeRefusal>
     ensures { Gives (λ x. (x.0, x.1.now)) result (facts_at publics count 0 bytes.now) }
 {
-    let mut facts = FactList::new(alloc);
+    let room = (count as usize).min(bytes.len() / 4);
+    let mut facts = FactList::with_capacity(alloc, room)?;
     let mut least = 0;
     let mut rest = bytes;
     for _ in 0..count {

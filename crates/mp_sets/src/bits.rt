@@ -61,6 +61,13 @@ impl Bits {
         Ok(made)
     }
 
+    /// Takes all members out. Takes no memory.
+    pub fn clear(&mut self)
+        ensures { self.new ≡ record { size = self.old.size; members = set.empty } }
+    {
+        self.words.fill(0);
+    }
+
     /// Makes this set equal to another one of its size. Takes no memory.
     pub fn copy_from(&mut self, other: &Bits)
         requires { self.old.size ≡ other.now.size }

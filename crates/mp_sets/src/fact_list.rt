@@ -1,6 +1,6 @@
 //! Lists of numbers that rise.
 
-ghost use Rattle.std.specs.Prelude.{◌≡◌, ◌++◌, ◌∷◌, [], length, slice_get, OnOk, OnErr};
+ghost use Rattle.std.specs.Prelude.{◌≡◌, ◌++◌, ◌∷◌, [], length, slice_get, IfOk, OnOk, OnErr};
 ghost use Rattle.std.specs.Option.{option_copied};
 ghost use Rattle.std.specs.List.Sorted.{IsStrictlyIncreasing};
 ghost use Rattle.std.specs.Prelude.{Some, refl, nat_eq};
@@ -44,6 +44,15 @@ impl FactList {
         FactList {
             numbers: SmallList::new(alloc),
         }
+    }
+
+    /// The empty list, with memory for this many numbers where they are two or more. Refuses only for want of memory.
+    pub fn with_capacity(alloc: Global, capacity: usize) -> Result<FactList, OutOfMemory>
+        ensures { IfOk result (λ list. list ≡ []) }
+    {
+        Ok(FactList {
+            numbers: SmallList::with_capacity(alloc, capacity)?,
+        })
     }
 
     /// Adds a number above the last one at the end. For want of memory the list stays as it was.
