@@ -8,6 +8,8 @@ pub mod States
 pub mod Messages
 -- loops that read one item after the other
 pub mod Loops
+-- states that are read in parts
+pub mod Parts
 -- histories that grow
 pub mod Histories
 -- what `==` answers

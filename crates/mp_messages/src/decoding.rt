@@ -37,7 +37,7 @@ impl From<OutOfMemory> for DecodeRefusal {
 }
 
 #[tactic(auto, unfolding(crate::specs::Reading::digits_at))]
-fn short_number(bytes: &[u8]) -> Option<(u32, &[u8])>
+pub(crate) fn short_number(bytes: &[u8]) -> Option<(u32, &[u8])>
     ensures { option_map (λ x. (x.0, x.1.now)) result ≡ digits_at w32 bytes.now }
 {
     if bytes.len() < 4 {
@@ -110,7 +110,7 @@ fn ending(bytes: &[u8]) -> Option<(EndKind, &[u8])>
 }
 
 #[tactic(auto, unfolding(crate::specs::Reading::tag_at))]
-fn tag(bytes: &[u8]) -> Option<(Tag, &[u8])>
+pub(crate) fn tag(bytes: &[u8]) -> Option<(Tag, &[u8])>
     ensures { option_map (λ x. (x.0, x.1.now)) result ≡ tag_at bytes.now }
 {
     let (token, rest) = number(bytes)?;
@@ -149,7 +149,7 @@ fn trace(bytes: &[u8]) -> Option<((u64, u64), &[u8])>
 }
 
 #[tactic(auto, unfolding(crate::specs::Reading::fact_at))]
-fn fact(publics: u32, least: u32, bytes: &[u8]) -> Option<(u32, &[u8])>
+pub(crate) fn fact(publics: u32, least: u32, bytes: &[u8]) -> Option<(u32, &[u8])>
     ensures value { option_map (λ x. (x.0, x.1.now)) result ≡ fact_at publics least bytes.now }
     ensures below { IfSome result (λ x. x.0 < publics) }
     ensures above { IfSome result (λ x. least ≤ x.0) }
@@ -162,8 +162,9 @@ fn fact(publics: u32, least: u32, bytes: &[u8]) -> Option<(u32, &[u8])>
 }
 
 #[tactic(auto, unfolding(crate::specs::Reading::costs_at))]
-fn costs(bytes: &[u8]) -> Option<((u64, u64, u64), &[u8])>
-    ensures { option_map (λ x. ((x.0.0, x.0.1, x.0.2), x.1.now)) result ≡ costs_at bytes.now }
+pub(crate) fn costs(bytes: &[u8]) -> Option<((u64, u64, u64), &[u8])>
+    ensures value { option_map (λ x. ((x.0.0, x.0.1, x.0.2), x.1.now)) result ≡ costs_at bytes.now }
+    ensures below { IfSome result (λ x. x.0.1 + x.0.2 < limit) }
 {
     let (sent, rest) = number(bytes)?;
     let (g, rest) = number(rest)?;

@@ -6,6 +6,7 @@ mod encoding;
 mod history;
 mod laws;
 mod message;
+mod reading;
 
 pub use decoding::{DecodeRefusal, decode};
 pub use encoding::{encode, encode_state};
@@ -15,4 +16,5 @@ pub use laws::{
     histories_grow_by_entries, messages_come_in_order, no_spelling_begins_another,
     spelling_is_one_to_one, spellings_are_read_from_left_to_right,
 };
-pub use message::{EndKind, Findings, Message, State};
+pub use message::{EndKind, Findings, Message, State, StateNumbers};
+pub use reading::decode_state_into;

@@ -18,6 +18,17 @@ pub struct State {
     pub tags: Tags,
 }
 
+/// The numbers of a state in a message.
+#[derive(Clone, Copy, Debug, PartialEq, Eq)]
+pub struct StateNumbers {
+    /// The sender's number of it.
+    pub sent: u64,
+    /// The cost of the way to it.
+    pub g: u64,
+    /// The sender's heuristic value.
+    pub h: u64,
+}
+
 impl Drop for State {
     fn drop(self) {
         let State {

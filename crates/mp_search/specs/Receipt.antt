@@ -1,5 +1,6 @@
 -- How a state from another agent is received (MAD-A*, Nissim and Brafman 2014).
-use Rattle.std.specs.Prelude.{ℕ, ◌-◌, max, nat_lt, not, Bool, length, option_map, Option, Result, Ok, Err, slice_index_or, if◌then◌else◌}
+use Rattle.std.specs.Prelude.{ℕ, ◌+◌, ◌-◌, max, nat_lt, not, Bool, List, length, option_and_then, option_map, Option, Some, None, Result, Ok, Err, slice_index_or, if◌then◌else◌}
+use Rattle.std.specs.Option.{option_map_or}
 use Rattle.std.specs.FinSet as set
 use Rattle.mp_sets.specs.declared.tag.Tag.{Tag}
 use Rattle.mp_sets.specs.Numbers.{Numbers}
@@ -7,6 +8,8 @@ use Rattle.mp_task.specs.AgentTask.{AgentTask}
 use Rattle.mp_task.specs.Met.{is_met}
 use Rattle.mp_messages.specs.declared.message.State.{State}
 use Rattle.mp_messages.specs.declared.message.Message.TheVariants as kinds
+use Rattle.mp_messages.specs.Parts.{state_in}
+use Rattle.mp_messages.specs.Reading.{message_of}
 use Rattle.mp_messages.specs.Spelling.{Fits}
 use Rattle.mp_tokens.specs.Order.{set_at}
 use Rattle.mp_store.specs.declared.entry.Origin.TheVariants.{From}
@@ -50,6 +53,12 @@ state_of t r m = record {
 abbrev pub answered : ℕ → Received × Record AgentState → Result Received ReceiveRefusal × SearchRecord
 answered expansions (answer, r) = (Ok answer, record { kept = r; expansions = expansions })
 
+-- what a receipt answers, with the sum of the state's cost and estimate where it was received
+abbrev pub with_sum :
+    ℕ → Result Received ReceiveRefusal × SearchRecord → Result (Option (Received × ℕ)) ReceiveRefusal × SearchRecord
+with_sum f (Ok answer, r) = (Ok (Some (answer, f)), r)
+with_sum f (Err e, r) = (Err e, r)
+
 module _ (t : AgentTask) (value : Numbers → Numbers → Option ℕ) where
   -- the greater of the sender's estimate and the own one, or none where there is no own one
   abbrev pub greater_value : ℕ → AgentState → Option ℕ
@@ -68,3 +77,9 @@ module _ (t : AgentTask) (value : Numbers → Numbers → Option ℕ) where
       if not (is_token_given t r.kept m) then (Err UnknownToken, r)
       else if not (is_byte_right t r.kept m) then (Err WrongByte, r)
       else answered r.expansions (received from m r.kept)
+
+  -- What it does when bytes come that may spell a state: nothing where they spell none.
+  unfoldable pub receipt_of_bytes : ℕ → List ℕ → SearchRecord → Result (Option (Received × ℕ)) ReceiveRefusal × SearchRecord
+  receipt_of_bytes from bytes r =
+      option_map_or (λ m. with_sum (m.g + m.h) (receipt from m r)) (option_and_then state_in (message_of t.agents t.publics bytes))
+      (Ok None, r)

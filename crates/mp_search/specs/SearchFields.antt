@@ -7,8 +7,9 @@ use Rattle.mp_applicable.specs.Index.{IsIndexOf}
 use Rattle.mp_search.specs.Applying.{HasRoom}
 use Rattle.mp_search.specs.declared.expansion.Index.{Index}
 use Rattle.mp_search.specs.declared.expansion.Scratch.{Scratch}
+use Rattle.mp_search.specs.declared.reached.Reached.{Reached}
 use Rattle.mp_search.specs.Search.{AgentSearch}
-use Rattle.mp_search.specs.StateKeys.{KeptStates}
+use Rattle.mp_search.specs.StateKeys.{HasSizes, KeptStates}
 use Rattle.mp_search.specs.Steps.{AreStatesOf}
 
 abbrev pub agent_search : AgentTask → ℕ → KeptStates → ℕ → Bool → AgentSearch
@@ -26,6 +27,7 @@ pub record IsSearch
     (k : KeptStates)
     (index : Index)
     (scratch : Scratch)
+    (came : Reached)
     (expansions : ℕ)
     (failed : Bool)
     : Type 0 where
@@ -35,4 +37,5 @@ pub record IsSearch
   pub actions : IsIndexOf t index.actions
   pub far : IsFarIndexOf t index.far
   pub room : failed ≡ false → HasRoom t scratch
+  pub sizes : HasSizes t.publics t.privates came
   pub states : failed ≡ false → AreStatesOf t k

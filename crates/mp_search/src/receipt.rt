@@ -3,10 +3,13 @@
 ghost use Rattle.std.specs.Prelude.{◌≡◌, ◌-◌, ℕ, false, not, if◌then◌else◌, OnOk, IfOk, slice_index_or};
 ghost use Rattle.std.specs.FinSet as set;
 ghost use Rattle.mp_task.specs.Met.{is_met};
+ghost use Rattle.mp_messages.specs.Parts.{parts, parts_of};
+ghost use Rattle.mp_store.specs.declared.entry.Origin.TheVariants.{From};
 ghost use Rattle.mp_search.specs.AgentState as agents;
 ghost use Rattle.mp_search.specs.AgentState.{no_tag};
 ghost use Rattle.mp_search.specs.Memory.{lacks_memory_for};
-ghost use Rattle.mp_search.specs.Receipt.{greater_value, offered_by, receipt, IsStateFor};
+ghost use Rattle.mp_search.specs.Offering.{offered_at};
+ghost use Rattle.mp_search.specs.Receipt.{greater_value, receipt, receipt_of_bytes, IsStateFor};
 ghost use Rattle.mp_search.specs.StateKeys.{reached_state, HasSizes};
 ghost use Rattle.mp_search.specs.Steps.{AreStatesOf};
 
@@ -14,11 +17,10 @@ use crate::answer::{ReceiveRefusal, Received};
 use crate::concern::is_met;
 use crate::offering::offer_at;
 use crate::reached::Reached;
-use crate::sending::with_tag;
 use crate::states::States;
-use mp_list::OutOfMemory;
-use mp_messages::State;
-use mp_sets::{Agent, Bits, BitsView, Tag};
+use mp_list::{Copied, OutOfMemory};
+use mp_messages::{State, StateNumbers, decode_state_into};
+use mp_sets::{Agent, Bits, BitsView, Tag, Tags};
 use mp_store::{Key, Origin};
 use mp_task::{Heuristic, Task};
 use std::alloc::Global;
@@ -30,10 +32,10 @@ pub(crate) const NO_TAG: Tag = Tag {
 };
 
 /// The tag in an agent's place.
-fn tag_of(agent: Agent, state: &State) -> Tag
-    ensures { result ≡ slice_index_or state.now.tags (agent - 1) no_tag }
+fn tag_of(agent: Agent, tags: &Tags) -> Tag
+    ensures { result ≡ slice_index_or tags.now (agent - 1) no_tag }
 {
-    match state.tags.get(agent.number() as usize - 1) {
+    match tags.get(agent.number() as usize - 1) {
         Some(tag) => *tag,
         None => NO_TAG,
     }
@@ -50,30 +52,19 @@ fn is_byte_right(task: &Task, tag: Tag, mine: &BitsView<'_>) -> bool
     !is_met(task, mine)
 }
 
-/// A state that came in a message, with an own set.
-fn reached(
-    alloc: Global,
-    task: &Task,
-    state: &State,
-    mine: &BitsView<'_>,
-) -> Result<Reached, OutOfMemory>
-    requires state { IsStateFor task.now state.now }
+/// A state whose facts and tags are as they came becomes that of the receiver, with an own set and without its own tag.
+fn enter(task: &Task, mine: &BitsView<'_>, state: &mut Reached)
     requires size { mine.now.size ≡ task.now.privates }
-    ensures state { IfOk result (λ made. reached_state made ≡ record {
-      publics = set.from_list state.now.facts;
+    requires sizes { HasSizes task.now.publics task.now.privates state.old }
+    ensures state { reached_state state.new ≡ record {
+      publics = state.old.key.publics.members;
       mine = mine.now.members;
-      tags = agents.with_tag state.now.tags task.now.me no_tag;
-    }) }
-    ensures sizes { IfOk result (λ made. HasSizes task.now.publics task.now.privates made) }
+      tags = agents.with_tag state.old.key.tags task.now.me no_tag;
+    } }
+    ensures sizes { HasSizes task.now.publics task.now.privates state.new }
 {
-    Ok(Reached {
-        key: Key {
-            publics: Bits::from_list(alloc, task.publics, &state.facts)?,
-            mine: 0,
-            tags: with_tag(alloc, &state.tags, task.me, NO_TAG)?,
-        },
-        mine: Bits::from_view(mine)?,
-    })
+    state.mine.copy_from_view(mine);
+    state.key.tags.set(task.me.number() as usize - 1, NO_TAG);
 }
 
 /// The greater of an estimate and the heuristic's, if that has one.
@@ -101,23 +92,73 @@ fn offer_received<H: Heuristic>(
     heuristic: &mut H,
     states: &mut States,
     from: Agent,
-    message: &State,
+    numbers: StateNumbers,
     state: &mut Reached,
 ) -> Result<Received, OutOfMemory>
     requires heuristic { H.is_for heuristic.old task.now }
     requires states { AreStatesOf task.now states.old }
     requires sizes { HasSizes task.now.publics task.now.privates state.old }
     ensures received { IfOk result (λ answer. (answer, states.new.kept)
-        ≡ offered_by task.now (H.value task.now) from message.now (reached_state state.old) states.old.kept) }
+        ≡ offered_at task.now (reached_state state.old) numbers.g
+        (greater_value task.now (H.value task.now) numbers.h (reached_state state.old)) (From from numbers.sent) states.old.kept) }
     ensures states { OnOk result (AreStatesOf task.now states.new) }
+    ensures sizes { HasSizes task.now.publics task.now.privates state.new }
     ensures heuristic { H.is_for heuristic.new task.now }
 {
-    let value = greater(task, heuristic, message.h, state)?;
+    let value = greater(task, heuristic, numbers.h, state)?;
     let origin = Origin::From {
         agent: from,
-        sent: message.sent,
+        sent: numbers.sent,
     };
-    offer_at(task, states, state, message.g, value, origin)
+    offer_at(task, states, state, numbers.g, value, origin)
+}
+
+/// Receives a state from another agent, whose facts and tags are as they came.
+fn receive_read<H: Heuristic>(
+    task: &Task,
+    heuristic: &mut H,
+    states: &mut States,
+    from: Agent,
+    numbers: StateNumbers,
+    state: &mut Reached,
+) -> Result<Received, ReceiveRefusal>
+    requires heuristic { H.is_for heuristic.old task.now }
+    requires states { AreStatesOf task.now states.old }
+    requires sizes { HasSizes task.now.publics task.now.privates state.old }
+    ensures receipt { (m : State) → parts numbers state.old.key.publics.members state.old.key.tags ≡ parts_of m
+        → (expansions : ℕ) → lacks_memory_for result ≡ false
+        → (result, record { kept = states.new.kept; expansions = expansions })
+        ≡ receipt task.now (H.value task.now) from m (record { kept = states.old.kept; expansions = expansions }) }
+    ensures states { lacks_memory_for result ≡ false → AreStatesOf task.now states.new }
+    ensures sizes { HasSizes task.now.publics task.now.privates state.new }
+    ensures heuristic { H.is_for heuristic.new task.now }
+{
+    let tag = tag_of(task.me, &state.key.tags);
+    let Some(mine) = states.own_set(tag.token) else {
+        return Err(ReceiveRefusal::UnknownToken);
+    };
+    if !is_byte_right(task, tag, &mine) {
+        return Err(ReceiveRefusal::WrongByte);
+    }
+    enter(task, &mine, state);
+    Ok(offer_received(task, heuristic, states, from, numbers, state)?)
+}
+
+/// A state with the facts and the tags of a message, as they came.
+fn as_it_came(alloc: Global, task: &Task, message: &State) -> Result<Reached, OutOfMemory>
+    requires { IsStateFor task.now message.now }
+    ensures facts { IfOk result (λ made. made.key.publics.members ≡ set.from_list message.now.facts) }
+    ensures tags { IfOk result (λ made. made.key.tags ≡ message.now.tags) }
+    ensures sizes { IfOk result (HasSizes task.now.publics task.now.privates) }
+{
+    Ok(Reached {
+        key: Key {
+            publics: Bits::from_list(alloc, task.publics, &message.facts)?,
+            mine: 0,
+            tags: message.tags.copy()?,
+        },
+        mine: Bits::new(alloc, task.privates)?,
+    })
 }
 
 /// Receives a state from another agent.
@@ -139,13 +180,43 @@ pub(crate) fn receive_state<H: Heuristic>(
     ensures states { lacks_memory_for result ≡ false → AreStatesOf task.now states.new }
     ensures heuristic { H.is_for heuristic.new task.now }
 {
-    let tag = tag_of(task.me, message);
-    let Some(mine) = states.own_set(tag.token) else {
-        return Err(ReceiveRefusal::UnknownToken);
+    let mut state = as_it_came(alloc, task, message)?;
+    let numbers = StateNumbers {
+        sent: message.sent,
+        g: message.g,
+        h: message.h,
     };
-    if !is_byte_right(task, tag, &mine) {
-        return Err(ReceiveRefusal::WrongByte);
+    receive_read(task, heuristic, states, from, numbers, &mut state)
+}
+
+/// Receives the state that bytes from another agent spell, and tells the sum of its cost and estimate: none exactly
+/// where they spell no state. Its facts and tags are read into a state that is there.
+pub(crate) fn receive_bytes<H: Heuristic>(
+    task: &Task,
+    heuristic: &mut H,
+    states: &mut States,
+    state: &mut Reached,
+    from: Agent,
+    bytes: &[u8],
+) -> Result<Option<(Received, u64)>, ReceiveRefusal>
+    requires heuristic { H.is_for heuristic.old task.now }
+    requires states { AreStatesOf task.now states.old }
+    requires sizes { HasSizes task.now.publics task.now.privates state.old }
+    ensures receipt { (expansions : ℕ) → lacks_memory_for result ≡ false
+        → (result, record { kept = states.new.kept; expansions = expansions })
+        ≡ receipt_of_bytes task.now (H.value task.now) from bytes.now
+        (record { kept = states.old.kept; expansions = expansions }) }
+    ensures states { lacks_memory_for result ≡ false → AreStatesOf task.now states.new }
+    ensures sizes { HasSizes task.now.publics task.now.privates state.new }
+    ensures heuristic { H.is_for heuristic.new task.now }
+{
+    let facts = &mut state.key.publics;
+    let tags = &mut state.key.tags;
+    let Some(numbers) = decode_state_into(task.agents, bytes, facts, tags)? else {
+        return Ok(None);
+    };
+    match receive_read(task, heuristic, states, from, numbers, state) {
+        Ok(answer) => Ok(Some((answer, numbers.g + numbers.h))),
+        Err(refusal) => Err(refusal),
     }
-    let mut state = reached(alloc, task, message, &mine)?;
-    Ok(offer_received(task, heuristic, states, from, message, &mut state)?)
 }

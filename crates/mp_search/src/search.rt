@@ -4,7 +4,7 @@ ghost use Rattle.std.specs.Prelude.{◌≡◌, ◌≢◌, ◌+◌, ◌<◌, ◌�
 ghost use Rattle.mp_task.specs.Limits.{most_expansions};
 ghost use Rattle.mp_applicable.specs.Far.{IsFarIndexOf};
 ghost use Rattle.mp_applicable.specs.Index.{IsIndexOf};
-ghost use Rattle.mp_search.specs.Answers.{IsExpansion, IsReceipt};
+ghost use Rattle.mp_search.specs.Answers.{IsExpansion, IsReceipt, IsReceiptOfBytes};
 ghost use Rattle.mp_search.specs.Offering.{start_record};
 ghost use Rattle.mp_search.specs.Receipt.{IsStateFor};
 ghost use Rattle.mp_search.specs.Search.{is_open_below, is_spent, may_expand, tokens_given, AgentSearch};
@@ -16,7 +16,7 @@ use crate::answer::{ExpandRefusal, ReceiveRefusal, Received, SendingList};
 use crate::expansion::{Index, Scratch, expand_least, scratch_for};
 use crate::offering::offer_at;
 use crate::reached::Reached;
-use crate::receipt::receive_state;
+use crate::receipt::{receive_bytes, receive_state};
 use crate::sending::start_state;
 use crate::states::{Shown, States};
 use mp_applicable::{ActionIndex, FarIndex};
@@ -40,6 +40,8 @@ pub struct Search<H: Heuristic> {
     states: States,
     index: Index,
     scratch: Scratch,
+    /// Where states from other agents are read, so that they take no memory of their own.
+    came: Reached,
     /// How many entries it expanded.
     expansions: u64,
     /// Memory ran out before.
@@ -56,6 +58,7 @@ impl<H: Heuristic> Drop for Search<H> {
             states: _,
             index: _,
             scratch: _,
+            came: _,
             expansions: _,
             failed: _,
         } = self;
@@ -75,7 +78,7 @@ impl<H: Heuristic> Model for Search<H> {
 
     ghost view = { λ s. agent_search s.task s.limit s.states s.expansions s.failed };
 
-    ghost invariant = { λ s. IsSearch (H.is_for s.heuristic) s.task s.limit s.states s.index s.scratch s.expansions s.failed };
+    ghost invariant = { λ s. IsSearch (H.is_for s.heuristic) s.task s.limit s.states s.index s.scratch s.came s.expansions s.failed };
 }
 
 /// The states that are kept at the start: the initial one, unless no plan leads on from it.
@@ -130,6 +133,7 @@ impl<H: Heuristic> Search<H> {
         let states = start_states(alloc, &task, &mut heuristic)?;
         let index = index_of(alloc, &task)?;
         let scratch = scratch_for(alloc, &task)?;
+        let came = start_state(alloc, &task)?;
         Ok(Search {
             alloc,
             task,
@@ -138,6 +142,7 @@ impl<H: Heuristic> Search<H> {
             states,
             index,
             scratch,
+            came,
             expansions: 0,
             failed: false,
         })
@@ -240,6 +245,34 @@ impl<H: Heuristic> Search<H> {
             &mut self.states,
             from,
             &state,
+        );
+        if let Err(ReceiveRefusal::OutOfMemory) = answer {
+            self.failed = true;
+        }
+        answer
+    }
+
+    /// Receives the state that bytes from another agent of the team spell, and tells the sum of its cost and estimate.
+    /// None exactly where they spell no state, and nothing changes then. Without memory, now or before, it answers so.
+    pub fn receive_bytes(
+        &mut self,
+        from: Agent,
+        bytes: &[u8],
+    ) -> Result<Option<(Received, u64)>, ReceiveRefusal>
+        requires team { from ≤ self.old.task.agents }
+        requires other { from ≢ self.old.task.me }
+        ensures { IsReceiptOfBytes (H.value self.old.task) self.old from bytes.now result self.new }
+    {
+        if self.failed {
+            return Err(ReceiveRefusal::OutOfMemory);
+        }
+        let answer = receive_bytes(
+            &self.task,
+            &mut self.heuristic,
+            &mut self.states,
+            &mut self.came,
+            from,
+            bytes,
         );
         if let Err(ReceiveRefusal::OutOfMemory) = answer {
             self.failed = true;

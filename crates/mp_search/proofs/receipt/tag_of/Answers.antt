@@ -7,5 +7,5 @@ use Rattle.mp_search.proofs.receipt.tag_of.Goals as goal
 
 pub returns-in-None : goal.returns-in-None
 returns-in-None c =
-    sym (none_at_place c.args.state.now.tags _ no_tag (sym c.get.ensures ∙ ap option_copied c.in-None.is))
-    ∙ ap (λ (n : ℕ). slice_index_or c.args.state.now.tags (n - 1) no_tag) c.number.ensures.number
+    sym (none_at_place c.args.tags.now _ no_tag (sym c.get.ensures ∙ ap option_copied c.in-None.is))
+    ∙ ap (λ (n : ℕ). slice_index_or c.args.tags.now (n - 1) no_tag) c.number.ensures.number
