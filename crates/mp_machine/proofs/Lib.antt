@@ -18,5 +18,7 @@ pub mod SearchSteps
 pub mod StepLemmas
 -- who may send a message, and which message bytes are
 pub mod TakingLemmas
+-- what an agent does with bytes, by what its search did with them
+pub mod BytesTaken
 -- an agent at the start can take a step
 pub mod StartLemmas

@@ -6,6 +6,8 @@ use Rattle.std.proofs.lemmas.Bool.{and_parts, eqb-false, leb-true}
 use Rattle.mp_sets.specs.Numbers.{Numbers}
 use Rattle.mp_task.specs.AgentTask.{AgentTask}
 use Rattle.mp_messages.specs.declared.message.Message.{Message}
+use Rattle.mp_messages.specs.declared.message.Message.TheVariants as kinds
+use Rattle.mp_messages.specs.declared.message.State.{State}
 use Rattle.mp_messages.specs.Reading.{message_of}
 use Rattle.mp_messages.specs.Spelling.{IsSpelling}
 use Rattle.mp_messages.proofs.Messages.{all_again, all_take}
@@ -16,7 +18,7 @@ use Rattle.mp_machine.specs.declared.refusal.BadKind.TheVariants.{NotASpelling}
 use Rattle.mp_machine.specs.AgentRecord.{AgentRecord}
 use Rattle.mp_machine.specs.LocalStep.{is_another}
 use Rattle.mp_machine.specs.MemberFields.{IsMember}
-use Rattle.mp_machine.specs.Taking.{took, took_message}
+use Rattle.mp_machine.specs.Taking.{took, took_message, took_state}
 
 pub another_of : (t : AgentTask) (m : Member) (from : ℕ) → IsMember t m → is_another t from ≡ true → IsAnother m.snapshot from
 another_of t m from of test =
@@ -61,3 +63,10 @@ module _ (t : AgentTask) (m : Member) (of : IsMember t m) (message : Message) (b
   spelled_by spelled =
       subst (λ (n : ℕ). IsSpelling n m.publics message bytes) (sym of.agents)
       (subst (λ (n : ℕ). IsSpelling t.agents n message bytes) (sym of.publics) spelled)
+
+module _ (value : Numbers → Numbers → Option ℕ) (r : AgentRecord) (from : ℕ) (bytes : List ℕ) (m : State)
+    (is : message_of r.task.agents r.task.publics bytes ≡ Some (kinds.State m)) where
+  -- a state that bytes spell is taken as they are
+  pub took_read : took_state value r from m ≡ took value r from bytes
+  unfolding took
+  took_read = ap (λ (o : Option Message). option_map_or (took_message value r from) o (Err NotASpelling)) (sym is)

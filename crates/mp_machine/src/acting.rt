@@ -18,7 +18,7 @@ use crate::snapshots::{start, take_marker, take_report};
 use crate::states::{expand, take_state};
 use crate::tracing::{take_done, take_length, take_pick, take_trace};
 use mp_messages::{DecodeRefusal, Message, decode};
-use mp_search::Search;
+use mp_search::{ReceiveRefusal, Search};
 use mp_sets::Agent;
 use mp_snapshot::Verdict;
 use mp_task::Heuristic;
@@ -151,8 +151,8 @@ fn take_message<H: Heuristic>(
     }
 }
 
-/// Takes the bytes of a message.
-fn take<H: Heuristic>(
+/// Takes the bytes of a message, of which a value is made first.
+fn take_decoded<H: Heuristic>(
     search: &mut Search<H>,
     member: &mut Member,
     from: Agent,
@@ -174,6 +174,37 @@ fn take<H: Heuristic>(
         Ok(message) => take_message(search, member, from, message, outs),
         Err(DecodeRefusal::NotAMessage) => Err(StepRefusal::Bad(BadKind::NotASpelling)),
         Err(DecodeRefusal::OutOfMemory) => Err(StepRefusal::OutOfMemory),
+    }
+}
+
+/// Takes the bytes of a message. The search itself reads a state, so that no value is made of it.
+fn take<H: Heuristic>(
+    search: &mut Search<H>,
+    member: &mut Member,
+    from: Agent,
+    bytes: &[u8],
+    outs: &mut Outs,
+) -> Result<(), StepRefusal>
+    requires ready { IsReady search.old member.old }
+    requires another { IsAnother member.old.snapshot from }
+    ensures step { IsTaken result
+        (took (H.value search.old.task) (record_of search.old member.old) from bytes.now)
+        outs.old outs.new
+        (record_of search.old member.old) (record_of search.new member.new) }
+    ensures ready { OnOk result (IsReady search.new member.new) }
+    ensures team { IsSameMember member.old member.new }
+    ensures task { search.new.task ≡ search.old.task }
+    ensures limit { search.new.limit ≡ search.old.limit }
+{
+    match search.receive_bytes(from, bytes) {
+        Ok(Some((_, f))) => {
+            member.snapshot.state_seen(from, f);
+            Ok(())
+        }
+        Ok(None) => take_decoded(search, member, from, bytes, outs),
+        Err(ReceiveRefusal::UnknownToken) => Err(StepRefusal::Bad(BadKind::UnknownToken)),
+        Err(ReceiveRefusal::WrongByte) => Err(StepRefusal::Bad(BadKind::WrongByte)),
+        Err(ReceiveRefusal::OutOfMemory) => Err(StepRefusal::OutOfMemory),
     }
 }
 
