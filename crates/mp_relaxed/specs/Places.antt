@@ -32,8 +32,8 @@ place_entries p = placed 0 p.rows.items
 
 -- there are the rows that there should be, and those below the least number, and from the end on, are empty
 pub record AreRows (p : Inside) : Type 0 where
-  pub many : length p.rows.items ≡ 256
-  pub within : p.end ≤ 256
+  pub many : length p.rows.items ≡ 128
+  pub within : p.end ≤ 128
   pub in_order : p.least ≤ p.end
   pub below : AreEmptyWithin 0 p.least p.rows.items
-  pub above : AreEmptyWithin p.end 256 p.rows.items
+  pub above : AreEmptyWithin p.end 128 p.rows.items

@@ -10,11 +10,11 @@ use std::alloc::Global;
 use std::marker::Model;
 
 /// How many numbers have a row.
-pub(crate) const ROWS: usize = 256;
+pub(crate) const ROWS: usize = 128;
 
 /// So many empty rows.
 fn empty_rows(alloc: Global) -> Result<Vec<Vec<u32>>, OutOfMemory>
-    ensures { IfOk result (λ rows. (vec_len rows ≡ 256) × AreEmpty rows.items) }
+    ensures { IfOk result (λ rows. (vec_len rows ≡ 128) × AreEmpty rows.items) }
 {
     let mut rows = Vec::with_capacity(alloc, ROWS)?;
     for _ in 0..ROWS {
@@ -101,7 +101,7 @@ impl Places {
 
     /// One more entry. Refuses only for want of memory.
     pub(crate) fn push(&mut self, number: usize, fact: u32) -> Result<(), OutOfMemory>
-        requires { number < 256 }
+        requires { number < 128 }
         ensures { OnOk result (IsPermutation (key number fact ∷ self.old) self.new) }
     {
         self.rows[number].push(fact)?;
@@ -115,7 +115,7 @@ impl Places {
     pub(crate) fn pop(&mut self) -> Option<(u64, u32)>
         ensures entry { IfSome result (λ e. IsPermutation self.old (key e.0 e.1 ∷ self.new)) }
         ensures least { IfSome result (λ e. AreFrom e.0 self.old) }
-        ensures small { IfSome result (λ e. e.0 < 256) }
+        ensures small { IfSome result (λ e. e.0 < 128) }
         ensures none { IfNone result ((self.old ≡ []) × (self.new ≡ [])) }
     {
         let least = next_row(self.rows.as_slice(), self.least, self.end);

@@ -15,7 +15,7 @@ returns-then-least-self-clause-none c =
     let many = c.self.invariant.many in
     let last = c.self.inside.end in
     let below : AreEmptyWithin 0 last rows = subst (λ (k : ℕ). AreEmptyWithin 0 k rows) (omega arith) (empty_joined rows c.self.inside.least n c.self.invariant.below passed) in
-    let none = placed_none 0 rows (empty_all rows 256 (omega arith) (empty_joined rows last 256 below c.self.invariant.above)) in
+    let none = placed_none 0 rows (empty_all rows 128 (omega arith) (empty_joined rows last 128 below c.self.invariant.above)) in
     (sym c.self.view_is ∙ none, none)
 
 pub returns-clause-entry : goal.returns-clause-entry
