@@ -1,6 +1,6 @@
 -- in reading order: lists in an order by their members; members and places of lists; parted lists; numbers of facts as
 -- places; texts in order; facts that are the same; numbers of names; what instances cost; what actions
--- stand for; what is grounded in numbers by names
+-- stand for; what is grounded in numbers by names; its counts
 pub mod Rising
 pub mod Members
 pub mod Parted
@@ -12,3 +12,4 @@ pub mod NumberBounds
 pub mod CheapActions
 pub mod Steps
 pub mod Standing
+pub mod Counts

@@ -38,9 +38,10 @@ use Rattle.mp_views.specs.Sorted.{sorted_once}
 use Rattle.mp_views.proofs.SortedLaws.{texts_rise, same_texts}
 use Rattle.mp_grounder.specs.Checked.{IsChecked}
 use Rattle.mp_grounder.specs.Counted.{counted_facts, named_goals, signed_cmp}
-use Rattle.mp_grounder.specs.Grounding.{GroundedInstance, named_instance}
-use Rattle.mp_grounder.specs.Listing.{AreNumbered, IsListing}
-use Rattle.mp_grounder.specs.Named.{signed_fact, step_of, IsOfFactor}
+use Rattle.mp_grounder.specs.Grounding.{GroundedInstance}
+use Rattle.mp_grounder.specs.Listing.{IsListing}
+use Rattle.mp_grounder.specs.Named.{step_of}
+use Rattle.mp_grounder.specs.Numbered.{named_instance, AreNumbered, signed_fact, IsOfFactor}
 use Rattle.mp_grounder.proofs.Counted.{all_counted}
 use Rattle.mp_grounder.proofs.Grounding.{instances_stand}
 use Rattle.mp_grounder.proofs.Listed.{listed}

@@ -2,6 +2,8 @@
 pub mod Places
 -- the grounded factor of an agent
 pub mod Grounded
+-- which refusal is answered
+pub mod Refusals
 -- the counts that are limited
 pub mod Limits
 -- what a factor in numbers becomes

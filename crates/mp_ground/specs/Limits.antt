@@ -1,24 +1,26 @@
--- The counts of grounding that are limited, and what is answered where one passes its limit.
-use Rattle.std.specs.Prelude.{◌≡◌, ◌<◌, ◌≤◌, ◌+◌, ℕ, length, All}
+-- The counts of grounding that are limited, by names, and what is answered where one passes its limit.
+use Rattle.std.specs.Prelude.{◌≤◌, ◌+◌, ℕ, length, All}
+use Rattle.std.specs.Set.{distinct_count}
 use Rattle.mp_task.specs.Limits.{ActFits, AllLess}
-use Rattle.mp_lifted.specs.Factors.{lifted_factor}
-use Rattle.mp_instances.specs.Counts.{tries as tries_of}
-use Rattle.mp_instances.specs.Instances.{instances}
-use Rattle.mp_ground_facts.specs.Ground.{facts_of}
+use Rattle.mp_grounder.specs.Grounding.{grounded}
+use Rattle.mp_grounder.specs.Tried.{tries as tries_of}
 use Rattle.mp_ground.specs.declared.refusal.GroundRefusal.{GroundRefusal}
-use Rattle.mp_ground.specs.declared.refusal.GroundRefusal.TheVariants.{TooManyTries, TooManyActions, TooManyFacts, OutOfMemory}
 use Rattle.mp_ground.specs.declared.grounded.Ground.{Ground}
-use Rattle.mp_ground.specs.Grounded.{Known}
+use Rattle.mp_ground.specs.Grounded.{Known, counted, setting}
+use Rattle.mp_ground.specs.Places.{same_signed}
+use Rattle.mp_ground.specs.Refusals.{IsRefusedAt}
 
--- the tried bindings, the ground actions, and the facts and complements that these touch or goals name
+-- the tried bindings
 abbrev pub tries : Known → ℕ
-tries k = tries_of (lifted_factor k.factor k.view)
+tries k = tries_of k.me k.factor (setting k)
 
+-- the ground actions
 abbrev pub actions : Known → ℕ
-actions k = length (instances (lifted_factor k.factor k.view))
+actions k = length (grounded k.me k.factor (setting k))
 
+-- the facts and complements that these touch or goals name, each once
 abbrev pub facts : Known → ℕ
-facts k = length (facts_of (lifted_factor k.factor k.view) (instances (lifted_factor k.factor k.view)))
+facts k = distinct_count same_signed (counted k)
 
 -- no count passes its limit
 pub record IsWithin (k : Known) : Type 0 where
@@ -26,14 +28,9 @@ pub record IsWithin (k : Known) : Type 0 where
   pub actions : actions k ≤ 200000
   pub facts : facts k ≤ 65535
 
--- A refusal is the first of these that holds, with the whole count; want of memory may come anywhere.
+-- the refusal of what an agent grounds
 abbrev pub IsRefusedBy : Known → GroundRefusal → Type 0
-IsRefusedBy k (TooManyTries agent) = (agent ≡ k.me) × (50000000 < tries k)
-IsRefusedBy k (TooManyActions agent n) =
-    (agent ≡ k.me) × (tries k ≤ 50000000) × (n ≡ actions k) × (200000 < n)
-IsRefusedBy k (TooManyFacts agent n) =
-    (agent ≡ k.me) × (tries k ≤ 50000000) × (actions k ≤ 200000) × (n ≡ facts k) × (65535 < n)
-IsRefusedBy k OutOfMemory = Unit {0}
+IsRefusedBy k refusal = IsRefusedAt k.me (tries k) (actions k) (facts k) refusal
 
 -- a grounded factor keeps the limits of the program, and its numbers are those of facts that it has
 pub record KeepsLimits (g : Ground) : Type 0 where

@@ -1,15 +1,13 @@
 //! Grounding the factor of an agent.
 
 ghost use Rattle.std.specs.Prelude.{◌≡◌, ◌≤◌, length, IfOk, IfErr};
-ghost use Rattle.mp_factor.specs.declared.factor.Factor.{Factor};
-ghost use Rattle.mp_lifted.specs.declared.view.OpenView.{OpenView as View};
-ghost use Rattle.mp_lifted.specs.Factors.{lifted_factor};
 ghost use Rattle.mp_instances.specs.Costs.{HasSmallCosts};
 ghost use Rattle.mp_instances.specs.Counts.{tries};
 ghost use Rattle.mp_instances.specs.Instances.{instances as instances_of};
 ghost use Rattle.mp_ground_facts.specs.Ground.{facts_of};
 ghost use Rattle.mp_ground.specs.Grounded.{IsGrounded};
 ghost use Rattle.mp_ground.specs.Limits.{IsRefusedBy, IsWithin, KeepsLimits};
+ghost use Rattle.mp_ground.specs.Refusals.{IsRefusedAt};
 
 use crate::grounded::Ground;
 use crate::names::fact_names;
@@ -33,8 +31,8 @@ fn all_instances(
     requires { HasSmallCosts lifted.now }
     ensures given { IfOk result (λ list. list ≡ instances_of lifted.now) }
     ensures within { IfOk result (λ list. (tries lifted.now ≤ 50000000) × (length list ≤ 200000)) }
-    ensures refused { (factor : Factor) (view : View) → lifted.now ≡ lifted_factor factor view
-        → IfErr result (IsRefusedBy (record { me = me; factor = factor; view = view })) }
+    ensures refused { IfErr result (IsRefusedAt me (tries lifted.now) (length (instances_of lifted.now))
+        (length (facts_of lifted.now (instances_of lifted.now)))) }
 {
     match instances(alloc, lifted) {
         Ok(list) => Ok(list),
@@ -56,8 +54,8 @@ fn numbered(
     requires few { length list.now ≤ 200000 }
     ensures given { IfOk result (λ facts. facts.keys ≡ facts_of lifted.now (instances_of lifted.now)) }
     ensures within { IfOk result (λ facts. length facts.keys ≤ 65535) }
-    ensures refused { (factor : Factor) (view : View) → lifted.now ≡ lifted_factor factor view
-        → IfErr result (IsRefusedBy (record { me = me; factor = factor; view = view })) }
+    ensures refused { IfErr result (IsRefusedAt me (tries lifted.now) (length (instances_of lifted.now))
+        (length (facts_of lifted.now (instances_of lifted.now)))) }
 {
     match numbered_facts(alloc, lifted, list) {
         Ok(facts) => Ok(facts),

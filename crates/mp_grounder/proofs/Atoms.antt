@@ -25,7 +25,8 @@ use Rattle.mp_lifted.specs.Lifting.{parameter_in, lifted_term, lifted_atom, lift
 use Rattle.mp_lifted.specs.Vocabulary.{vocabulary_of}
 use Rattle.mp_lifted.proofs.DeclaredNames.{first_named}
 use Rattle.mp_lifted.specs.Atoms.{object_at, atom_at, atoms_at}
-use Rattle.mp_grounder.specs.Named.{named_fact, named_objects, IsBinding, IsInRange}
+use Rattle.mp_grounder.specs.Named.{named_objects}
+use Rattle.mp_grounder.specs.Numbered.{named_fact, IsBinding, IsInRange}
 use Rattle.mp_grounder.proofs.Distinct.{names_in}
 use Rattle.mp_grounder.proofs.Lists.{filter_of_map, all_some}
 use Rattle.mp_grounder.proofs.Numbered.{IsPlace}

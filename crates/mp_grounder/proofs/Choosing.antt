@@ -18,8 +18,9 @@ use Rattle.mp_joint.specs.FactorContribution.{may_stand, may_stand_for}
 use Rattle.mp_lifted.specs.Lifting.{members_of}
 use Rattle.mp_lifted.specs.Vocabulary.{vocabulary_of}
 use Rattle.mp_bindings.specs.Bindings.{product}
-use Rattle.mp_grounder.specs.Grounding.{choices, members_by_name}
-use Rattle.mp_grounder.specs.Named.{named_objects, IsObject, IsBinding}
+use Rattle.mp_grounder.specs.Grounding.{members_by_name}
+use Rattle.mp_grounder.specs.Named.{named_objects}
+use Rattle.mp_grounder.specs.Numbered.{IsObject, IsBinding}
 use Rattle.mp_grounder.proofs.Distinct.{AreDistinct}
 use Rattle.mp_grounder.proofs.Facts.{objects_distinct}
 use Rattle.mp_grounder.proofs.Numbered.{named_at}
@@ -164,10 +165,10 @@ each_named factor (n ∷ ns) bs =
     (λ i. before_named factor n bs i ++ each_named factor ns bs i)
     ∙ sym (map-append (named_objects factor) (map (λ b. n ∷ b) bs) (flat_map (λ x. map (λ b. x ∷ b) bs) ns))
 
-pub choices_are : (factor : Factor) (params : List Typed)
-    → choices (map (members_by_name factor) params) ≡ map (named_objects factor) (product (map (members_of factor) params))
-unfolding product choices
-choices_are factor [] = refl
-choices_are factor (p ∷ ps) =
-    (λ i. flat_map (λ name. map (λ rest. name ∷ rest) (choices_are factor ps i)) (members_named factor p i))
+pub products_named : (factor : Factor) (params : List Typed)
+    → product (map (members_by_name factor) params) ≡ map (named_objects factor) (product (map (members_of factor) params))
+unfolding product
+products_named factor [] = refl
+products_named factor (p ∷ ps) =
+    (λ i. flat_map (λ name. map (λ rest. name ∷ rest) (products_named factor ps i)) (members_named factor p i))
     ∙ each_named factor (members_of factor p) (product (map (members_of factor) ps))

@@ -25,7 +25,8 @@ use Rattle.mp_lifted.specs.Lifting.{is_total_cost, lifted_term, lifted_amount, a
 use Rattle.mp_lifted.specs.Vocabulary.{vocabulary_of}
 use Rattle.mp_lifted.specs.Atoms.{object_at, same_atom}
 use Rattle.mp_instances.specs.Costs.{amount_at, cost_at}
-use Rattle.mp_grounder.specs.Named.{named_objects, IsBinding}
+use Rattle.mp_grounder.specs.Named.{named_objects}
+use Rattle.mp_grounder.specs.Numbered.{IsBinding}
 use Rattle.mp_grounder.proofs.Atoms.{AreNumbers, terms_stand, ground_terms_stand}
 use Rattle.mp_grounder.proofs.Facts.{objects_distinct}
 use Rattle.mp_grounder.proofs.Numbered.{same_lists, same_numbers}

@@ -22,7 +22,7 @@ use Rattle.mp_instances.specs.Instances.{suits, binding_of, instances_of, instan
 use Rattle.mp_ground_facts.specs.Facts.{plain, complement, has_complement}
 use Rattle.mp_ground_facts.specs.Touched.{needed, added, deleted, touched, of_action, goal_facts, counted}
 use Rattle.mp_grounder.specs.Checked.{IsChecked}
-use Rattle.mp_grounder.specs.Named.{numbered_action, IsBinding, IsInRange, IsInstance, IsOfFactor}
+use Rattle.mp_grounder.specs.Numbered.{numbered_action, IsBinding, IsInRange, IsInstance, IsOfFactor}
 use Rattle.mp_grounder.proofs.Atoms.{atoms_stand, ground_atoms_stand, some_stand}
 use Rattle.mp_grounder.proofs.Choosing.{IsChoice, products_are_choices}
 use Rattle.mp_grounder.proofs.Lists.{all_some}

@@ -13,7 +13,8 @@ use Rattle.mp_joint.specs.FactorContribution.{privates_of}
 use Rattle.mp_lifted.specs.declared.lifted.GroundAtom.{GroundAtom}
 use Rattle.mp_lifted.specs.Vocabulary.{vocabulary_of}
 use Rattle.mp_lifted.specs.Atoms.{same_atom, is_among}
-use Rattle.mp_grounder.specs.Named.{named_fact, named_objects, IsInRange}
+use Rattle.mp_grounder.specs.Named.{named_objects}
+use Rattle.mp_grounder.specs.Numbered.{named_fact, IsInRange}
 use Rattle.mp_grounder.proofs.Distinct.{AreDistinct, first_distinct}
 use Rattle.mp_grounder.proofs.Numbered.{same_places, same_lists}
 use Rattle.mp_grounder.proofs.Parts.{HasParts}

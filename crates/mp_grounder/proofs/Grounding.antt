@@ -21,9 +21,10 @@ use Rattle.mp_bindings.specs.Bindings.{product}
 use Rattle.mp_instances.specs.Instances.{suits, binding_of, instances_of, instances}
 use Rattle.mp_ground_facts.specs.Touched as touched
 use Rattle.mp_grounder.specs.Checked.{IsChecked}
-use Rattle.mp_grounder.specs.Grounding.{choices, members_by_name, step_with, grounded_at, grounded_of, grounded, grounded_instance, named_instance}
-use Rattle.mp_grounder.specs.Named.{action_names, named_objects, signed_fact, numbered_action, IsBinding}
-use Rattle.mp_grounder.proofs.Choosing.{IsChoice, products_are_choices, choices_are}
+use Rattle.mp_grounder.specs.Grounding.{members_by_name, step_with, grounded_at, grounded_of, grounded, grounded_instance}
+use Rattle.mp_grounder.specs.Named.{action_names, named_objects}
+use Rattle.mp_grounder.specs.Numbered.{named_instance, signed_fact, numbered_action, IsBinding}
+use Rattle.mp_grounder.proofs.Choosing.{IsChoice, products_are_choices, products_named}
 use Rattle.mp_grounder.proofs.Costs.{same_cost}
 use Rattle.mp_grounder.proofs.Lists.{map_of_some, map_of_given, given_same, given_of_map}
 use Rattle.mp_grounder.proofs.Needed.{needed_stand, added_stand, deleted_stand}
@@ -137,8 +138,8 @@ one_action agent factor view place s checked parts at h =
     (λ b. option_map (named_instance agent factor lifted) (if suits lifted action b then binding_of lifted place action b else None))
     (λ b. option_map (grounded_instance setting) (grounded_at agent factor setting s (named_objects factor b)))
     bindings (products_are_choices factor s.params) (λ b c. one_choice agent factor view place s b checked parts at h c)
-    ∙ sym (map_of_given (grounded_instance setting) (grounded_at agent factor setting s) (choices (map (members_by_name factor) s.params))
-    ∙ ap (filter_map (λ names. option_map (grounded_instance setting) (grounded_at agent factor setting s names))) (choices_are factor s.params)
+    ∙ sym (map_of_given (grounded_instance setting) (grounded_at agent factor setting s) (product (map (members_by_name factor) s.params))
+    ∙ ap (filter_map (λ names. option_map (grounded_instance setting) (grounded_at agent factor setting s names))) (products_named factor s.params)
     ∙ given_of_map (named_objects factor) (λ names. option_map (grounded_instance setting) (grounded_at agent factor setting s names)) bindings)
 
 -- all actions from a place on

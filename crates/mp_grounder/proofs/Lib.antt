@@ -1,7 +1,7 @@
 -- in reading order: lists of names of which none comes twice; names by their numbers; what a checked factor is known
 -- for; facts and their atoms; small costs; lists that are mapped and filtered; atoms in numbers and facts by names;
 -- what instances need, add and delete; the texts of facts; the start; costs; static preconditions; lists of member
--- objects; all instances; what is in range; the counted facts; their listing by names
+-- objects; all instances; what is in range; the counted facts; their listing by names; what is tried
 pub mod Distinct
 pub mod Numbered
 pub mod Parts
@@ -19,3 +19,4 @@ pub mod Grounding
 pub mod Counted
 pub mod Ordered
 pub mod Listed
+pub mod Tried

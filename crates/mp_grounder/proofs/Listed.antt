@@ -18,8 +18,8 @@ use Rattle.mp_ground_facts.specs.Facts.{fact_cmp}
 use Rattle.mp_ground_facts.specs.Touched.{counted}
 use Rattle.mp_grounder.specs.Checked.{IsChecked}
 use Rattle.mp_grounder.specs.Counted.{counted_facts, signed_cmp}
-use Rattle.mp_grounder.specs.Listing.{IsListing, AreNumbered}
-use Rattle.mp_grounder.specs.Named.{signed_fact, IsOfFactor}
+use Rattle.mp_grounder.specs.Listing.{IsListing}
+use Rattle.mp_grounder.specs.Numbered.{AreNumbered, signed_fact, IsOfFactor}
 use Rattle.mp_grounder.proofs.Counted.{all_counted}
 use Rattle.mp_grounder.proofs.Ordered.{counted_stand, same_order}
 use Rattle.mp_grounder.proofs.Parts.{HasParts, parts_of}

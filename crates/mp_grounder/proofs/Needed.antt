@@ -24,7 +24,8 @@ use Rattle.mp_lifted.specs.Atoms.{atoms_at, is_among}
 use Rattle.mp_lifted.specs.Start.{is_so}
 use Rattle.mp_ground_facts.specs.Facts.{plain, complement, has_complement}
 use Rattle.mp_ground_facts.specs.Touched.{needed, added, deleted, goal_facts}
-use Rattle.mp_grounder.specs.Named.{named_fact, named_objects, signed_fact, numbered_action, IsBinding, IsInRange}
+use Rattle.mp_grounder.specs.Named.{named_objects}
+use Rattle.mp_grounder.specs.Numbered.{named_fact, signed_fact, numbered_action, IsBinding, IsInRange}
 use Rattle.mp_grounder.proofs.Atoms.{AreFacts, atoms_stand, ground_atoms_stand, some_stand}
 use Rattle.mp_grounder.proofs.Facts.{same_among}
 use Rattle.mp_grounder.proofs.Lists.{filter_same}

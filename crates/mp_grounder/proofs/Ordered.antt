@@ -23,8 +23,7 @@ use Rattle.mp_ground_facts.specs.Facts.{fact_cmp, atom_of}
 use Rattle.mp_ground_facts.specs.Touched.{needed, added, deleted, touched, of_action, goal_facts, counted}
 use Rattle.mp_grounder.specs.Checked.{IsChecked}
 use Rattle.mp_grounder.specs.Counted.{touched_by, counted_facts, signed_cmp}
-use Rattle.mp_grounder.specs.Grounding.{named_instance}
-use Rattle.mp_grounder.specs.Named.{signed_fact, IsOfFactor}
+use Rattle.mp_grounder.specs.Numbered.{named_instance, signed_fact, IsOfFactor}
 use Rattle.mp_grounder.proofs.Facts.{different_facts, objects_distinct}
 use Rattle.mp_grounder.proofs.Grounding.{instances_stand}
 use Rattle.mp_grounder.proofs.Needed.{goals_stand}

@@ -15,7 +15,8 @@ use Rattle.mp_lifted.specs.Vocabulary.{vocabulary_of}
 use Rattle.mp_lifted.specs.Atoms.{is_among}
 use Rattle.mp_lifted.specs.Start.{is_so, is_private, is_true_at_start}
 use Rattle.mp_grounder.specs.Checked.{IsChecked}
-use Rattle.mp_grounder.specs.Named.{named_fact, named_objects, IsInRange}
+use Rattle.mp_grounder.specs.Named.{named_objects}
+use Rattle.mp_grounder.specs.Numbered.{named_fact, IsInRange}
 use Rattle.mp_grounder.proofs.Atoms.{ground_atoms_stand}
 use Rattle.mp_grounder.proofs.Facts.{same_among}
 use Rattle.mp_grounder.proofs.Needed.{flag_at}

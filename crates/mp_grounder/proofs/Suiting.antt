@@ -26,7 +26,8 @@ use Rattle.mp_lifted.specs.Atoms.{atom_at}
 use Rattle.mp_lifted.specs.Start.{is_true_at_start}
 use Rattle.mp_instances.specs.Instances.{is_known_term, is_known, suits}
 use Rattle.mp_grounder.specs.Checked.{IsChecked}
-use Rattle.mp_grounder.specs.Named.{named_objects, numbered_action, IsBinding}
+use Rattle.mp_grounder.specs.Named.{named_objects}
+use Rattle.mp_grounder.specs.Numbered.{numbered_action, IsBinding}
 use Rattle.mp_grounder.proofs.Atoms.{atom_stands}
 use Rattle.mp_grounder.proofs.Parts.{IsDeclared, IsAtom, IsSchema, HasParts}
 use Rattle.mp_grounder.proofs.Starts.{same_start}

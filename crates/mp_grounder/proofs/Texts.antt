@@ -25,7 +25,8 @@ use Rattle.mp_lifted.specs.Vocabulary.{vocabulary_of}
 use Rattle.mp_lifted.specs.Atoms.{same_atom, is_among}
 use Rattle.mp_sexp.proofs.NamesAt.{name_at_number}
 use Rattle.mp_grounder.specs.Checked.{IsChecked}
-use Rattle.mp_grounder.specs.Named.{named_fact, named_objects, IsInRange}
+use Rattle.mp_grounder.specs.Named.{named_objects}
+use Rattle.mp_grounder.specs.Numbered.{named_fact, IsInRange}
 use Rattle.mp_grounder.proofs.Distinct.{AreDistinct}
 use Rattle.mp_grounder.proofs.Facts.{objects_distinct, same_atom_is}
 use Rattle.mp_grounder.proofs.Lists.{all_some}

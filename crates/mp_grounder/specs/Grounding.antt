@@ -1,5 +1,5 @@
 -- The grounded actions of an agent's factor, by names.
-use Rattle.std.specs.Prelude.{ℕ, List, [], ◌∷◌, map, filter, Option, Some, None, option_and_then, if◌then◌else◌}
+use Rattle.std.specs.Prelude.{ℕ, List, map, filter, Option, Some, None, option_and_then, if◌then◌else◌}
 use Rattle.std.specs.List.{flat_map, filter_map}
 use Rattle.mp_factor.specs.declared.factor.Factor.{Factor}
 use Rattle.mp_factor.specs.declared.typed_values.Typed.{Typed}
@@ -13,10 +13,7 @@ use Rattle.mp_joint.specs.Fact.{Text}
 use Rattle.mp_joint.specs.FactorContribution.{instance_of_schema}
 use Rattle.mp_joint.specs.Grounded.{Setting, suits_start, needed, added, deleted}
 use Rattle.mp_joint.specs.Instance.{Instance}
-use Rattle.mp_lifted.specs.declared.lifted.LiftedFactor.{LiftedFactor}
-use Rattle.mp_lifted.specs.Binding.{ActionBinding}
-use Rattle.mp_ground_facts.specs.Touched as numbered
-use Rattle.mp_grounder.specs.Named.{step_of, signed_fact}
+use Rattle.mp_bindings.specs.Bindings.{product}
 
 -- an action with objects for its parameters, as a plan names it, and its instance
 pub record GroundedStep : Type 0 where
@@ -30,11 +27,6 @@ pub record GroundedInstance : Type 0 where
   pub pre : List SignedFact
   pub add : List SignedFact
   pub del : List SignedFact
-
--- all lists with one name from each list in its turn, in lexicographic order
-unfoldable pub choices : List (List Text) → List (List Text)
-choices [] = [] ∷ []
-choices (names ∷ others) = flat_map (λ name. map (λ rest. name ∷ rest) (choices others)) names
 
 -- the objects that may stand for a parameter, in object order
 abbrev pub members_by_name : Factor → Typed → List Text
@@ -57,7 +49,7 @@ grounded_at agent factor setting schema objects =
 -- the instances of an action, by its objects in object order
 abbrev pub grounded_of : ℕ → Factor → Setting → Schema → List GroundedStep
 grounded_of agent factor setting schema =
-    filter_map (grounded_at agent factor setting schema) (choices (map (members_by_name factor) schema.params))
+    filter_map (grounded_at agent factor setting schema) (product (map (members_by_name factor) schema.params))
 
 -- the instances of all actions, in the order of the file
 abbrev pub grounded : ℕ → Factor → Setting → List GroundedStep
@@ -71,15 +63,4 @@ grounded_instance setting g =
       pre = needed setting g.instance;
       add = added setting g.instance;
       del = deleted setting g.instance;
-    }
-
--- an instance in numbers, by the names that its numbers stand for
-abbrev pub named_instance : ℕ → Factor → LiftedFactor → ActionBinding → GroundedInstance
-named_instance agent factor lifted i =
-    record {
-      step = step_of agent factor i;
-      cost = i.cost;
-      pre = map (signed_fact agent factor) (numbered.of_action lifted numbered.needed i);
-      add = map (signed_fact agent factor) (numbered.of_action lifted numbered.added i);
-      del = map (signed_fact agent factor) (numbered.of_action lifted numbered.deleted i);
     }

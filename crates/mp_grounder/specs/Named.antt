@@ -1,25 +1,11 @@
--- What the numbers of a factor stand for.
-use Rattle.std.specs.Prelude.{ℕ, ◌≡◌, ◌<◌, not, List, map, length, All, Some, slice_get}
+-- The steps that the numbers of a factor stand for.
+use Rattle.std.specs.Prelude.{ℕ, List, map}
 use Rattle.mp_factor.specs.declared.factor.Factor.{Factor}
-use Rattle.mp_factor.specs.declared.typed_values.Typed.{Typed}
-use Rattle.mp_factor.specs.declared.schema_values.Schema.{Schema}
 use Rattle.mp_sexp.specs.Numbers.{name_at}
-use Rattle.mp_joint.specs.declared.fact.NamedFact.{NamedFact}
-use Rattle.mp_joint.specs.declared.fact.SignedFact.{SignedFact}
 use Rattle.mp_joint.specs.declared.plan.PlanStep.{PlanStep}
-use Rattle.mp_joint.specs.Fact.{Text, named}
-use Rattle.mp_joint.specs.FactorContribution.{privates_of}
-use Rattle.mp_lifted.specs.declared.lifted.GroundAtom.{GroundAtom}
-use Rattle.mp_lifted.specs.declared.lifted.LiftedAction.{LiftedAction}
-use Rattle.mp_lifted.specs.declared.view.OpenView.{OpenView}
-use Rattle.mp_lifted.specs.Factors.{lifted_factor}
-use Rattle.mp_lifted.specs.Lifting.{lifted_action}
-use Rattle.mp_lifted.specs.Views.{is_changed}
+use Rattle.mp_joint.specs.Fact.{Text}
 use Rattle.mp_lifted.specs.Vocabulary.{vocabulary_of}
 use Rattle.mp_lifted.specs.Binding.{ActionBinding}
-use Rattle.mp_lifted.specs.Start.{is_private}
-use Rattle.mp_ground_facts.specs.declared.fact.GroundFact.{GroundFact}
-use Rattle.mp_ground_facts.specs.Facts.{atom_of}
 
 -- the names of the actions, in the order of the file
 abbrev pub action_names : Factor → List Text
@@ -29,16 +15,6 @@ action_names factor = map (λ s. s.word.name) factor.domain.schemas
 abbrev pub named_objects : Factor → List ℕ → List Text
 named_objects factor numbers = map (name_at (vocabulary_of factor).objects) numbers
 
--- the fact of an agent that an atom stands for
-abbrev pub named_fact : ℕ → Factor → GroundAtom → NamedFact
-named_fact agent factor a =
-    named agent (privates_of factor) (name_at (vocabulary_of factor).predicates a.symbol) (named_objects factor a.args)
-
--- a fact, or the complement of one
-abbrev pub signed_fact : ℕ → Factor → GroundFact → SignedFact
-signed_fact agent factor f =
-    record { positive = not f.is_complement; fact = named_fact agent factor (atom_of f) }
-
 -- the step of an agent that an action, by its place, and objects stand for
 abbrev pub step_at : ℕ → Factor → ℕ → List ℕ → PlanStep
 step_at agent factor action objects =
@@ -46,33 +22,3 @@ step_at agent factor action objects =
 
 abbrev pub step_of : ℕ → Factor → ActionBinding → PlanStep
 step_of agent factor i = step_at agent factor i.action i.objects
-
--- an object's number is below their count
-abbrev pub IsObject : Factor → ℕ → Type 0
-IsObject factor number = number < length (vocabulary_of factor).objects
-
--- the numbers of an atom are those of a predicate and of objects
-pub record IsInRange (factor : Factor) (a : GroundAtom) : Type 0 where
-  pub symbol : a.symbol < length (vocabulary_of factor).predicates
-  pub args : All (IsObject factor) a.args
-
--- objects of the factor, one for each parameter
-pub record IsBinding (factor : Factor) (params : List Typed) (objects : List ℕ) : Type 0 where
-  pub long : length objects ≡ length params
-  pub range : All (IsObject factor) objects
-
--- an action of the factor, in numbers
-abbrev pub numbered_action : Factor → OpenView → Schema → LiftedAction
-numbered_action factor view schema =
-    lifted_action (vocabulary_of factor) (is_changed factor view) factor schema
-
--- an instance in numbers is an action of the factor at objects, one for each parameter
-pub record IsInstance (factor : Factor) (i : ActionBinding) : Type 0 where
-  pub schema : Schema
-  pub at : slice_get factor.domain.schemas i.action ≡ Some schema
-  pub objects : IsBinding factor schema.params i.objects
-
--- a fact in numbers is in range, and it is public where the factor has nothing of it private
-pub record IsOfFactor (factor : Factor) (view : OpenView) (f : GroundFact) : Type 0 where
-  pub range : IsInRange factor (atom_of f)
-  pub public : f.is_public ≡ not (is_private (lifted_factor factor view) (atom_of f))

@@ -17,12 +17,15 @@ ghost use Rattle.mp_lifted.specs.declared.lifted.GroundAtom.{GroundAtom};
 ghost use Rattle.mp_lifted.specs.declared.view.OpenView.{OpenView};
 ghost use Rattle.mp_lifted.specs.Factors.{lifted_factor};
 ghost use Rattle.mp_instances.specs.Costs.{HasSmallCosts};
+ghost use Rattle.mp_instances.specs.Counts.{tries as tries_in_numbers};
 ghost use Rattle.mp_instances.specs.Instances.{instances};
 ghost use Rattle.mp_grounder.specs.Checked.{IsChecked};
 ghost use Rattle.mp_grounder.specs.Counted.{counted_facts, signed_cmp};
-ghost use Rattle.mp_grounder.specs.Grounding.{grounded, grounded_instance, named_instance};
-ghost use Rattle.mp_grounder.specs.Listing.{AreNumbered, IsListing};
-ghost use Rattle.mp_grounder.specs.Named.{named_fact, named_objects, signed_fact, numbered_action, IsBinding, IsInRange, IsInstance, IsOfFactor};
+ghost use Rattle.mp_grounder.specs.Grounding.{grounded, grounded_instance};
+ghost use Rattle.mp_grounder.specs.Listing.{IsListing};
+ghost use Rattle.mp_grounder.specs.Tried.{tries};
+ghost use Rattle.mp_grounder.specs.Named.{named_objects};
+ghost use Rattle.mp_grounder.specs.Numbered.{named_instance, AreNumbered, named_fact, signed_fact, numbered_action, IsBinding, IsInRange, IsInstance, IsOfFactor};
 
 use mp_typing::CheckedFactor;
 
@@ -147,4 +150,10 @@ pub fn numbered_facts_list_named_facts()
         → IsChecked factor → AreNumbered factor view facts
         → IsListing (signed_cmp factor) test (counted_facts agent factor (setting_of agent factor view))
         (filter test (map (signed_fact agent factor) facts)) }
+{}
+
+/// As many bindings are tried in numbers as by names.
+pub fn tries_are_those_by_names()
+    ensures { (agent : ℕ) (factor : Factor) (view : OpenView) → IsChecked factor
+        → tries_in_numbers (lifted_factor factor view) ≡ tries agent factor (setting_of agent factor view) }
 {}

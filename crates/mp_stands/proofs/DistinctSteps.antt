@@ -13,9 +13,10 @@ use Rattle.mp_joint.specs.declared.plan.PlanStep.{PlanStep}
 use Rattle.mp_joint.specs.Fact.{Text}
 use Rattle.mp_joint.specs.FactorContribution.{instance_of_schema}
 use Rattle.mp_joint.specs.Grounded.{Setting, suits_start}
+use Rattle.mp_bindings.specs.Bindings.{product}
 use Rattle.mp_stands.proofs.MemberLists.{from_map, chosen}
 use Rattle.mp_grounder.specs.Checked.{IsChecked}
-use Rattle.mp_grounder.specs.Grounding.{GroundedStep, choices, members_by_name, step_with, grounded_at, grounded_of, grounded}
+use Rattle.mp_grounder.specs.Grounding.{GroundedStep, members_by_name, step_with, grounded_at, grounded_of, grounded}
 use Rattle.mp_grounder.proofs.Facts.{objects_distinct}
 use Rattle.mp_grounder.proofs.Parts.{parts_of}
 use Rattle.mp_stands.proofs.JoinedLists.{from_given}
@@ -41,14 +42,14 @@ before_once : (name : Text) (others : List (List Text)) → AreOnce itself other
 before_once name [] h = tt
 before_once name (o ∷ os) h = (λ y found same. h.0 y found (ap behind same), before_once name os h.1)
 
-choices_once : (lists : List (List Text)) → ((names : List Text) → Contains lists names → AreOnce itself names) → AreOnce itself (choices lists)
-unfolding choices
-choices_once [] each = ((λ y found same. no_member y found), tt)
-choices_once (names ∷ others) each =
-    let rest = choices_once others (λ more found. each more (contains_tail names others more found)) in
-    once_parts itself (λ name. map (λ more. name ∷ more) (choices others)) itself first_of names
-    (λ name found. once_map itself (λ more. name ∷ more) (choices others) (before_once name (choices others) rest))
-    (λ name y found. let from = from_map (λ more. name ∷ more) (choices others) y found in ap first_of (sym from.2))
+product_once : (lists : List (List Text)) → ((names : List Text) → Contains lists names → AreOnce itself names) → AreOnce itself (product lists)
+unfolding product
+product_once [] each = ((λ y found same. no_member y found), tt)
+product_once (names ∷ others) each =
+    let rest = product_once others (λ more found. each more (contains_tail names others more found)) in
+    once_parts itself (λ name. map (λ more. name ∷ more) (product others)) itself first_of names
+    (λ name found. once_map itself (λ more. name ∷ more) (product others) (before_once name (product others) rest))
+    (λ name y found. let from = from_map (λ more. name ∷ more) (product others) y found in ap first_of (sym from.2))
     (each names (contains_head names others))
 
 module _ (me : ℕ) (factor : Factor) (setting : Setting) where
@@ -66,9 +67,9 @@ module _ (me : ℕ) (factor : Factor) (setting : Setting) where
 
   of_action : (schema : Schema) → AreOnce step_of (grounded_of me factor setting schema)
   of_action schema =
-      once_given step_of (grounded_at me factor setting schema) itself (λ (step : PlanStep). step.args) (choices (map (members_by_name factor) schema.params))
+      once_given step_of (grounded_at me factor setting schema) itself (λ (step : PlanStep). step.args) (product (map (members_by_name factor) schema.params))
       (λ objects g h. sym (ap (λ (step : PlanStep). step.args) (step_at schema objects g h)))
-      (choices_once (map (members_by_name factor) schema.params)
+      (product_once (map (members_by_name factor) schema.params)
       (λ names found. let from = from_map (members_by_name factor) schema.params names found in subst (AreOnce itself) from.2 (members_once factor from.0)))
 
   pub steps_once : IsChecked factor → AreOnce step_of (grounded me factor setting)
@@ -76,7 +77,7 @@ module _ (me : ℕ) (factor : Factor) (setting : Setting) where
       once_parts step_of (grounded_of me factor setting) (λ (s : Schema). s.word.name) (λ (step : PlanStep). step.action) factor.domain.schemas
       (λ schema found. of_action schema)
       (λ schema g found.
-      let from = from_given (grounded_at me factor setting schema) (choices (map (members_by_name factor) schema.params)) g found in
+      let from = from_given (grounded_at me factor setting schema) (product (map (members_by_name factor) schema.params)) g found in
       sym (ap (λ (step : PlanStep). step.action) (step_at schema from.0 g from.2)))
       (distinct_once (λ (s : Schema). s.word.name) factor.domain.schemas (parts_of factor checked.no_fault).actions)
 

@@ -20,7 +20,7 @@ use Rattle.mp_stands.proofs.MemberLists.{from_map}
 use Rattle.mp_stands.proofs.Owners.{IsFactOf}
 use Rattle.mp_grounder.specs.Checked.{IsChecked}
 use Rattle.mp_grounder.specs.Counted.{counted_facts}
-use Rattle.mp_grounder.specs.Named.{signed_fact, IsObject, IsOfFactor}
+use Rattle.mp_grounder.specs.Numbered.{signed_fact, IsObject, IsOfFactor}
 use Rattle.mp_grounder.proofs.Counted.{all_counted}
 use Rattle.mp_grounder.proofs.Numbered.{named_at}
 use Rattle.mp_grounder.proofs.Ordered.{counted_stand}

@@ -24,8 +24,9 @@ use Rattle.mp_stands.specs.Touched.{factor_of, IsGrounded}
 use Rattle.mp_stands.proofs.Contributed.{contribution_is}
 use Rattle.mp_stands.proofs.MemberLists.{from_flat_map, found_in, chosen, mapped}
 use Rattle.mp_stands.proofs.Owners.{factor_in_team}
+use Rattle.mp_bindings.specs.Bindings.{product}
 use Rattle.mp_grounder.specs.Checked.{IsChecked}
-use Rattle.mp_grounder.specs.Grounding.{GroundedStep, choices, members_by_name, step_with, grounded_at, grounded_of, grounded}
+use Rattle.mp_grounder.specs.Grounding.{GroundedStep, members_by_name, step_with, grounded_at, grounded_of, grounded}
 use Rattle.mp_grounder.proofs.Parts.{IsAtom, IsSchema, parts_of}
 use Rattle.mp_stands.specs.Knowing.{known_setting}
 use Rattle.mp_stands.proofs.JoinedLists.{all_same, from_given, in_given, in_parts, found_passes}
@@ -149,7 +150,7 @@ module _ (team : List Factor) (me : ℕ) (factor : Factor) (agent : IsAgent team
   pub to_team : (g : GroundedStep) → Contains (grounded me factor known) g → IsTeams g
   to_team g found =
       let of = from_flat_map (grounded_of me factor known) factor.domain.schemas g found in
-      let at = from_given (grounded_at me factor known of.0) (choices (map (members_by_name factor) of.0.params)) g of.2 in
+      let at = from_given (grounded_at me factor known of.0) (product (map (members_by_name factor) of.0.params)) g of.2 in
       given of.0 at.0 g of.1 at.2
 
   pub from_team : (g : GroundedStep) → IsTeams g → Contains (grounded me factor known) g
@@ -170,5 +171,5 @@ module _ (team : List Factor) (me : ℕ) (factor : Factor) (agent : IsAgent team
       ap (option_and_then (step_with known step)) at
       ∙ ap (λ b. if b then Some (record { step = step; instance = i }) else None) suits ∙ ap Some same in
       in_parts (grounded_of me factor known) factor.domain.schemas schema g listed
-      (in_given (grounded_at me factor known schema) (choices (map (members_by_name factor) schema.params)) args g
+      (in_given (grounded_at me factor known schema) (product (map (members_by_name factor) schema.params)) args g
       (is_choice factor schema.params args is.may) kept))

@@ -22,8 +22,9 @@ use Rattle.mp_joint.specs.Fact.{Text, is_listed}
 use Rattle.mp_joint.specs.FactorContribution.{may_stand, may_stand_for}
 use Rattle.mp_joint.specs.Grounding.{standing_for, object_of, objects_of}
 use Rattle.mp_lifted.specs.Vocabulary.{vocabulary_of}
+use Rattle.mp_bindings.specs.Bindings.{product}
 use Rattle.mp_stands.proofs.MemberLists.{contains_map, found_in}
-use Rattle.mp_grounder.specs.Grounding.{choices, members_by_name}
+use Rattle.mp_grounder.specs.Grounding.{members_by_name}
 use Rattle.mp_grounder.proofs.Atoms.{object_stands}
 use Rattle.mp_grounder.proofs.Parts.{IsDeclared, IsAtom}
 use Rattle.mp_stands.specs.Declared.{AreDeclared}
@@ -86,16 +87,16 @@ are_standing factor (p ∷ ps) (o ∷ os) h =
       named = and_from (is_object_name factor o) (list_all (is_object_name factor) os) (object_named factor p o (standing factor p o parts.0)) rest.named;
     }
 
--- they are one of the choices
+-- they are one of the product
 pub is_choice : (factor : Factor) (params : List Typed) (objects : List Text) → may_stand_for factor params objects ≡ true
-    → Contains (choices (map (members_by_name factor) params)) objects
-unfolding choices
+    → Contains (product (map (members_by_name factor) params)) objects
+unfolding product
 is_choice factor [] [] h = contains_head [] []
 is_choice factor [] (o ∷ os) h = absurd (false≢true h)
 is_choice factor (p ∷ ps) [] h = absurd (false≢true h)
 is_choice factor (p ∷ ps) (o ∷ os) h =
     let parts = and_parts (may_stand factor p o) (may_stand_for factor ps os) h in
-    let others = choices (map (members_by_name factor) ps) in
+    let others = product (map (members_by_name factor) ps) in
     in_parts (λ name. map (λ rest. name ∷ rest) others) (members_by_name factor p) o (o ∷ os)
     (member_named factor p o (standing factor p o parts.0))
     (contains_map (λ rest. o ∷ rest) others os (is_choice factor ps os parts.1))

@@ -13,7 +13,8 @@ use Rattle.mp_lifted.specs.Vocabulary.{vocabulary_of}
 use Rattle.mp_lifted.specs.Binding.{ActionBinding}
 use Rattle.mp_instances.specs.Instances.{instances}
 use Rattle.mp_grounder.specs.Checked.{IsChecked}
-use Rattle.mp_grounder.specs.Named.{action_names, named_objects, step_of, IsInstance, IsObject}
+use Rattle.mp_grounder.specs.Named.{action_names, named_objects, step_of}
+use Rattle.mp_grounder.specs.Numbered.{IsInstance, IsObject}
 use Rattle.mp_grounder.proofs.Counted.{all_instances}
 use Rattle.mp_ground.specs.declared.grounded.Ground.{Ground}
 use Rattle.mp_ground.specs.Grounded.{IsGrounded}

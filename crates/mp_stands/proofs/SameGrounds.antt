@@ -16,7 +16,8 @@ use Rattle.mp_ground_facts.specs.Touched.{counted as counted_at}
 use Rattle.mp_ground_facts.proofs.FactsOf.{facts_are_counted}
 use Rattle.mp_views.specs.Public.{is_public}
 use Rattle.mp_grounder.specs.Checked.{IsChecked}
-use Rattle.mp_grounder.specs.Named.{signed_fact, step_of, IsOfFactor}
+use Rattle.mp_grounder.specs.Named.{step_of}
+use Rattle.mp_grounder.specs.Numbered.{signed_fact, IsOfFactor}
 use Rattle.mp_grounder.proofs.Counted.{all_counted}
 use Rattle.mp_grounder.proofs.Starts.{public_is}
 use Rattle.mp_ground.specs.declared.grounded.Ground.{Ground}

@@ -19,7 +19,8 @@ use Rattle.mp_lifted.specs.Vocabulary.{vocabulary_of}
 use Rattle.mp_lifted.specs.Atoms.{is_among}
 use Rattle.mp_lifted.specs.Start.{is_so, is_private, is_true_at_start}
 use Rattle.mp_grounder.specs.Checked.{IsChecked}
-use Rattle.mp_grounder.specs.Named.{named_fact, named_objects, IsObject, IsInRange}
+use Rattle.mp_grounder.specs.Named.{named_objects}
+use Rattle.mp_grounder.specs.Numbered.{named_fact, IsObject, IsInRange}
 use Rattle.mp_grounder.proofs.Parts.{parts_of}
 use Rattle.mp_grounder.proofs.Texts.{known_texts}
 use Rattle.mp_stands.specs.Translation.{AreAlike}

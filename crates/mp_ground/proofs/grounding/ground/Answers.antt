@@ -1,15 +1,22 @@
 use Rattle.std.proofs.Common.{◌≡◌, ◌≤◌, ℕ, List, length, sym, ap, ◌∙◌, subst}
+use Rattle.mp_factor.specs.declared.factor.Factor.{Factor}
 use Rattle.mp_lifted.specs.declared.lifted.LiftedFactor.{LiftedFactor}
+use Rattle.mp_lifted.specs.declared.view.OpenView.{OpenView}
 use Rattle.mp_lifted.specs.Factors.{lifted_factor}
 use Rattle.mp_lifted.specs.Binding.{ActionBinding}
 use Rattle.mp_instances.specs.Costs.{HasSmallCosts}
+use Rattle.mp_instances.specs.Counts.{tries}
 use Rattle.mp_instances.specs.Instances.{instances}
 use Rattle.mp_ground_facts.specs.declared.fact.GroundFact.{GroundFact}
 use Rattle.mp_ground_facts.specs.Ground.{facts_of, ground_with}
+use Rattle.mp_grounder.specs.Checked.{IsChecked}
 use Rattle.mp_grounder.proofs.SmallCosts.{small_costs}
 use Rattle.mp_ground.specs.Grounded.{IsGrounded}
-use Rattle.mp_ground.specs.Limits.{KeepsLimits}
+use Rattle.mp_ground.specs.Limits.{IsRefusedBy, KeepsLimits}
 use Rattle.mp_ground.specs.Numbered.{fact_names, ground_at}
+use Rattle.mp_ground.specs.Refusals.{IsRefusedAt}
+use Rattle.mp_ground.specs.declared.refusal.GroundRefusal.{GroundRefusal}
+use Rattle.mp_ground.proofs.Counts.{refused_by_names, within_by_names}
 use Rattle.mp_ground.proofs.Refused.{refused_on}
 use Rattle.mp_ground.proofs.Standing.{is_grounded, keeps_limits}
 use Rattle.mp_ground.proofs.grounding.ground.Goals as goal
@@ -18,15 +25,24 @@ pub all_instances-requires : goal.all_instances-requires
 all_instances-requires c =
     subst HasSmallCosts (sym c.in_ok-lifted.ensures) (small_costs c.args.factor.now c.args.known.now c.checked_factor_is_checked.ensures)
 
+by_names : (me : ℕ) (factor : Factor) (view : OpenView) (lifted : LiftedFactor) (e : GroundRefusal) → IsChecked factor → lifted ≡ lifted_factor factor view
+    → IsRefusedAt me (tries lifted) (length (instances lifted)) (length (facts_of lifted (instances lifted))) e
+    → IsRefusedBy (record { me = me; factor = factor; view = view }) e
+by_names me factor view lifted e checked is refused =
+    refused_by_names (record { me = me; factor = factor; view = view }) checked e
+    (subst (λ l. IsRefusedAt me (tries l) (length (instances l)) (length (facts_of l (instances l))) e) is refused)
+
 pub returns-in_err-list-clause-refused : goal.returns-in_err-list-clause-refused
 returns-in_err-list-clause-refused c =
     refused_on _ c.in_err-list.field-0.0 _ c.from_residual-in_err-list.ensures.1
-    (c.in_err-list.ensures.refused c.args.factor.now c.args.known.now c.in_ok-lifted.ensures)
+    (by_names c.args.me c.args.factor.now c.args.known.now c.in_ok-lifted.lifted c.in_err-list.field-0.0 c.checked_factor_is_checked.ensures c.in_ok-lifted.ensures
+    c.in_err-list.ensures.refused)
 
 pub returns-in_err-facts-clause-refused : goal.returns-in_err-facts-clause-refused
 returns-in_err-facts-clause-refused c =
     refused_on _ c.in_err-facts.field-0.0 _ c.from_residual-in_err-facts.ensures.1
-    (c.in_err-facts.ensures.refused c.args.factor.now c.args.known.now c.in_ok-lifted.ensures)
+    (by_names c.args.me c.args.factor.now c.args.known.now c.in_ok-lifted.lifted c.in_err-facts.field-0.0 c.checked_factor_is_checked.ensures c.in_ok-lifted.ensures
+    c.in_err-facts.ensures.refused)
 
 pub returns-clause-given : goal.returns-clause-given
 returns-clause-given c =
@@ -49,3 +65,14 @@ returns-clause-limits c =
     let few_acts = subst (λ (bs : List ActionBinding). length bs ≤ 200000) list c.in_ok-list.ensures.within.1 in
     let few = subst (λ (fs : List GroundFact). length fs ≤ 65535) facts c.in_ok-facts.ensures.within in
     subst KeepsLimits (sym is) (keeps_limits c.args.me c.args.factor.now c.args.known.now c.checked_factor_is_checked.ensures few_acts few)
+
+pub returns-clause-within : goal.returns-clause-within
+returns-clause-within c =
+    let lifted = lifted_factor c.args.factor.now c.args.known.now in
+    let list : c.in_ok-list.list ≡ instances lifted = c.in_ok-list.ensures.given ∙ ap (λ (l : LiftedFactor). instances l) c.in_ok-lifted.ensures in
+    let facts : c.in_ok-facts.facts.keys ≡ facts_of lifted (instances lifted) =
+    c.in_ok-facts.ensures.given ∙ ap (λ (l : LiftedFactor). facts_of l (instances l)) c.in_ok-lifted.ensures in
+    within_by_names (record { me = c.args.me; factor = c.args.factor.now; view = c.args.known.now }) c.checked_factor_is_checked.ensures
+    (subst (λ (l : LiftedFactor). tries l ≤ 50000000) c.in_ok-lifted.ensures c.in_ok-list.ensures.within.0)
+    (subst (λ (bs : List ActionBinding). length bs ≤ 200000) list c.in_ok-list.ensures.within.1)
+    (subst (λ (fs : List GroundFact). length fs ≤ 65535) facts c.in_ok-facts.ensures.within)
