@@ -14,3 +14,5 @@ pub mod Parts
 pub mod Histories
 -- what `==` answers
 pub mod Comparisons
+-- lines of a log whose area grows
+pub mod LogLemmas

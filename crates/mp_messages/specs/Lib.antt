@@ -8,3 +8,5 @@ pub mod Parts
 pub mod History
 -- what `==` answers
 pub mod Comparing
+-- logs in one area of bytes
+pub mod LogFields

@@ -9,8 +9,8 @@ pub type Bytes = List<u8>;
 /// The text of what each agent sees, for each agent in their order.
 pub type Views = List<Bytes>;
 
-/// All entries in the order in which they came.
-pub type Log = List<Entry>;
+/// Entries in the order in which they came, each with memory of its own.
+pub type Entries = List<Entry>;
 
 /// Events in the order in which they came.
 pub type EventList = List<Event>;

@@ -11,23 +11,23 @@ ghost use Rattle.mp_post.specs.Desks.{IsDeskOf};
 
 use crate::desk::Desk;
 use mp_list::{Copied, List, OutOfMemory};
-use mp_messages::Log;
+use mp_messages::{Entries, Log};
 use mp_post_rule::{Posts, look_at_lists};
 use mp_stamps::{StampedList, StampedLists, merge_moved, merge_stamped};
 use std::alloc::Global;
 
 /// What each agent signed, without stamps, that of agent 1 first.
-pub type Lists = List<Log>;
+pub type Lists = List<Entries>;
 
 /// The entries of a list without their stamps.
-fn entries_of(alloc: Global, list: &StampedList) -> Result<Log, OutOfMemory>
-    ensures { IfOk result (λ log. log ≡ entries list.now) }
+fn entries_of(alloc: Global, list: &StampedList) -> Result<Entries, OutOfMemory>
+    ensures { IfOk result (λ all. all ≡ entries list.now) }
 {
-    let mut log = Log::with_capacity(alloc, list.len())?;
+    let mut all = Entries::with_capacity(alloc, list.len())?;
     for stamped in list.as_slice() {
-        log.push(stamped.entry.copy()?)?;
+        all.push(stamped.entry.copy()?)?;
     }
-    Ok(log)
+    Ok(all)
 }
 
 /// The entries of all lists without their stamps.
@@ -43,8 +43,7 @@ fn all_entries(alloc: Global, lists: &StampedLists) -> Result<Lists, OutOfMemory
 
 impl Desk {
     /// The log of all that was signed, merged by stamps, of a desk that holds all agents: each agent's part of it is what it
-    /// signed. The desk is gone, and its lists' entries go over to the log, without a copy of any. Refuses only for want of
-    /// memory.
+    /// signed. The desk is gone, and each entry is let go as soon as the log has its message. Refuses only for want of memory.
     pub fn into_log(self, posts: &Posts) -> Result<Log, OutOfMemory>
         requires posts { ArePosts posts.now.shared.table_id posts.now.shared.key }
         requires desk { IsDeskOf posts.now.shared.table_id posts.now.shared.key self }

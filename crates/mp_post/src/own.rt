@@ -6,7 +6,7 @@ ghost use Rattle.mp_stamps.specs.Lists.{clock as clock_is};
 ghost use Rattle.mp_post_rule.specs.Queues.{stamped_after};
 ghost use Rattle.mp_post_rule.specs.Views.{receipt};
 
-use mp_messages::{Bytes, Entry, Log};
+use mp_messages::{Bytes, Entries, Entry};
 use mp_post_rule::Waiting;
 use mp_sets::Agent;
 use mp_stamps::Stamped;
@@ -23,7 +23,7 @@ pub(crate) fn clock(own: &[Stamped]) -> u64
 
 /// A batch is behind the other entries, with the stamps after this one. It takes no memory, and leaves room for
 /// one entry more.
-pub(crate) fn add_batch(own: &mut Vec<Stamped>, clock: u64, batch: Log)
+pub(crate) fn add_batch(own: &mut Vec<Stamped>, clock: u64, batch: Entries)
     requires stamps { clock + length batch ≤ 2 ^ 64 - 2 }
     requires room { vec_len own.old + length batch < vec_capacity own.old }
     ensures items { own.new.items ≡ own.old.items ++ stamped_after clock batch }

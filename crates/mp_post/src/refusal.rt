@@ -1,10 +1,10 @@
 //! Why a turn may sign nothing.
 
-use mp_messages::Log;
+use mp_messages::Entries;
 use mp_sets::Agent;
 
 /// What a party signs in one step: what it did, and the messages that it puts.
-pub type Batch = Log;
+pub type Batch = Entries;
 
 /// Why a turn signed nothing. The batch comes back.
 #[derive(Debug, Drop)]

@@ -9,7 +9,7 @@ ghost use Rattle.mp_post.specs.Desks.{HoldsParty, IsDeskOf};
 use crate::halting::agent_at;
 use crate::{Batch, Desk, Posts, make};
 use mp_list::OutOfMemory;
-use mp_messages::{Bytes, Entry, Log};
+use mp_messages::{Bytes, Entry};
 use mp_outside::NoGate;
 use mp_sets::Agent;
 use std::alloc::Global;
@@ -74,7 +74,7 @@ fn batch_of(alloc: Global, from: Agent, to: Agent, byte: Option<u8>) -> Result<B
     ensures { IfOk result (λ batch. All (IsSignable 16 from) batch) }
 {
     let _ = to.number();
-    let mut batch = Log::new(alloc);
+    let mut batch = Batch::new(alloc);
     if let Some(byte) = byte {
         let mut bytes = Bytes::new(alloc);
         bytes.push(byte)?;

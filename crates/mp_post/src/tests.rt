@@ -8,7 +8,7 @@ ghost use Rattle.mp_post.specs.Desks.{HoldsParty, IsDeskOf};
 
 use crate::{Batch, Desk, Posts, make};
 use mp_list::OutOfMemory;
-use mp_messages::{Bytes, Entry, Log};
+use mp_messages::{Bytes, Entry};
 use mp_outside::NoGate;
 use mp_sets::Agent;
 use std::alloc::Global;
@@ -23,7 +23,7 @@ fn message(alloc: Global, from: Agent, to: Agent, byte: u8) -> Result<Batch, Out
     let _ = to.number();
     let mut bytes = Bytes::new(alloc);
     bytes.push(byte)?;
-    let mut batch = Log::new(alloc);
+    let mut batch = Batch::new(alloc);
     batch.push(Entry::Put { from, to, bytes })?;
     Ok(batch)
 }

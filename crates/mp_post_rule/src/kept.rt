@@ -4,7 +4,7 @@ ghost use Rattle.std.specs.Prelude.{◌≡◌, ◌<◌, ◌≤◌, ◌-◌, ◌^
 ghost use Rattle.mp_post_rule.specs.Queues.{mail};
 
 use mp_list::OutOfMemory;
-use mp_messages::{Bytes, Log};
+use mp_messages::{Bytes, Entries};
 use mp_sets::Agent;
 use std::alloc::Global;
 use std::collections::VecDeque;
@@ -210,5 +210,5 @@ pub struct Slot {
     /// The party that signs.
     pub by: Agent,
     /// The batch that it signs, where it signs one.
-    pub signs: Option<Snapshot<Log>>,
+    pub signs: Option<Snapshot<Entries>>,
 }

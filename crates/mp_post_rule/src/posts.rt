@@ -20,7 +20,7 @@ use crate::view::View;
 use atomic_table::{Refused, Seat, Table};
 use crossbeam_utils::CachePadded;
 use mp_list::OutOfMemory;
-use mp_messages::Log;
+use mp_messages::Entries;
 use mp_sets::Agent;
 use std::alloc::Global;
 use std::snapshot::Snapshot;
@@ -114,7 +114,14 @@ pub fn put_back(posts: &Posts, seat: &mut PostSeat, post: Agent, kept: Kept)
 
 /// Signs a batch of a party at its own post, whose turn the seat holds, and puts what the post keeps
 /// then into the slot in hand. The batch puts so many messages.
-pub fn sign_batch(posts: &Posts, seat: &mut PostSeat, by: Agent, kept: Kept, batch: &Log, puts: u64)
+pub fn sign_batch(
+    posts: &Posts,
+    seat: &mut PostSeat,
+    by: Agent,
+    kept: Kept,
+    batch: &Entries,
+    puts: u64,
+)
     requires posts { ArePosts posts.now.shared.table_id posts.now.shared.key }
     requires table { seat.old.table_id ≡ posts.now.shared.table_id }
     requires post { by ≤ posts.now.shared.key }

@@ -3,7 +3,7 @@
 use crate::line::{push_cost, push_number};
 use crate::standing::{Standing, standing_of};
 use mp_list::{List, OutOfMemory};
-use mp_messages::{Bytes, Entry};
+use mp_messages::{Bytes, EntryView, Log};
 use mp_outside::{Sink, put};
 use mp_schedule::World;
 use mp_task::Heuristic;
@@ -36,23 +36,15 @@ fn due_after(due: u64) -> u64 {
     due.saturating_add(EACH)
 }
 
-/// How many messages are sent in some entries of a log.
-fn count_messages(log: &[Entry]) -> u64 {
+/// How many messages are sent in the entries of a log behind so many.
+fn count_messages(log: &Log, seen: usize) -> u64 {
     let mut messages: u64 = 0;
-    for entry in log {
-        if let Entry::Put { .. } = entry {
+    for at in seen..log.len() {
+        if let EntryView::Put { .. } = log.entry(at) {
             messages = messages.saturating_add(1);
         }
     }
     messages
-}
-
-/// What stands behind this many entries of a log.
-fn log_from(log: &[Entry], seen: usize) -> &[Entry] {
-    if seen <= log.len() {
-        return &log[seen..];
-    }
-    log
 }
 
 /// Appends the line that tells how far a team is.
@@ -95,10 +87,8 @@ impl Progress {
     }
 
     /// Counts the messages of a log that were not counted yet.
-    fn look_at(&mut self, log: &[Entry]) {
-        self.messages = self
-            .messages
-            .saturating_add(count_messages(log_from(log, self.seen)));
+    fn look_at(&mut self, log: &Log) {
+        self.messages = self.messages.saturating_add(count_messages(log, self.seen));
         self.seen = log.len();
     }
 
@@ -114,7 +104,7 @@ impl Progress {
             return Ok(());
         }
         self.due = due_after(self.due);
-        self.look_at(world.log().as_slice());
+        self.look_at(world.log());
         tell(alloc, standing_of(world.machines()), self.messages, err)
     }
 }

@@ -3,7 +3,7 @@
 
 use mp_list::OutOfMemory;
 use mp_machine::Machine;
-use mp_messages::{DecodeRefusal, Entry, Message, decode};
+use mp_messages::{DecodeRefusal, EntryView, Log, Message, decode};
 use mp_progress::{lesser, standing_of};
 use mp_sets::Agent;
 use mp_task::Heuristic;
@@ -34,23 +34,23 @@ fn count_less(counts: &mut [u64], place: usize) -> bool {
 }
 
 /// Counts the messages that each agent took from each other one.
-fn count_taken(counts: &mut [u64], log: &[Entry]) {
-    for entry in log {
-        if let Entry::Took { by, from, .. } = entry {
-            count_more(counts, pair(*from, *by));
+fn count_taken(counts: &mut [u64], log: &Log) {
+    for at in 0..log.len() {
+        if let EntryView::Took { by, from, .. } = log.entry(at) {
+            count_more(counts, pair(from, by));
         }
     }
 }
 
 /// The bytes of the message that an entry of the log sent, where it is still under way: as many of the messages that its
 /// sender sent to its receiver were taken as are counted, the oldest ones.
-fn still_under_way<'a>(counts: &mut [u64], entry: &'a Entry) -> Option<&'a [u8]> {
+fn still_under_way<'a>(counts: &mut [u64], entry: &EntryView<'a>) -> Option<&'a [u8]> {
     match entry {
-        Entry::Put { from, to, bytes } => {
+        EntryView::Put { from, to, bytes } => {
             if count_less(counts, pair(*from, *to)) {
                 return None;
             }
-            Some(bytes.as_slice())
+            Some(*bytes)
         }
         _ => None,
     }
@@ -83,13 +83,13 @@ fn least_under_way(
     alloc: Global,
     agents: u16,
     publics: u32,
-    log: &[Entry],
+    log: &Log,
 ) -> Result<Option<u64>, OutOfMemory> {
     let mut counts = [0u64; PAIRS];
     count_taken(&mut counts, log);
     let mut least = None;
-    for entry in log {
-        if let Some(bytes) = still_under_way(&mut counts, entry) {
+    for at in 0..log.len() {
+        if let Some(bytes) = still_under_way(&mut counts, &log.entry(at)) {
             least = lesser(least, f_of_bytes(alloc, agents, publics, bytes)?);
         }
     }
@@ -108,7 +108,7 @@ pub(crate) fn least_cost<H: Heuristic>(
     alloc: Global,
     publics: u32,
     machines: &[Machine<H>],
-    log: &[Entry],
+    log: &Log,
 ) -> Result<Option<u64>, OutOfMemory> {
     let Ok(agents) = u16::try_from(machines.len()) else {
         return Ok(None);

@@ -5,7 +5,7 @@ use crate::table::push_table;
 use mp_counted::Count;
 use mp_list::OutOfMemory;
 use mp_machine::Machine;
-use mp_messages::{Bytes, Entry};
+use mp_messages::{Bytes, Log};
 use mp_progress::push_number;
 use mp_schedule::World;
 use mp_task::Heuristic;
@@ -52,7 +52,7 @@ fn push_undecided<H: Heuristic>(
     text: &mut Bytes,
     publics: u32,
     machines: &[Machine<H>],
-    log: &[Entry],
+    log: &Log,
 ) -> Result<(), OutOfMemory> {
     push_all_spent(text, machines)?;
     push_bound(text, least_cost(alloc, publics, machines, log)?)
@@ -68,7 +68,7 @@ pub(crate) fn push_report<H: Heuristic>(
     world: &World<H>,
     counts: &[Count],
 ) -> Result<(), OutOfMemory> {
-    let log = world.log().as_slice();
+    let log = world.log();
     push_table(text, world.machines(), log, counts)?;
     match answer {
         Answer::Undecided => push_undecided(alloc, text, publics, world.machines(), log),

@@ -5,7 +5,7 @@ use itoa::Buffer;
 use mp_counted::Count;
 use mp_list::OutOfMemory;
 use mp_machine::Machine;
-use mp_messages::{Bytes, Entry};
+use mp_messages::{Bytes, Log};
 use mp_sets::Agent;
 use mp_task::Heuristic;
 
@@ -63,7 +63,7 @@ fn push_row<H: Heuristic>(
     text: &mut Bytes,
     agent: Agent,
     machine: &Machine<H>,
-    log: &[Entry],
+    log: &Log,
     values: u64,
 ) -> Result<(), OutOfMemory> {
     let traffic = traffic_of(agent, log);
@@ -81,7 +81,7 @@ fn push_row_at<H: Heuristic>(
     text: &mut Bytes,
     place: usize,
     machine: &Machine<H>,
-    log: &[Entry],
+    log: &Log,
     counts: &[Count],
 ) -> Result<(), OutOfMemory> {
     let Ok(before) = u16::try_from(place) else {
@@ -97,7 +97,7 @@ fn push_row_at<H: Heuristic>(
 pub(crate) fn push_table<H: Heuristic>(
     text: &mut Bytes,
     machines: &[Machine<H>],
-    log: &[Entry],
+    log: &Log,
     counts: &[Count],
 ) -> Result<(), OutOfMemory> {
     text.extend_from_slice(HEADING.as_bytes())?;

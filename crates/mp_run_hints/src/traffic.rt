@@ -1,6 +1,6 @@
 //! What an agent sent and took, by the log of its team.
 
-use mp_messages::{Entry, Kind};
+use mp_messages::{EntryView, Kind, Log};
 use mp_sets::Agent;
 
 /// What an agent sent and took.
@@ -79,23 +79,21 @@ impl Traffic {
     }
 
     /// With what an entry of the log tells of an agent.
-    fn with_entry(self, agent: Agent, entry: &Entry) -> Traffic {
+    fn with_entry(self, agent: Agent, entry: &EntryView<'_>) -> Traffic {
         match entry {
-            Entry::Act(by, kind) if *by == agent => self.with_act(*kind),
-            Entry::Put { from, to, bytes } if *from == agent => {
-                self.with_put(*to, bytes.as_slice())
-            }
-            Entry::Took { by, .. } if *by == agent => self.with_taken(),
+            EntryView::Act(by, kind) if *by == agent => self.with_act(*kind),
+            EntryView::Put { from, to, bytes } if *from == agent => self.with_put(*to, *bytes),
+            EntryView::Took { by, .. } if *by == agent => self.with_taken(),
             _ => self,
         }
     }
 }
 
 /// What an agent sent and took, by the log of its team.
-pub(crate) fn traffic_of(agent: Agent, log: &[Entry]) -> Traffic {
+pub(crate) fn traffic_of(agent: Agent, log: &Log) -> Traffic {
     let mut traffic = Traffic::new();
-    for entry in log {
-        traffic = traffic.with_entry(agent, entry);
+    for at in 0..log.len() {
+        traffic = traffic.with_entry(agent, &log.entry(at));
     }
     traffic
 }

@@ -24,7 +24,7 @@ rounds_of value agents w last events (round _ next _ these later on does rest) =
 
 -- they are few, where so many would be too many
 pub few_rounds : (value : Values) (agents : ℕ) (a b : TeamRun) → agents ≡ length a.tasks
-    → MayRun b → IsLogged value b → length b.schedule < 2 ^ 58 → HasDone (Rounds value agents) a b
+    → MayRun b → IsLogged value b → length b.schedule < 2 ^ 59 → HasDone (Rounds value agents) a b
     → ((first : AgentRecord) → agent_at b.world 1 ≡ Some first → first.snapshot.number ≤ length b.schedule)
     → ((rounds : ℕ) (first : AgentRecord) → AreGoingRounds value (length a.tasks) rounds a.world b.world
     → agent_at b.world 1 ≡ Some first → first.snapshot.number + 1 < 2 ^ 60 → rounds < 2 ^ 51)

@@ -31,7 +31,7 @@ made_of_some {X} {Y} h (x ∷ xs) = by (h x) (made_of_some h xs)
     by (Some y) rest = one y (filter_map h xs) rest
 
 -- a log has no more events than entries
-pub few_events : (log : List Entry) → length log < 2 ^ 58 → length (schedule_of log) < 2 ^ 58
+pub few_events : (log : List Entry) → length log < 2 ^ 59 → length (schedule_of log) < 2 ^ 59
 few_events log few = let fewer = made_of_some event_of log in omega arith
 
 -- there is an agent 1
@@ -43,10 +43,10 @@ first_there value r team is =
     agent_there r.world 1 (record { from_1 = omega arith; at_most = omega arith })
 
 module _ (value : Values) (r s : TeamRun) (team : MayRun r) (is : IsLogged value r)
-    (few : length r.schedule < 2 ^ 58) (done : HasDone (Round value (length r.tasks)) r s)
+    (few : length r.schedule < 2 ^ 59) (done : HasDone (Round value (length r.tasks)) r s)
   where
     more : (events : List Event) → events ≢ [] → length s.schedule ≡ length r.schedule + length events
-        → 2 ^ 58 - length s.schedule < 2 ^ 58 - length r.schedule
+        → 2 ^ 59 - length s.schedule < 2 ^ 59 - length r.schedule
     more [] some long = absurd (some refl)
     more (e ∷ events) some long = let less = few in omega arith
 
@@ -54,7 +54,7 @@ module _ (value : Values) (r s : TeamRun) (team : MayRun r) (is : IsLogged value
     pub less_room :
         ((first : AgentRecord) → agent_at r.world 1 ≡ Some first → first.snapshot.number ≤ length r.schedule)
         → ((first : AgentRecord) → agent_at r.world 1 ≡ Some first → first.snapshot.number + 1 < 2 ^ 60 → done.events ≢ [])
-        → 2 ^ 58 - length s.schedule < 2 ^ 58 - length r.schedule
+        → 2 ^ 59 - length s.schedule < 2 ^ 59 - length r.schedule
     less_room numbers does =
         let first = first_there value r team is in
         let small = numbers first.0 first.1 in

@@ -12,10 +12,47 @@ use std::alloc::Global;
 use std::collections::VecDeque;
 use std::marker::Model;
 
+/// A message under way. Contracts see it as its bytes.
+#[derive(Drop)]
+pub(crate) struct Posted {
+    bytes: Bytes,
+    /// The place of the entry of the log that says that it was put.
+    put: usize,
+}
+
+impl Model for Posted {
+    ghost use Rattle.std.specs.Prelude.{ℕ, List};
+
+    ghost Value = { List ℕ };
+
+    ghost view = { λ p. p.bytes };
+}
+
+impl Posted {
+    /// A message, and the place of the entry that says that it was put.
+    pub(crate) fn new(bytes: Bytes, put: usize) -> Posted
+        ensures { result ≡ bytes }
+    {
+        Posted { bytes, put }
+    }
+
+    /// Its bytes.
+    pub(crate) fn bytes(&self) -> &[u8]
+        ensures { result.now ≡ self.now }
+    {
+        self.bytes.as_slice()
+    }
+
+    /// The place of the entry that says that it was put.
+    pub(crate) fn put(&self) -> usize {
+        self.put
+    }
+}
+
 /// The messages from one agent to another, the oldest first.
 #[derive(Drop)]
 struct Queue {
-    messages: VecDeque<Bytes>,
+    messages: VecDeque<Posted>,
 }
 
 impl Model for Queue {
@@ -42,15 +79,15 @@ impl Queue {
     }
 
     /// Adds a message behind the others.
-    fn push(&mut self, bytes: Bytes) -> Result<(), OutOfMemory>
-        ensures { OnOk result (self.new ≡ self.old ++ bytes ∷ []) }
+    fn push(&mut self, message: Posted) -> Result<(), OutOfMemory>
+        ensures { OnOk result (self.new ≡ self.old ++ message ∷ []) }
     {
-        self.messages.push_back(bytes)?;
+        self.messages.push_back(message)?;
         Ok(())
     }
 
     /// Takes the oldest message, if there is one.
-    fn take(&mut self) -> Option<Bytes>
+    fn take(&mut self) -> Option<Posted>
         ensures taken { given result ≡ slice_index_or self.old 0 [] }
         ensures left { self.new ≡ drop 1 self.old }
     {
@@ -93,18 +130,18 @@ impl Row {
         }
     }
 
-    fn push(&mut self, to: usize, bytes: Bytes) -> Result<(), OutOfMemory>
+    fn push(&mut self, to: usize, message: Posted) -> Result<(), OutOfMemory>
         ensures { OnOk result (self.new
-            ≡ slice_set self.old to (slice_index_or self.old to [] ++ bytes ∷ [])) }
+            ≡ slice_set self.old to (slice_index_or self.old to [] ++ message ∷ [])) }
     {
         if to < self.queues.len() {
             let queue = &mut self.queues[to];
-            queue.push(bytes)?;
+            queue.push(message)?;
         }
         Ok(())
     }
 
-    fn take(&mut self, to: usize) -> Option<Bytes>
+    fn take(&mut self, to: usize) -> Option<Posted>
         ensures taken { given result ≡ slice_index_or (slice_index_or self.old to []) 0 [] }
         ensures left { self.new ≡ slice_set self.old to (drop 1 (slice_index_or self.old to [])) }
     {
@@ -153,20 +190,25 @@ impl Mail {
     }
 
     /// Adds a message behind those from one agent to another.
-    pub(crate) fn push(&mut self, from: Agent, to: Agent, bytes: Bytes) -> Result<(), OutOfMemory>
+    pub(crate) fn push(
+        &mut self,
+        from: Agent,
+        to: Agent,
+        message: Posted,
+    ) -> Result<(), OutOfMemory>
         ensures { OnOk result (self.new
-            ≡ with_between self.old from to (between self.old from to ++ bytes ∷ [])) }
+            ≡ with_between self.old from to (between self.old from to ++ message ∷ [])) }
     {
         let at = place(from);
         if at < self.rows.len() {
             let row = &mut self.rows[at];
-            row.push(place(to), bytes)?;
+            row.push(place(to), message)?;
         }
         Ok(())
     }
 
     /// Takes the oldest message from one agent to another, if there is one.
-    pub(crate) fn take(&mut self, from: Agent, to: Agent) -> Option<Bytes>
+    pub(crate) fn take(&mut self, from: Agent, to: Agent) -> Option<Posted>
         ensures taken { given result ≡ slice_index_or (between self.old from to) 0 [] }
         ensures left { self.new ≡ with_between self.old from to (drop 1 (between self.old from to)) }
     {

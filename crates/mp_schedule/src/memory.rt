@@ -4,9 +4,9 @@ ghost use Rattle.std.specs.Prelude.{◌<◌, ◌^◌, length};
 
 use mp_messages::Log;
 
-/// A log has fewer than 2^58 entries: those of a slice take fewer than 2^63 bytes together, and each takes at least 32.
+/// A log has fewer than 2^59 entries: those of a slice take fewer than 2^63 bytes together, and each takes at least 16.
 pub(crate) fn is_in_memory(log: &Log)
-    ensures { length log.now < 2 ^ 58 }
+    ensures { length log.now < 2 ^ 59 }
 {
-    let _ = log.as_slice();
+    let _ = log.len();
 }

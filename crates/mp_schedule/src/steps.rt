@@ -4,6 +4,7 @@ ghost use Rattle.std.specs.Prelude.{◌≡◌, ◌≤◌, ◌∷◌, ◌++◌, [
 ghost use Rattle.std.specs.List.{fold};
 ghost use Rattle.mp_machine.specs.AgentRecord.{AgentRecord};
 ghost use Rattle.mp_machine.specs.Machine.{given};
+ghost use Rattle.mp_messages.specs.declared.history.Entry.TheVariants.{Took};
 ghost use Rattle.mp_schedule.specs.Happening.{missing, refusal_of};
 ghost use Rattle.mp_schedule.specs.Machines.{IsFree, limit_of, tasks_of, world_of};
 ghost use Rattle.mp_schedule.specs.Steps.{HasStepped, IsDone};
@@ -12,14 +13,13 @@ ghost use Rattle.mp_world.specs.Events.{agent_may, agent_of, has_message, is_leg
 ghost use Rattle.mp_world.specs.Events.{taken, with_sent, without_taken};
 ghost use Rattle.mp_world.specs.Logs.{entries_of, entry_of, put_by};
 
-use crate::mail::{Mail, place};
+use crate::mail::{Mail, Posted, place};
 use crate::refusal::EventRefusal;
-use mp_list::{Copied, OutOfMemory};
+use mp_list::OutOfMemory;
 use mp_machine::{Local, Machine, Out, Outs, StepRefusal};
-use mp_messages::{Bytes, Entry, Event, Kind, Log};
+use mp_messages::{Event, Kind, Log};
 use mp_sets::Agent;
 use mp_task::Heuristic;
-use std::alloc::Global;
 
 /// The agent whose event it is.
 fn agent_of(event: &Event) -> Agent
@@ -96,7 +96,7 @@ pub(crate) fn refusal_of<H: Heuristic>(
 }
 
 /// Takes the message of an event, the oldest one of its pair, if it takes one.
-fn take(mail: &mut Mail, event: &Event) -> Option<Bytes>
+fn take(mail: &mut Mail, event: &Event) -> Option<Posted>
     ensures taken { (agents : List AgentRecord) → given result
         ≡ taken (world_with agents mail.old) event.now }
     ensures left { (agents : List AgentRecord) → world_with agents mail.new
@@ -109,11 +109,11 @@ fn take(mail: &mut Mail, event: &Event) -> Option<Bytes>
 }
 
 /// The bytes of a message that was taken, if one was.
-fn lent(bytes: &Option<Bytes>) -> Option<&[u8]>
-    ensures { given (option_map (λ b. b.now) result) ≡ given bytes.now }
+fn lent(message: &Option<Posted>) -> Option<&[u8]>
+    ensures { given (option_map (λ b. b.now) result) ≡ given message.now }
 {
-    match bytes {
-        Some(taken) => Some(taken.as_slice()),
+    match message {
+        Some(taken) => Some(taken.bytes()),
         None => None,
     }
 }
@@ -134,57 +134,56 @@ fn step<H: Heuristic>(
     machine.step(local, bytes)
 }
 
-/// Adds an event to the log, with the bytes that it took.
-fn note(
-    alloc: Global,
+/// Adds to the log that an agent took a message. The bytes of one that was put stand there, and are not added again.
+fn note_taken(
     log: &mut Log,
-    event: &Event,
-    bytes: Option<Bytes>,
+    by: Agent,
+    from: Agent,
+    message: &Option<Posted>,
 ) -> Result<(), OutOfMemory>
-    ensures { OnOk result (log.new ≡ log.old ++ entry_of event.now (given bytes) ∷ []) }
+    ensures { OnOk result (log.new ≡ log.old ++ Took by from (given message.now) ∷ []) }
+{
+    match message {
+        Some(taken) => log.push_took_of(by, from, taken.bytes(), taken.put()),
+        None => log.push_took(by, from, &[]),
+    }
+}
+
+/// Adds an event to the log, with the message that it took.
+fn note(log: &mut Log, event: &Event, message: &Option<Posted>) -> Result<(), OutOfMemory>
+    ensures { OnOk result (log.new ≡ log.old ++ entry_of event.now (given message.now) ∷ []) }
 {
     match event {
-        Event::Expand(agent) => log.push(Entry::Act(*agent, Kind::Expand)),
-        Event::Take { by, from } => log.push(Entry::Took {
-            by: *by,
-            from: *from,
-            bytes: taken_bytes(alloc, bytes),
-        }),
-        Event::Start => log.push(Entry::Act(Agent::first(), Kind::Start)),
+        Event::Expand(agent) => log.push_act(*agent, Kind::Expand),
+        Event::Take { by, from } => note_taken(log, *by, *from, message),
+        Event::Start => log.push_act(Agent::first(), Kind::Start),
     }
 }
 
-/// The bytes that were taken, and none where none were.
-fn taken_bytes(alloc: Global, bytes: Option<Bytes>) -> Bytes
-    ensures { result ≡ given bytes }
-{
-    match bytes {
-        Some(taken) => taken,
-        None => Bytes::new(alloc),
-    }
-}
-
-/// A message goes out from an agent of a team of so many, behind those that are under way.
-fn deliver(mail: &mut Mail, agents: usize, from: Agent, out: &Out) -> Result<(), OutOfMemory>
+/// A message goes out from an agent of a team of so many, behind those that are under way. The entry at a place of the log
+/// says that it was put.
+fn deliver(
+    mail: &mut Mail,
+    agents: usize,
+    from: Agent,
+    out: Out,
+    put: usize,
+) -> Result<(), OutOfMemory>
     ensures { (records : List AgentRecord) → length records ≡ agents
-        → OnOk result (with_sent from (world_with records mail.old) out.now
+        → OnOk result (with_sent from (world_with records mail.old) out
         ≡ world_with records mail.new) }
 {
     if usize::from(out.to.number()) <= agents {
-        mail.push(from, out.to, out.bytes.copy()?)?;
+        mail.push(from, out.to, Posted::new(out.bytes, put))?;
     }
     Ok(())
 }
 
 /// Adds to the log that a message went out.
-fn note_sent(log: &mut Log, from: Agent, out: Out) -> Result<(), OutOfMemory>
-    ensures { OnOk result (log.new ≡ log.old ++ put_by from out ∷ []) }
+fn note_sent(log: &mut Log, from: Agent, out: &Out) -> Result<(), OutOfMemory>
+    ensures { OnOk result (log.new ≡ log.old ++ put_by from out.now ∷ []) }
 {
-    log.push(Entry::Put {
-        from,
-        to: out.to,
-        bytes: out.bytes,
-    })
+    log.push_put(from, out.to, out.bytes.as_slice())
 }
 
 /// A message goes out, and the log tells it.
@@ -200,8 +199,9 @@ fn send(
         → OnOk result (with_sent from (world_with records mail.old) out
         ≡ world_with records mail.new) }
 {
-    deliver(mail, agents, from, &out)?;
-    note_sent(log, from, out)
+    let put = log.len();
+    note_sent(log, from, &out)?;
+    deliver(mail, agents, from, out, put)
 }
 
 /// Messages go out, one after another, and the log tells them.
@@ -223,28 +223,26 @@ fn send_all(
     Ok(())
 }
 
-/// Adds an event to the log, with the bytes that it took; then its messages go out.
+/// Adds an event to the log, with the message that it took; then its messages go out.
 fn finish(
-    alloc: Global,
     mail: &mut Mail,
     log: &mut Log,
     agents: usize,
     event: &Event,
-    bytes: Option<Bytes>,
+    message: &Option<Posted>,
     outs: Outs,
 ) -> Result<(), OutOfMemory>
-    ensures log { OnOk result (log.new ≡ log.old ++ entries_of event.now (given bytes) outs) }
+    ensures log { OnOk result (log.new ≡ log.old ++ entries_of event.now (given message.now) outs) }
     ensures mail { (records : List AgentRecord) → length records ≡ agents
         → OnOk result (fold (with_sent (agent_of event.now)) (world_with records mail.old) outs
         ≡ world_with records mail.new) }
 {
-    note(alloc, log, event, bytes)?;
+    note(log, event, message)?;
     send_all(mail, log, agents, agent_of(event), outs)
 }
 
 /// An event that may happen, happens, unless its message is a bad one or memory runs out.
 pub(crate) fn happen<H: Heuristic>(
-    alloc: Global,
     machines: &mut Vec<Machine<H>>,
     mail: &mut Mail,
     log: &mut Log,
@@ -259,10 +257,10 @@ pub(crate) fn happen<H: Heuristic>(
     ensures tasks { tasks_of machines.new.items ≡ tasks_of machines.old.items }
     ensures limit { limit_of machines.new.items ≡ limit_of machines.old.items }
 {
-    let bytes = take(mail, event);
-    let outs = match step(machines, event, lent(&bytes)) {
+    let message = take(mail, event);
+    let outs = match step(machines, event, lent(&message)) {
         Ok(outs) => outs,
         Err(refusal) => return Err(refusal),
     };
-    Ok(finish(alloc, mail, log, machines.len(), event, bytes, outs)?)
+    Ok(finish(mail, log, machines.len(), event, &message, outs)?)
 }

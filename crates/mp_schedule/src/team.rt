@@ -30,7 +30,6 @@ use std::marker::Model;
 /// run that its log tells.
 #[derive(Drop)]
 pub struct World<H: Heuristic> {
-    alloc: Global,
     machines: Vec<Machine<H>>,
     mail: Mail,
     log: Log,
@@ -88,7 +87,6 @@ impl<H: Heuristic> World<H> {
         runs_keep_laws::<H>();
         let mail = Mail::new(alloc, machines.len())?;
         Ok(World {
-            alloc,
             machines,
             mail,
             log: Log::new(alloc),
@@ -117,13 +115,7 @@ impl<H: Heuristic> World<H> {
         if let Some(refusal) = refusal_of(&self.machines, &self.mail, &event) {
             return Err(refusal);
         }
-        match happen(
-            self.alloc,
-            &mut self.machines,
-            &mut self.mail,
-            &mut self.log,
-            &event,
-        ) {
+        match happen(&mut self.machines, &mut self.mail, &mut self.log, &event) {
             Ok(()) => Ok(()),
             Err(StepRefusal::Bad(_)) => {
                 no_message_is_bad();
@@ -191,7 +183,7 @@ impl<H: Heuristic> World<H> {
 
     /// There are fewer events than a log in memory has room for.
     pub(crate) fn has_few_events(&self)
-        ensures { length self.now.schedule < 2 ^ 58 }
+        ensures { length self.now.schedule < 2 ^ 59 }
     {
         is_in_memory(&self.log);
     }

@@ -9,7 +9,7 @@ ghost use Rattle.mp_stamps.specs.Sorting.{IsInOrderOf};
 ghost use Rattle.mp_stamps.specs.Turns.{Begins, IsTurn, IsTurnOf, left_behind, up_to};
 
 use crate::stamped::{Stamped, StampedList, StampedLists};
-use mp_list::{Copied, OutOfMemory};
+use mp_list::OutOfMemory;
 use mp_messages::Log;
 
 /// Whose turn it is, and up to which stamp.
@@ -145,7 +145,7 @@ fn add_up_to<'a>(
         if last < first.stamp {
             return Ok(rest);
         }
-        log.push(first.entry.copy()?)?;
+        log.push(&first.entry)?;
         rest = others;
     }
     Ok(rest)

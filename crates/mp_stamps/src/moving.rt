@@ -1,4 +1,4 @@
-//! Stamped lists merged to one log that their entries go over to.
+//! Stamped lists merged to one log, where their entries are let go.
 
 ghost use Rattle.std.specs.Prelude.{◌≡◌, ◌≤◌, ◌<◌, ◌++◌, ◌∷◌, [], ℕ, All, List, length, slice_index_or, slice_set, IfOk, OnOk};
 ghost use Rattle.mp_messages.specs.History.{IsHistory, agent_of, part};
@@ -66,7 +66,7 @@ impl Rest {
             → (self.new ≡ ss) × (log.new ≡ log.old ++ s.entry ∷ [])) }
     {
         match self.entries.pop_front() {
-            Some(first) => log.push(first.entry),
+            Some(first) => log.push(&first.entry),
             None => Ok(()),
         }
     }
@@ -83,8 +83,8 @@ fn move_up_to(rest: &mut Rest, last: u64, log: &mut Log) -> Result<(), OutOfMemo
     Ok(())
 }
 
-/// The log of all lists, as `merge_stamped` gives it, without a copy of any entry: the lists are gone. It takes at most n k steps
-/// for n entries of k lists, and memory for the log's entries, not for the bytes of messages. Refuses only for want of memory.
+/// The log of all lists, as `merge_stamped` gives it, where the lists are gone: each entry is let go as soon as the log has its
+/// message. It takes at most n k steps for n entries of k lists, and memory for the log. Refuses only for want of memory.
 pub fn merge_moved(lists: StampedLists) -> Result<Log, OutOfMemory>
     requires count { (1 ≤ length lists) × (length lists ≤ 16) }
     requires matched { Matched lists }

@@ -6,7 +6,7 @@ ghost use Rattle.mp_stamps.specs.Examples.{message as message_of, of_both, of_th
 use crate::merging::merge_stamped;
 use crate::stamped::{Stamped, StampedList, StampedLists};
 use mp_list::OutOfMemory;
-use mp_messages::{Bytes, Entry, Kind, Log};
+use mp_messages::{Bytes, Entry, EntryView, Kind, Log};
 use mp_sets::Agent;
 use std::alloc::Global;
 use std::test::Fail;
@@ -92,34 +92,41 @@ fn log_of_neither(alloc: Global) -> Result<Log, OutOfMemory> {
     merge_stamped(&lists)
 }
 
-/// Whether a log has these entries: both expand, and then the message goes over.
-fn is_handed_over(log: &Log, one: Agent, two: Agent) -> bool {
-    match log.as_slice() {
-        [
-            Entry::Act(first, Kind::Expand),
-            Entry::Act(second, Kind::Expand),
-            Entry::Put {
-                from,
-                to,
-                bytes: put,
-            },
-            Entry::Took {
-                by,
-                from: of,
-                bytes: taken,
-            },
-        ] => {
-            *first == one
-                && *second == two
-                && *from == one
-                && *to == two
-                && *by == two
-                && *of == one
-                && put.as_slice() == [7, 1].as_slice()
-                && taken.as_slice() == [7, 1].as_slice()
+/// Whether an entry says that an agent expanded a state.
+fn is_expansion(entry: &EntryView<'_>, agent: Agent) -> bool {
+    match entry {
+        EntryView::Act(by, Kind::Expand) => *by == agent,
+        _ => false,
+    }
+}
+
+/// Whether an entry says that the message was put.
+fn is_put(entry: &EntryView<'_>, one: Agent, two: Agent) -> bool {
+    match entry {
+        EntryView::Put { from, to, bytes } => {
+            *from == one && *to == two && *bytes == [7, 1].as_slice()
         }
         _ => false,
     }
+}
+
+/// Whether an entry says that the message was taken.
+fn is_taken(entry: &EntryView<'_>, one: Agent, two: Agent) -> bool {
+    match entry {
+        EntryView::Took { by, from, bytes } => {
+            *by == two && *from == one && *bytes == [7, 1].as_slice()
+        }
+        _ => false,
+    }
+}
+
+/// Whether a log has these entries: both expand, and then the message goes over.
+fn is_handed_over(log: &Log, one: Agent, two: Agent) -> bool {
+    log.len() == 4
+        && is_expansion(&log.entry(0), one)
+        && is_expansion(&log.entry(1), two)
+        && is_put(&log.entry(2), one, two)
+        && is_taken(&log.entry(3), one, two)
 }
 
 #[test]

@@ -1,14 +1,14 @@
 -- The messages that an agent puts before its next event, entry by entry.
-use Rattle.std.proofs.Common.{◌≡◌, sym, ◌∙◌, ℕ, suc, ◌+◌, ◌<◌, ◌==◌, true, false, ◌++◌, ◌∷◌, [], List, length, drop, slice_index_or, add-one, append_assoc}
-use Rattle.std.proofs.Math.Seq.{drop-cons}
+use Rattle.std.proofs.Common.{◌≡◌, sym, ap, ◌∙◌, ℕ, ◌+◌, ◌==◌, true, false, ◌++◌, ◌∷◌, [], List, drop, append_assoc}
 use Rattle.std.specs.List.{filter_map}
+use Rattle.std.proofs.lemmas.Grind.{flat_map-append}
 use Rattle.std.proofs.lemmas.List.Sums.{take_while-cons}
-use Rattle.mp_messages.specs.History.{agent_of, part}
+use Rattle.mp_messages.specs.History.{agent_of, event_of, part}
 use Rattle.mp_messages.specs.declared.history.Kind.{Kind}
 use Rattle.mp_messages.specs.declared.history.Entry.{Entry}
 use Rattle.mp_messages.specs.declared.history.Entry.TheVariants.{Act, Put, Took}
 use Rattle.mp_text.specs.Lines.{Text, text_of_lines}
-use Rattle.mp_text.specs.Trace.{is_put, message_line, put_line, puts_before_event}
+use Rattle.mp_text.specs.Trace.{is_put, lines_if_event, message_line, put_line, puts_before_event, trace_lines, trace_text}
 
 pub put_own : (agent from to : ℕ) (bytes : List ℕ) (later : List Entry) → (from == agent) ≡ true
     → puts_before_event agent (Put from to bytes ∷ later) ≡ Put from to bytes ∷ puts_before_event agent later
@@ -30,10 +30,6 @@ of_another agent entry later other = rw other
 abbrev pub put_text : ℕ → List Entry → Text
 put_text agent later = text_of_lines (filter_map put_line (puts_before_event agent later))
 
-pub drop_at : (later : List Entry) (i : ℕ) (entry : Entry) → i < length later → entry ≡ slice_index_or later i entry
-    → drop i later ≡ entry ∷ drop (i + 1) later
-drop_at later i entry h is = rw add-one (drop-cons later i entry h ∙ (λ k. sym is k ∷ drop (suc i) later))
-
 -- an entry of another agent changes nothing
 pub passed : (agent i : ℕ) (later : List Entry) (entry : Entry) (text whole : Text)
     → drop i later ≡ entry ∷ drop (i + 1) later → (agent_of entry == agent) ≡ false
@@ -48,3 +44,17 @@ pub added : (agent from to i : ℕ) (bytes : List ℕ) (later : List Entry) (ent
     → (text ++ (message_line from to bytes ++ 10 ∷ [])) ++ put_text agent (drop (i + 1) later) ≡ whole
 added agent from to i bytes later entry text whole is puts own known =
     append_assoc text _ _ ∙ rw (is, puts, put_own agent from to bytes (drop (i + 1) later) own) at known
+
+-- an entry adds its lines to the text of a run
+pub entry_added : (i : ℕ) (log : List Entry) (entry : Entry) (text more whole : Text)
+    → drop i log ≡ entry ∷ drop (i + 1) log
+    → more ≡ text ++ text_of_lines (lines_if_event (agent_of entry) (drop (i + 1) log) (event_of entry))
+    → text ++ trace_text (drop i log) ≡ whole → more ++ trace_text (drop (i + 1) log) ≡ whole
+entry_added i log entry text more whole is grown known =
+    let later = drop (i + 1) log in
+    let lines = lines_if_event (agent_of entry) later (event_of entry) in
+    ap (λ t. t ++ trace_text later) grown
+    ∙ append_assoc text (text_of_lines lines) (trace_text later)
+    ∙ ap (λ t. text ++ t) (sym (flat_map-append (λ (line : Text). line ++ 10 ∷ []) lines (trace_lines later)))
+    ∙ ap (λ entries. text ++ trace_text entries) (sym is)
+    ∙ known

@@ -4,7 +4,7 @@ ghost use Rattle.std.specs.Prelude.{◌≡◌, length};
 ghost use Rattle.mp_messages.specs.History.{schedule};
 ghost use Rattle.mp_text.specs.Outcome.{messages as messages_of, message_bytes};
 
-use mp_messages::Entry;
+use mp_messages::{EntryView, Log};
 
 /// How many events a log has, how many messages were put, and how many bytes these have.
 #[derive(Clone, Copy)]
@@ -15,7 +15,7 @@ pub(crate) struct Counts {
 }
 
 /// The counts of a log.
-pub(crate) fn count(log: &[Entry]) -> Counts
+pub(crate) fn count(log: &Log) -> Counts
     ensures events { result.events ≡ length (schedule log.now) }
     ensures messages { result.messages ≡ length (messages_of log.now) }
     ensures bytes { result.bytes ≡ message_bytes log.now }
@@ -23,14 +23,14 @@ pub(crate) fn count(log: &[Entry]) -> Counts
     let mut events = 0;
     let mut messages = 0;
     let mut total = 0;
-    for entry in log {
-        match entry {
-            Entry::Act(_, _) => events += 1,
-            Entry::Put { bytes, .. } => {
+    for at in 0..log.len() {
+        match log.entry(at) {
+            EntryView::Act(_, _) => events += 1,
+            EntryView::Put { bytes, .. } => {
                 messages += 1;
                 total += bytes.len() as u128;
             }
-            Entry::Took { .. } => events += 1,
+            EntryView::Took { .. } => events += 1,
         }
     }
     Counts {

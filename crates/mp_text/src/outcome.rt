@@ -9,7 +9,7 @@ use crate::counts::count;
 use crate::write::{push_bytes, push_number};
 use mp_joint::{Names, PlanStep};
 use mp_list::{List, OutOfMemory};
-use mp_messages::{Bytes, Entry, Log};
+use mp_messages::{Bytes, Log};
 use mp_trail::{Share, Timed};
 use mp_world::{Answer, Outcome};
 use std::alloc::Global;
@@ -96,7 +96,7 @@ fn push_agents(text: &mut Bytes, shares: &[Share], names: &[Names]) -> Result<()
 }
 
 /// Appends the line that counts events, messages and their bytes.
-fn push_counts(text: &mut Bytes, log: &[Entry]) -> Result<(), OutOfMemory>
+fn push_counts(text: &mut Bytes, log: &Log) -> Result<(), OutOfMemory>
     ensures { OnOk result (text.new ≡ text.old ++ (count_line log.now ++ 10 ∷ [])) }
 {
     let counts = count(log);
@@ -129,6 +129,6 @@ pub fn outcome_text(
         Answer::Unsolvable => push_bytes(&mut text, b"unsolvable\n")?,
         Answer::Undecided => push_bytes(&mut text, b"undecided\n")?,
     }
-    push_counts(&mut text, log.as_slice())?;
+    push_counts(&mut text, log)?;
     Ok(text)
 }

@@ -15,7 +15,7 @@ use crate::refusal::{FirstRefusal, Refusal};
 use crate::status::Status;
 use mp_checker::{CheckVerdict, check};
 use mp_list::{List, OutOfMemory};
-use mp_messages::Bytes;
+use mp_messages::{Bytes, Log};
 use mp_optimality::is_valid;
 use mp_plans::{PlanText, read_plan, steps_text, verdict_text};
 use mp_steps::{PackRefusal, Packed, pack};
@@ -40,7 +40,7 @@ fn found_of_plan(alloc: Global, found: &CheckVerdict, stated: u64) -> Result<Dec
 {
     Ok(Decision {
         views: List::new(alloc),
-        log: List::new(alloc),
+        log: Log::new(alloc),
         answer: Answer::Nothing,
         before: List::new(alloc),
         text: verdict_text(alloc, found, stated)?,
@@ -83,7 +83,7 @@ fn told_steps(alloc: Global, packed: &Packed, plan: &PlanText) -> Result<Decisio
     let found = CheckVerdict::Valid(packed.cost);
     Ok(Decision {
         views: List::new(alloc),
-        log: List::new(alloc),
+        log: Log::new(alloc),
         answer: Answer::Nothing,
         before: List::new(alloc),
         text: text_of_steps(alloc, packed, plan)?,

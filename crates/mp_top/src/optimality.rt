@@ -11,6 +11,7 @@ use crate::refusal::{FirstRefusal, Refusal};
 use crate::status::Status;
 use mp_ground::GroundRefusal;
 use mp_list::{List, OutOfMemory};
+use mp_messages::Log;
 use mp_optimality::{AuditRefusal, Certified, PlanAudit, audit_plan, certify};
 use mp_solve::Solution;
 use mp_typing::CheckedFactor;
@@ -65,7 +66,7 @@ fn told_audit(alloc: Global, found: PlanAudit) -> Decision
     let status = if optimal { Status::Solved } else { Status::No };
     Decision {
         views: List::new(alloc),
-        log: List::new(alloc),
+        log: Log::new(alloc),
         answer: Answer::Nothing,
         before: List::new(alloc),
         text,

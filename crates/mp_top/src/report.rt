@@ -23,7 +23,7 @@ impl Report {
     {
         Report {
             views: List::new(alloc),
-            log: List::new(alloc),
+            log: Log::new(alloc),
             answer: Answer::Nothing,
         }
     }

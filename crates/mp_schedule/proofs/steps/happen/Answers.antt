@@ -15,8 +15,8 @@ returns-in-Err g c =
     let bytes = given (option_map (λ b. b.now) c.lent.result) in
     record {
       done = not_done value ms new event bytes c.args.mail.now c.args.log.now c.requires.free c.requires.legal
-          (c.lent.ensures ∙ c.take-bytes.ensures.taken (map (λ (m : AgentMachine). m.done) ms)) c.in-Err.refusal
-          (record { machines = new; mail = c.take-bytes.new.mail; log = c.args.log.now }) c.in-Err.ensures;
+          (c.lent.ensures ∙ c.take-message.ensures.taken (map (λ (m : AgentMachine). m.done) ms)) c.in-Err.refusal
+          (record { machines = new; mail = c.take-message.new.mail; log = c.args.log.now }) c.in-Err.ensures;
       tasks = keeps_tasks value ms new event bytes c.step.result c.step.ensures;
       limit = keeps_limit value ms new event bytes c.step.result c.step.ensures;
     }
@@ -45,9 +45,9 @@ returns g c =
     ∙ sym (c.len.ensures ∙ c.step.new.machines.ok.0) in
     record {
       done = all_done value ms new event bytes c.args.mail.now c.args.log.now c.requires.free c.requires.legal
-          (c.lent.ensures ∙ c.take-bytes.ensures.taken (map (λ (m : AgentMachine). m.done) ms))
-          c.in-Ok.outs c.take-bytes.new.mail c.finish.new.mail c.finish.new.log c.in-Ok.ensures
-          (c.take-bytes.ensures.left (map (λ (m : AgentMachine). m.done) ms))
+          (c.lent.ensures ∙ c.take-message.ensures.taken (map (λ (m : AgentMachine). m.done) ms))
+          c.in-Ok.outs c.take-message.new.mail c.finish.new.mail c.finish.new.log c.in-Ok.ensures
+          (c.take-message.ensures.left (map (λ (m : AgentMachine). m.done) ms))
           (c.in_ok-finish.ensures.mail records size)
           (c.in_ok-finish.ensures.log ∙ ap (λ b. c.args.log.now ++ entries_of event b c.in-Ok.outs) (sym c.lent.ensures));
       tasks = keeps_tasks value ms new event bytes c.step.result c.step.ensures;

@@ -5,4 +5,4 @@ use Rattle.mp_schedule.proofs.team.World.has_few_events.Goals as goal
 
 pub returns : goal.returns
 returns g c =
-    subst (λ (r : TeamRun). length r.schedule < 2 ^ 58) c.self.view_is (few_events c.self.inside.log c.is_in_memory.ensures)
+    subst (λ (r : TeamRun). length r.schedule < 2 ^ 59) c.self.view_is (few_events c.self.inside.log c.is_in_memory.ensures)

@@ -8,4 +8,4 @@ invariant-rounds g l = LeadsTo (Rounds g.H.Heuristic.value l.agents) l.fn.self l
 
 -- the room that memory has left for events
 abbrev pub decreases-rounds : goal.decreases-rounds
-decreases-rounds g l = 2 ^ 58 - length l.self.schedule
+decreases-rounds g l = 2 ^ 59 - length l.self.schedule
