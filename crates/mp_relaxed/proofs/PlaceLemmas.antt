@@ -2,7 +2,9 @@
 use Rattle.std.proofs.Common.{◌≡◌, ℕ, zero, suc, ◌+◌, ◌<◌, ◌≤◌, List, [], ◌∷◌, ◌++◌, All, length, get_or, map, refl, sym, ap, ◌∙◌, subst, ⊎_elim, get_or-set_same, get_or-set_other, arith}
 use Rattle.std.proofs.Math.ListN.{set as set_at}
 use Rattle.std.proofs.lemmas.Bool.{cases_eq, cases_lt}
-use Rattle.std.proofs.lemmas.List.{map-append, append_assoc, length-set, set-get_or}
+use Rattle.std.proofs.Math.ListN.{get_or-append}
+use Rattle.std.proofs.Math.Seq.{get_or-append_seam}
+use Rattle.std.proofs.lemmas.List.{map-append, append_assoc, length-append, length-set, set-get_or}
 use Rattle.std.proofs.lemmas.List.Elements.{All-nil, All-head, All-tail, All-append, All-map}
 use Rattle.std.proofs.lemmas.List.Sorted.{IsPermutation-middle, IsPermutation-sym, IsPermutation-trans, IsPermutation-append_right}
 use Rattle.std.specs.List.Sorted.{IsPermutation}
@@ -36,6 +38,21 @@ module _ {Z : Type 0} where
   placed_none m [] none = refl
   placed_none m (row ∷ rows) none =
       (λ j. map (λ y. (m, y)) (All-head (λ (row : Vec ℕ Z). row.items ≡ []) row rows none j) ++ placed_none (m + 1) rows (All-tail (λ (row : Vec ℕ Z). row.items ≡ []) row rows none) j)
+
+  -- a further row without facts gives no entry, and is empty
+
+  pub placed_added : (m : ℕ) (rows : List (Vec ℕ Z)) (row : Vec ℕ Z) → row.items ≡ [] → placed m (rows ++ row ∷ []) ≡ placed m rows
+  placed_added m [] row none = λ j. map (λ y. (m, y)) (none j) ++ []
+  placed_added m (first ∷ rows) row none = ap (λ l. map (λ y. (m, y)) first.items ++ l) (placed_added (m + 1) rows row none)
+
+  pub empty_added : (rows : List (Vec ℕ Z)) (row : Vec ℕ Z) (from to : ℕ) → row.items ≡ [] → AreEmptyWithin from to rows → AreEmptyWithin from to (rows ++ row ∷ [])
+  empty_added rows row from to none empty = λ n d at lt within. ⊎_elim
+      (λ less. ap (λ (r : Vec ℕ Z). r.items) (get_or-append rows (row ∷ []) d n less) ∙ empty n d at lt less)
+      (λ le.
+      let long = length-append rows (row ∷ []) in
+      let last : n ≡ length rows = omega arith in
+      ap (λ (r : Vec ℕ Z). r.items) (ap (λ k. get_or (rows ++ row ∷ []) k d) last ∙ get_or-append_seam rows row [] d) ∙ none)
+      (cases_lt n (length rows))
 
   -- no entry has a number below the first row with a fact
   pub placed_from : (m least : ℕ) (rows : List (Vec ℕ Z)) → ((n : ℕ) (d : Vec ℕ Z) → m + n < least → n < length rows → (get_or rows n d).items ≡ []) → AreFrom least (placed m rows)

@@ -30,10 +30,10 @@ module _ {Z : Type 0} where
 abbrev pub place_entries : Inside → List Key
 place_entries p = placed 0 p.rows.items
 
--- there are the rows that there should be, and those below the least number, and from the end on, are empty
+-- there are no more rows than numbers that can have one, and those below the least number, and from the end on, are empty
 pub record AreRows (p : Inside) : Type 0 where
-  pub many : length p.rows.items ≡ 128
-  pub within : p.end ≤ 128
+  pub few : length p.rows.items ≤ 1024
+  pub within : p.end ≤ length p.rows.items
   pub in_order : p.least ≤ p.end
   pub below : AreEmptyWithin 0 p.least p.rows.items
-  pub above : AreEmptyWithin p.end 128 p.rows.items
+  pub above : AreEmptyWithin p.end 1024 p.rows.items

@@ -17,4 +17,4 @@ queue_entries q = q.places ++ map (λ (e : Reverse Key). e.0) (heap_items q.heap
 -- the heap is in its order, and its numbers are too great for the places
 pub record IsInOrder (q : Inside) : Type 0 where
   pub order : IsHeap from_low (heap_items q.heap)
-  pub high : All (λ (e : Reverse Key). 128 ≤ e.0.0) (heap_items q.heap)
+  pub high : All (λ (e : Reverse Key). 1024 ≤ e.0.0) (heap_items q.heap)

@@ -1,7 +1,7 @@
 //! Facts that wait with small numbers, in rows by their numbers.
 
-ghost use Rattle.std.specs.Prelude.{◌≡◌, ◌<◌, ◌≤◌, [], ◌∷◌, IfNone, IfOk, IfSome, IsPermutation, OnOk, length, vec_len};
-ghost use Rattle.mp_relaxed.specs.Places.{AreEmpty, AreEmptyWithin, HasFact};
+ghost use Rattle.std.specs.Prelude.{◌≡◌, ◌<◌, ◌≤◌, ℕ, [], ◌∷◌, IfNone, IfSome, IsPermutation, OnOk, length, vec_len};
+ghost use Rattle.mp_relaxed.specs.Places.{AreEmpty, AreEmptyWithin, HasFact, placed};
 ghost use Rattle.mp_estimates.specs.Lowering.{key};
 ghost use Rattle.mp_relaxed.specs.Search.{AreFrom};
 
@@ -9,18 +9,24 @@ use mp_list::OutOfMemory;
 use std::alloc::Global;
 use std::marker::Model;
 
-/// How many numbers have a row.
-pub(crate) const ROWS: usize = 128;
+/// How many numbers can have a row.
+pub(crate) const ROWS: usize = 1_024;
 
-/// So many empty rows.
-fn empty_rows(alloc: Global) -> Result<Vec<Vec<u32>>, OutOfMemory>
-    ensures { IfOk result (λ rows. (vec_len rows ≡ 128) × AreEmpty rows.items) }
+/// Sees to it that a number has a row. The rows that are added for it are empty; where memory runs out they stay.
+fn make_row(rows: &mut Vec<Vec<u32>>, number: usize) -> Result<(), OutOfMemory>
+    requires number { number < 1024 }
+    requires few { vec_len rows.old ≤ 1024 }
+    ensures some { OnOk result (number < vec_len rows.new) }
+    ensures few { vec_len rows.new ≤ 1024 }
+    ensures kept { vec_len rows.old ≤ vec_len rows.new }
+    ensures same { placed 0 rows.new.items ≡ placed 0 rows.old.items }
+    ensures empty { (from to : ℕ) → AreEmptyWithin from to rows.old.items → AreEmptyWithin from to rows.new.items }
 {
-    let mut rows = Vec::with_capacity(alloc, ROWS)?;
-    for _ in 0..ROWS {
+    let alloc = *rows.allocator();
+    'each: while rows.len() <= number {
         rows.push(Vec::new(alloc))?;
     }
-    Ok(rows)
+    Ok(())
 }
 
 /// Empties the rows from one on and below another, where all others are empty. They keep their memory.
@@ -56,8 +62,8 @@ fn next_row(rows: &[Vec<u32>], from: usize, end: usize) -> usize
     at
 }
 
-/// Facts with numbers below the number of rows, in the rows of their numbers, a row below which none has a fact, and one from
-/// which on none has. Contracts see the list of entries, in an order that says nothing.
+/// Facts with small numbers, in the rows of their numbers, a row below which none has a fact, and one from which on none
+/// has. There are rows up to the greatest number that came. Contracts see the list of entries, in an order that says nothing.
 #[derive(Drop)]
 pub(crate) struct Places {
     rows: Vec<Vec<u32>>,
@@ -78,16 +84,15 @@ impl Model for Places {
 }
 
 impl Places {
-    /// Without facts. Refuses only for want of memory.
-    pub(crate) fn new(alloc: Global) -> Result<Places, OutOfMemory>
-        ensures { IfOk result (λ places. places ≡ []) }
+    /// Without facts. Takes no memory.
+    pub(crate) fn new(alloc: Global) -> Places
+        ensures { result ≡ [] }
     {
-        let rows = empty_rows(alloc)?;
-        Ok(Places {
-            rows,
+        Places {
+            rows: Vec::new(alloc),
             least: 0,
             end: 0,
-        })
+        }
     }
 
     /// Takes all entries away.
@@ -101,9 +106,10 @@ impl Places {
 
     /// One more entry. Refuses only for want of memory.
     pub(crate) fn push(&mut self, number: usize, fact: u32) -> Result<(), OutOfMemory>
-        requires { number < 128 }
+        requires { number < 1024 }
         ensures { OnOk result (IsPermutation (key number fact ∷ self.old) self.new) }
     {
+        make_row(&mut self.rows, number)?;
         self.rows[number].push(fact)?;
         self.least = self.least.min(number);
         self.end = self.end.max(number + 1);
@@ -115,7 +121,7 @@ impl Places {
     pub(crate) fn pop(&mut self) -> Option<(u64, u32)>
         ensures entry { IfSome result (λ e. IsPermutation self.old (key e.0 e.1 ∷ self.new)) }
         ensures least { IfSome result (λ e. AreFrom e.0 self.old) }
-        ensures small { IfSome result (λ e. e.0 < 128) }
+        ensures small { IfSome result (λ e. e.0 < 1024) }
         ensures none { IfNone result ((self.old ≡ []) × (self.new ≡ [])) }
     {
         let least = next_row(self.rows.as_slice(), self.least, self.end);

@@ -1,6 +1,6 @@
 //! Facts that wait with their numbers.
 
-ghost use Rattle.std.specs.Prelude.{◌≡◌, [], ◌∷◌, IfNone, IfOk, IfSome, OnOk, IsPermutation};
+ghost use Rattle.std.specs.Prelude.{◌≡◌, [], ◌∷◌, IfNone, IfSome, OnOk, IsPermutation};
 ghost use Rattle.mp_estimates.specs.Lowering.{key};
 ghost use Rattle.mp_relaxed.specs.Search.{AreFrom};
 
@@ -32,15 +32,14 @@ impl Model for Queue {
 }
 
 impl Queue {
-    /// Without entries. Refuses only for want of memory.
-    pub(crate) fn new(alloc: Global) -> Result<Queue, OutOfMemory>
-        ensures { IfOk result (λ queue. queue ≡ []) }
+    /// Without entries. Takes no memory.
+    pub(crate) fn new(alloc: Global) -> Queue
+        ensures { result ≡ [] }
     {
-        let places = Places::new(alloc)?;
-        Ok(Queue {
-            places,
+        Queue {
+            places: Places::new(alloc),
             heap: BinaryHeap::new(alloc),
-        })
+        }
     }
 
     /// Takes all entries away.

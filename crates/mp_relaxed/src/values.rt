@@ -41,11 +41,10 @@ impl Search {
     {
         let counters = vec![in alloc; 0; problem.counts().len()]?;
         let numbers = vec![in alloc; u64::MAX; problem.facts() as usize]?;
-        let queue = Queue::new(alloc)?;
         Ok(Search {
             counters,
             numbers,
-            queue,
+            queue: Queue::new(alloc),
         })
     }
 

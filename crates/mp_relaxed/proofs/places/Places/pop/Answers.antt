@@ -12,10 +12,10 @@ returns-then-least-self-clause-none c =
     let rows = c.self.inside.rows.items in
     let n = c.next_row-least.result in
     let passed = subst (AreEmptyWithin c.self.inside.least n) c.as_slice.ensures.value c.next_row-least.ensures.passed in
-    let many = c.self.invariant.many in
+    let few = c.self.invariant.few in
     let last = c.self.inside.end in
     let below : AreEmptyWithin 0 last rows = subst (λ (k : ℕ). AreEmptyWithin 0 k rows) (omega arith) (empty_joined rows c.self.inside.least n c.self.invariant.below passed) in
-    let none = placed_none 0 rows (empty_all rows 128 (omega arith) (empty_joined rows last 128 below c.self.invariant.above)) in
+    let none = placed_none 0 rows (empty_all rows 1024 (omega arith) (empty_joined rows last 1024 below c.self.invariant.above)) in
     (sym c.self.view_is ∙ none, none)
 
 pub returns-clause-entry : goal.returns-clause-entry
@@ -23,7 +23,7 @@ returns-clause-entry c =
     let rows = c.self.inside.rows.items in
     let n = c.next_row-least.result in
     let long = c.as_slice.ensures.len in
-    let many = c.self.invariant.many in
+    let whole = c.self.invariant.within in
     let le = c.next_row-least.ensures.within in
     let less : n < length rows = omega (arith, c.if-least-self.false) in
     subst (λ l. IsPermutation l (key n c.in_ok-fact.fact ∷ placed 0 (set_at rows n c.pop.new.self))) c.self.view_is

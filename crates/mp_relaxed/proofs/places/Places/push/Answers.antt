@@ -1,4 +1,4 @@
-use Rattle.std.proofs.Common.{◌∷◌, subst, arith}
+use Rattle.std.proofs.Common.{◌∷◌, ◌∙◌, subst, arith}
 use Rattle.std.proofs.Math.ListN.{set as set_at}
 use Rattle.std.specs.List.Sorted.{IsPermutation}
 use Rattle.mp_relaxed.specs.Places.{placed}
@@ -8,5 +8,6 @@ use Rattle.mp_relaxed.proofs.places.Places.push.Goals as goal
 
 pub returns : goal.returns
 returns c =
-    subst (λ l. IsPermutation (key c.args.number c.args.fact ∷ l) (placed 0 (set_at c.self.inside.rows.items c.args.number c.push.new.self))) c.self.view_is
-    (placed_pushed c.args.number c.self.inside.rows.items _ c.push.new.self c.args.fact (omega arith) c.index_mut.ensures.value c.in_ok-push.ensures.items)
+    let rows = c.make_row.new.rows.items in
+    subst (λ l. IsPermutation (key c.args.number c.args.fact ∷ l) (placed 0 (set_at rows c.args.number c.push.new.self))) (c.make_row.ensures.same ∙ c.self.view_is)
+    (placed_pushed c.args.number rows _ c.push.new.self c.args.fact (omega (arith, c.in_ok-make_row.ensures.some)) c.index_mut.ensures.value c.in_ok-push.ensures.items)

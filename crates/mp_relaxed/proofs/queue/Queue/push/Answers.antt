@@ -12,8 +12,8 @@ pub invariant_of-self-else-number : goal.invariant_of-self-else-number
 invariant_of-self-else-number c = record {
   order = c.in_ok-push.ensures.heap_order c.self.invariant.order;
   high =
-      All-permutation (λ (e : Reverse Key). 128 ≤ e.0.0) _ (heap_items c.push-else-number.new.self) c.in_ok-push.ensures.permutation
-      (All-cons (λ (e : Reverse Key). 128 ≤ e.0.0) (record { 0 = (c.args.number, c.args.fact) }) (heap_items c.self.inside.heap) (omega arith) c.self.invariant.high);
+      All-permutation (λ (e : Reverse Key). 1024 ≤ e.0.0) _ (heap_items c.push-else-number.new.self) c.in_ok-push.ensures.permutation
+      (All-cons (λ (e : Reverse Key). 1024 ≤ e.0.0) (record { 0 = (c.args.number, c.args.fact) }) (heap_items c.self.inside.heap) (omega arith) c.self.invariant.high);
 }
 
 pub returns-then-number : goal.returns-then-number
