@@ -16,6 +16,7 @@ fn with_word(number: u64, word: u64) -> u64
 }
 
 /// One number for another one and words more.
+#[inline(always)]
 fn with_words(number: u64, words: &[u64]) -> u64
     ensures { result ≡ fold with_word number words.now }
 {
@@ -27,6 +28,7 @@ fn with_words(number: u64, words: &[u64]) -> u64
 }
 
 /// The hash of a row in two parts.
+#[inline(always)]
 #[tactic(auto, unfolding(crate::specs::Hashes::hash_of))]
 pub(crate) fn hash_of(front: &[u64], back: &[u64]) -> u32
     ensures { result ≡ hash_of (front.now ++ back.now) }

@@ -64,6 +64,8 @@ impl Rows {
     }
 
     /// The number of the row that consists of two parts: none exactly where it is not there. Takes no memory.
+    // It is inlined, so that no loop is left over a part whose length the caller knows.
+    #[inline(always)]
     pub fn find(&self, front: &[u64], back: &[u64]) -> Option<usize>
         ensures found { IfSome result (λ n. (n < length self.now) × (row_at self.now n ≡ front.now ++ back.now)) }
         ensures none { IfNone result (IsNew (front.now ++ back.now) self.now) }
@@ -78,6 +80,8 @@ impl Rows {
     }
 
     /// Adds a row that consists of two parts and is not there. For want of memory the rows stay as they were.
+    // It is inlined as `find` is.
+    #[inline(always)]
     pub fn push(&mut self, front: &[u64], back: &[u64]) -> Result<(), OutOfMemory>
         requires { IsNew (front.now ++ back.now) self.old }
         ensures pushed { OnOk result (self.new ≡ self.old ++ (front.now ++ back.now) ∷ []) }
@@ -109,13 +113,23 @@ fn words_of(words: &[u64], link: Link) -> &[u64]
 }
 
 /// Whether words are the same.
+#[inline(always)]
 fn are_equal(words: &[u64], others: &[u64]) -> bool
     ensures { IsTrue result ↔ (words.now ≡ others.now) }
 {
-    words == others
+    if words.len() != others.len() {
+        return false;
+    }
+    for at in 0..words.len() {
+        if words[at] != others[at] {
+            return false;
+        }
+    }
+    true
 }
 
 /// Whether a row consists of two parts.
+#[inline(always)]
 fn is_row(row: &[u64], front: &[u64], back: &[u64]) -> bool
     ensures { IsTrue result ↔ (row.now ≡ front.now ++ back.now) }
 {
@@ -126,6 +140,7 @@ fn is_row(row: &[u64], front: &[u64], back: &[u64]) -> bool
 }
 
 /// Whether the row of a link has a hash and consists of two parts.
+#[inline(always)]
 fn has_row(words: &[u64], link: Link, hash: u32, front: &[u64], back: &[u64]) -> bool
     requires within { (link.start ≤ link.end) × (link.end ≤ length words.now) }
     requires hashed { link.hash ≡ hash_of (slice_range words.now link.start link.end) }
@@ -136,6 +151,7 @@ fn has_row(words: &[u64], link: Link, hash: u32, front: &[u64], back: &[u64]) ->
 }
 
 /// The number of the row that consists of two parts.
+#[inline(always)]
 fn find_row(
     words: &[u64],
     links: &[Link],
@@ -164,6 +180,7 @@ fn find_row(
 }
 
 /// Where a row will stand that comes next, and its hash.
+#[inline(always)]
 fn next_link(words: &Vec<u64>, front: &[u64], back: &[u64]) -> Result<Link, OutOfMemory>
     ensures hash { IfOk result (λ link. link.hash ≡ hash_of (front.now ++ back.now)) }
     ensures start { IfOk result (λ link. link.start ≡ length words.now.items) }
@@ -204,16 +221,31 @@ fn make_room(
     Ok(())
 }
 
+/// Puts words at the end of others, which have room for them.
+#[inline(always)]
+fn add_all(words: &mut Vec<u64>, more: &[u64])
+    requires { vec_len words.old + length more.now ≤ vec_capacity words.old }
+    ensures items { words.new.items ≡ words.old.items ++ more.now }
+    ensures len { vec_len words.new ≡ vec_len words.old + length more.now }
+    ensures capacity { vec_capacity words.old ≤ vec_capacity words.new }
+{
+    for word in more {
+        words.push_reserved(*word);
+    }
+}
+
 /// Puts a row at the end of the words, which have room for it.
+#[inline(always)]
 fn add_words(words: &mut Vec<u64>, front: &[u64], back: &[u64])
     requires { vec_len words.old + length (front.now ++ back.now) ≤ vec_capacity words.old }
     ensures { words.new.items ≡ words.old.items ++ (front.now ++ back.now) }
 {
-    words.extend_from_slice(front).unwrap();
-    words.extend_from_slice(back).unwrap();
+    add_all(words, front);
+    add_all(words, back);
 }
 
 /// Adds a row, for which there is room.
+#[inline(always)]
 fn add_row(
     words: &mut Vec<u64>,
     links: &mut Vec<Link>,
@@ -237,11 +269,12 @@ fn add_row(
 {
     let number = links.len();
     add_words(words, front, back);
-    links.push(link).unwrap();
+    links.push_reserved(link);
     chain(heads, links, number);
 }
 
 /// Adds a row that is not there.
+#[inline(always)]
 fn push_row(
     words: &mut Vec<u64>,
     links: &mut Vec<Link>,

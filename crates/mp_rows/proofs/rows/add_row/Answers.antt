@@ -14,7 +14,7 @@ chain-requires-clause-chained c =
     let row = c.args.front.now ++ c.args.back.now in
     let link = c.args.link in
     let number : c.len-number.result ≡ length links = search rules in
-    let grown : c.push.new.self.items ≡ links ++ link ∷ [] = search rules in
+    let grown : c.push_reserved.new.self.items ≡ links ++ link ∷ [] = search rules in
     subst (λ (ls : List Link). AreChained c.args.heads.now.items ls c.len-number.result) (sym grown)
     (subst (AreChained c.args.heads.now.items (links ++ link ∷ [])) (sym number)
     (chained_alike c.args.heads.now.items links (links ++ link ∷ []) (length links) (λ k h. sym (get_or_append_left links (link ∷ []) no_link k h)) c.requires.rows.chained))
@@ -26,7 +26,7 @@ returns-clause-rows c =
     let row = c.args.front.now ++ c.args.back.now in
     let link = c.args.link in
     let number : c.len-number.result ≡ length links = search rules in
-    let grown : c.push.new.self.items ≡ links ++ link ∷ [] = search rules in
+    let grown : c.push_reserved.new.self.items ≡ links ++ link ∷ [] = search rules in
     let others = c.chain.new.links.items in
     let more = c.chain.new.heads.items in
     let same : places others ≡ places links ++ place_of_next words row ∷ [] =
@@ -47,5 +47,5 @@ returns-clause-places c =
     let row = c.args.front.now ++ c.args.back.now in
     let link = c.args.link in
     let number : c.len-number.result ≡ length links = search rules in
-    let grown : c.push.new.self.items ≡ links ++ link ∷ [] = search rules in
+    let grown : c.push_reserved.new.self.items ≡ links ++ link ∷ [] = search rules in
     c.chain.ensures.places ∙ ap places grown ∙ map-append place links (link ∷ [])
