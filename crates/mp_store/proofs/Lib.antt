@@ -10,6 +10,8 @@ pub mod Sound
 pub mod Growing
 -- the order of open entries
 pub mod RankLemmas
+-- ranks in their order, beside others
+pub mod OpenLemmas
 -- the best entry of a key
 pub mod BestLemmas
 -- the ranks of open entries

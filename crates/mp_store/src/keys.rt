@@ -103,6 +103,7 @@ impl Keys {
 }
 
 /// Whether tags are at a place.
+#[inline(always)]
 fn are_at(tags: &IndexSet<Tags>, place: usize, sought: &Tags) -> bool
     ensures { IsTrue result → (place < length tags.now.keys) × (tags_at tags.now.keys place ≡ sought.now) }
 {
@@ -112,7 +113,17 @@ fn are_at(tags: &IndexSet<Tags>, place: usize, sought: &Tags) -> bool
     }
 }
 
+/// The place of tags: none exactly where they are not there.
+#[inline(never)]
+fn find_elsewhere(tags: &IndexSet<Tags>, sought: &Tags) -> Option<usize>
+    ensures found { IfSome result (λ n. (n < length tags.now.keys) × (tags_at tags.now.keys n ≡ sought.now)) }
+    ensures none { IfNone result ((n : ℕ) → n < length tags.now.keys → tags_at tags.now.keys n ≡ sought.now → ⊥) }
+{
+    tags.get_index_of(sought)
+}
+
 /// The place of tags, which are looked for at a place first: none exactly where they are not there.
+#[inline(always)]
 fn find_tags(tags: &IndexSet<Tags>, near: usize, sought: &Tags) -> Option<usize>
     ensures found { IfSome result (λ n. (n < length tags.now.keys) × (tags_at tags.now.keys n ≡ sought.now)) }
     ensures none { IfNone result ((n : ℕ) → n < length tags.now.keys → tags_at tags.now.keys n ≡ sought.now → ⊥) }
@@ -120,7 +131,7 @@ fn find_tags(tags: &IndexSet<Tags>, near: usize, sought: &Tags) -> Option<usize>
     if are_at(tags, near, sought) {
         return Some(near);
     }
-    tags.get_index_of(sought)
+    find_elsewhere(tags, sought)
 }
 
 /// Adds tags that are not there.
@@ -173,6 +184,7 @@ fn size_of(key: &Key) -> u32
 }
 
 /// The number of a row.
+#[inline(never)]
 fn find_row(rows: &Rows, size: u32, place: usize, mine: u64, words: &[u64]) -> Option<usize>
     ensures found { IfSome result (λ n. (n < length rows.now)
         × (row_at rows.now n ≡ size ∷ place ∷ mine ∷ words.now)) }
@@ -196,6 +208,7 @@ fn find_key(tags: &IndexSet<Tags>, near: usize, rows: &Rows, key: &Key) -> Optio
 }
 
 /// Adds a row that is not there.
+#[inline(never)]
 fn push_row(
     rows: &mut Rows,
     size: u32,
