@@ -29,10 +29,10 @@ found_tags tags sought (Some n) is =
     (at.0, sym ((Decides-tags sought (tags_at tags n)).0 at.1))
 
 -- tags that are the same as those at a place
-pub tags_there : (tags : List (List Tag)) (sought there : List Tag) (n : ℕ) → slice_get tags n ≡ Some there → same_tags sought there ≡ true
+pub tags_there : (tags : List (List Tag)) (sought there : List Tag) (n : ℕ) → slice_get tags n ≡ Some there → sought ≡ there
     → (n < length tags) × (tags_at tags n ≡ sought)
 tags_there tags sought there n at same =
-    (slice_get_within tags n there at, get_or_from_slice_get tags n there [] at ∙ sym ((Decides-tags sought there).0 same))
+    (slice_get_within tags n there at, get_or_from_slice_get tags n there [] at ∙ sym same)
 
 pub none_tags : (tags : List (List Tag)) (sought : List Tag) (r : Option ℕ) → is_some r ≡ list_any (same_tags sought) tags → IfNone r ((n : ℕ) → n < length tags → tags_at tags n ≡ sought → ⊥)
 none_tags tags sought None is = λ n inside same.

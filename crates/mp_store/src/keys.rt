@@ -1,6 +1,6 @@
 //! The keys of a store, each once.
 
-ghost use Rattle.std.specs.Prelude.{◌≡◌, ◌≤◌, ◌+◌, ◌-◌, ◌∷◌, ◌++◌, ◌<◌, ◌^◌, [], ℕ, IfNone, IfOk, IfSome, IsTrue, OnErr, OnOk, length, take};
+ghost use Rattle.std.specs.Prelude.{◌≡◌, ◌↔◌, ◌≤◌, ◌+◌, ◌-◌, ◌∷◌, ◌++◌, ◌<◌, ◌^◌, [], ℕ, IfNone, IfOk, IfSome, IsTrue, OnErr, OnOk, length, take};
 ghost use Rattle.mp_rows.specs.Apart.{row_at, AreOnce, IsNew};
 ghost use Rattle.mp_store.specs.KeyRows.{key_at, key_in, keys_at, no_key, place_in, tags_at, AreKeys, AreTags, HasGrown, IsKeyRow};
 ghost use Rattle.mp_store.specs.Views.{seen_key};
@@ -10,7 +10,7 @@ use crate::key::Key;
 use indexmap::IndexSet;
 use mp_list::{Copied, OutOfMemory};
 use mp_rows::Rows;
-use mp_sets::{BitsView, Tags};
+use mp_sets::{BitsView, Tag, Tags};
 use std::alloc::Global;
 use std::marker::Model;
 
@@ -102,18 +102,35 @@ impl Keys {
     }
 }
 
+/// Whether two lists of tags are the same.
+#[inline(always)]
+fn are_same(tags: &[Tag], others: &[Tag]) -> bool
+    ensures { IsTrue result ↔ (tags.now ≡ others.now) }
+{
+    if tags.len() != others.len() {
+        return false;
+    }
+    for at in 0..tags.len() {
+        if tags[at] != others[at] {
+            return false;
+        }
+    }
+    true
+}
+
 /// Whether tags are at a place.
 #[inline(always)]
 fn are_at(tags: &IndexSet<Tags>, place: usize, sought: &Tags) -> bool
     ensures { IsTrue result → (place < length tags.now.keys) × (tags_at tags.now.keys place ≡ sought.now) }
 {
     match tags.get_index(place) {
-        Some(there) => *sought == *there,
+        Some(there) => are_same(sought.as_slice(), there.as_slice()),
         None => false,
     }
 }
 
 /// The place of tags: none exactly where they are not there.
+// It is not inlined, since most tags are found near the place where they are looked for first.
 #[inline(never)]
 fn find_elsewhere(tags: &IndexSet<Tags>, sought: &Tags) -> Option<usize>
     ensures found { IfSome result (λ n. (n < length tags.now.keys) × (tags_at tags.now.keys n ≡ sought.now)) }
@@ -184,6 +201,7 @@ fn size_of(key: &Key) -> u32
 }
 
 /// The number of a row.
+// It is not inlined, since the look-up itself is, and there are several callers.
 #[inline(never)]
 fn find_row(rows: &Rows, size: u32, place: usize, mine: u64, words: &[u64]) -> Option<usize>
     ensures found { IfSome result (λ n. (n < length rows.now)
@@ -208,6 +226,7 @@ fn find_key(tags: &IndexSet<Tags>, near: usize, rows: &Rows, key: &Key) -> Optio
 }
 
 /// Adds a row that is not there.
+// It is not inlined, since the growth of the rows is.
 #[inline(never)]
 fn push_row(
     rows: &mut Rows,

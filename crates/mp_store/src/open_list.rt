@@ -15,7 +15,7 @@ use std::marker::Model;
 /// Ranks, of which the first one is at hand. Contracts see the list of them, in an order that says nothing.
 #[derive(Drop)]
 pub(crate) struct OpenList {
-    /// Ranks of which none came before a sooner one: nearly all, where nothing is estimated and actions cost the same.
+    /// Ranks in their order: nearly all, where nothing is estimated and all actions cost the same.
     in_order: VecDeque<Rank>,
     /// The others.
     heap: BinaryHeap<Reverse<Rank>>,
