@@ -3,6 +3,7 @@ use Rattle.std.proofs.Common.{◌≡◌, ℕ, ◌+◌, ◌<◌, ◌≤◌, Bool,
 use Rattle.std.specs.Prelude.{◌⊎◌, Option, Some, None, slice_get}
 use Rattle.std.specs.Option.{option_map_or}
 use Rattle.std.proofs.lemmas.Bool.{and_parts, and_from, or_cases, or_left, or_right, eqb-true, eq-eqb, false≢true, cases_eq}
+use Rattle.std.proofs.Math.Dec.{eqb-suc-zero}
 use Rattle.std.proofs.lemmas.List.{take_more, take_all}
 use Rattle.std.proofs.lemmas.List.Elements.{Contains-push_cases}
 use Rattle.std.specs.FinSet as set
@@ -27,6 +28,10 @@ module _ (test : ℕ → Bool) where
     all = λ k here pass. absurd (no_member k here);
     right = λ before k h. before k h;
   }
+
+  pub none_in : (list : List ℕ) (s : Numbers) → eqb (length list) 0 ≡ true → AreAdded test list s s
+  none_in [] s is = none_added [] s
+  none_in (x ∷ xs) s is = absurd (false≢true (sym (eqb-suc-zero (length xs)) ∙ is))
 
   pub one_added : (list : List ℕ) (i x : ℕ) (old mid : Numbers) → i < length list → x ≡ get_or list i 0
       → AreAdded test (take i list) old mid → AreAdded test (take (i + 1) list) old (added_if (test x) x mid)

@@ -95,6 +95,21 @@ fn add_listed(found: &mut Bits, task: &Task, list: &[u32], publics: &Bits, priva
     }
 }
 
+/// Adds those actions of the list of a fact that apply. No action is listed under most facts.
+fn add_row(found: &mut Bits, task: &Task, list: &[u32], publics: &Bits, privates: &Bits)
+    requires publics { publics.now.size ≡ task.now.publics }
+    requires privates { privates.now.size ≡ task.now.privates }
+    requires size { found.old.size ≡ length task.now.acts }
+    ensures size { found.new.size ≡ found.old.size }
+    ensures added { AreAdded (is_applicable task.now.acts publics.now.members privates.now.members)
+        list.now found.old.members found.new.members }
+{
+    if list.is_empty() {
+        return;
+    }
+    add_listed(found, task, list, publics, privates);
+}
+
 /// The list of a fact.
 fn row(lists: &[List<u32>], fact: u32) -> &[u32]
     ensures { result.now ≡ slice_index_or lists.now fact [] }
@@ -123,7 +138,7 @@ fn add_due(
 {
     let mut from = 0;
     while let Some(fact) = facts.least_from(from) {
-        add_listed(found, task, row(lists, fact), publics, privates);
+        add_row(found, task, row(lists, fact), publics, privates);
         from = fact + 1;
     }
 }
