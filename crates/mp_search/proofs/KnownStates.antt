@@ -73,21 +73,21 @@ module _ {K : Type 0} (same : K → K → Bool) (key : K) (r : Record K) (g : �
 -- ---- a known state is refused
 
 module _ (t : AgentTask) (s : AgentState) (g : ℕ) (origin : Origin) (r : Record AgentState) (known : is_known same_state s g r.entries ≡ true) where
-  known_with : (h : ℕ) → (offered_with t s g h origin r).1 ≡ r
+  pub known_refused : (h : ℕ) → (Worse, r) ≡ offered_with t s g h origin r
   unfolding offered_with
-  known_with h = by (nat_lt (g + h) (2 ^ 60))
+  known_refused h = by (nat_lt (g + h) (2 ^ 60))
     where
       new : Entry AgentState
       new = new_entry s g h origin (is_goal_state t s)
 
-      by : (b : Bool) → (if b then by_keep_rule (offered same_state new r) else (Worse, r)).1 ≡ r
-      by true = ap (λ (c : Bool). (by_keep_rule (if c then (offers.Worse, r) else (offers.Kept (length r.entries), kept same_state new r))).1) known
+      by : (b : Bool) → (Worse, r) ≡ (if b then by_keep_rule (offered same_state new r) else (Worse, r))
+      by true = ap (λ (c : Bool). by_keep_rule (if c then (offers.Worse, r) else (offers.Kept (length r.entries), kept same_state new r))) (sym known)
       by false = refl
 
   -- whatever the estimate, the record stays as it was
   pub known_stays : (value : Option ℕ) → r ≡ (offered_at t s g value origin r).1
   known_stays None = refl
-  known_stays (Some h) = sym (known_with h)
+  known_stays (Some h) = ap (λ (x : Received × Record AgentState). x.1) (known_refused h)
 
 -- what an offer leaves of the record, said of the state and its estimate by their other names
 pub record_offered : (t : AgentTask) (seen s : AgentState) (g : ℕ) (found value : Option ℕ) (origin : Origin) (answer : Received) (old new : Record AgentState)

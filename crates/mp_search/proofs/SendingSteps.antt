@@ -1,5 +1,5 @@
 -- Steps of an expansion, one after another.
-use Rattle.std.proofs.Common.{map-id, ◌≡◌, ℕ, zero, suc, ◌+◌, ◌<◌, ◌≤◌, Bool, true, false, cond, List, [], ◌∷◌, ◌++◌, length, Option, Some, None, Result, Ok, Err, refl, sym, ap, subst, ◌∙◌, arith}
+use Rattle.std.proofs.Common.{map-id, ◌≡◌, ℕ, zero, suc, ◌+◌, ◌-◌, ◌<◌, ◌≤◌, Bool, true, false, cond, List, [], ◌∷◌, ◌++◌, length, Option, Some, None, Result, Ok, Err, refl, sym, ap, subst, ◌∙◌, arith}
 use Rattle.std.specs.Prelude.{slice_get, option_map, IfSome, OnOk, if◌then◌else◌}
 use Rattle.std.specs.FinSet as set
 use Rattle.std.specs.Option.{option_map_or}
@@ -16,7 +16,7 @@ use Rattle.mp_store.specs.Sent.{mark_sent}
 use Rattle.mp_search.specs.declared.answer.Sending.{Sending}
 use Rattle.mp_search.specs.declared.states.Shown.{Shown}
 use Rattle.mp_search.specs.AgentState.{AgentState, applies, same_state, successor, with_tag}
-use Rattle.mp_search.specs.Concern.{one_if, receivers}
+use Rattle.mp_search.specs.Concern.{is_receiver, one_if, receivers, IsFirstReceiver}
 use Rattle.mp_search.specs.Expansion.{Parent, with_action, with_successor}
 use Rattle.mp_search.specs.Offering.{offered_at, own_value}
 use Rattle.mp_search.specs.declared.reached.Reached.{Reached}
@@ -187,3 +187,27 @@ numbers_more p n =
     ap (filter p) (sym (map-id (range_with_len 1 (n + 1))))
     ∙ filter_of_map_range_with_len_more p (λ k. k) 1 n (n + 1) (omega arith)
     ∙ ap (λ xs. filter p xs ++ cond (p (n + 1)) ((n + 1) ∷ []) []) (map-id (range_with_len 1 n))
+
+module _ (p : ℕ → Bool) where
+  pub none_more : (n : ℕ) → p (n + 1) ≡ false → filter p (range_with_len 1 n) ≡ [] → filter p (range_with_len 1 (n + 1)) ≡ []
+  none_more n fails none = numbers_more p n ∙ (λ j. none j ++ one_if (fails j) (n + 1))
+
+  pub first_alone : (n : ℕ) → 1 ≤ n → p n ≡ true → filter p (range_with_len 1 (n - 1)) ≡ [] → n ∷ [] ≡ filter p (range_with_len 1 n)
+  first_alone n low passes none =
+      let same : n - 1 + 1 ≡ n = omega (arith, low) in
+      sym
+      (subst (λ (k : ℕ). filter p (range_with_len 1 k) ≡ filter p (range_with_len 1 (n - 1)) ++ one_if (p k) k) same (numbers_more p (n - 1))
+      ∙ (λ j. none j ++ one_if (passes j) n))
+
+-- the first agent that a state is for
+pub first_found : (t : AgentTask) (s : AgentState) (b : ℕ) (found : Option ℕ) → b < t.agents → is_receiver t s (b + 1) ≡ true
+    → filter (is_receiver t s) (range_with_len 1 b) ≡ [] → IfSome found (λ agent. agent ≡ b + 1) → IfSome found (IsFirstReceiver t s)
+first_found t s b None inside passes none is = tt
+first_found t s b (Some agent) inside passes none is =
+    let before : b ≡ agent - 1 = omega (arith, is) in
+    record {
+      from_1 = omega (arith, is);
+      none_before = subst (λ (k : ℕ). filter (is_receiver t s) (range_with_len 1 k) ≡ []) before none;
+      is = subst (λ (k : ℕ). is_receiver t s k ≡ true) (sym is) passes;
+      within = omega (arith, is, inside);
+    }

@@ -1,5 +1,5 @@
 -- Which states are sent, and to whom (MAD-A*, Nissim and Brafman 2014, with a receiver's own reasons).
-use Rattle.std.specs.Prelude.{[], ◌∷◌, if◌then◌else◌, ℕ, ◌==◌, ◌&&◌, ◌||◌, not, Bool, List, filter}
+use Rattle.std.specs.Prelude.{◌≡◌, ◌≤◌, ◌-◌, [], ◌∷◌, if◌then◌else◌, ℕ, ◌==◌, ◌&&◌, ◌||◌, not, true, Bool, List, filter}
 use Rattle.std.specs.List.{enumerate_from, list_any, range_with_len}
 use Rattle.mp_sets.specs.Numbers.{holds}
 use Rattle.mp_task.specs.declared.act.Act.{Act}
@@ -27,6 +27,13 @@ is_receiver t s agent = not (agent == t.me) && concerns t s agent
 -- all of them, by rising number
 abbrev pub receivers : AgentTask → AgentState → List ℕ
 receivers t s = filter (is_receiver t s) (range_with_len 1 t.agents)
+
+-- the first of them: there is none of a smaller number
+pub record IsFirstReceiver (t : AgentTask) (s : AgentState) (agent : ℕ) : Type 0 where
+  pub from_1 : 1 ≤ agent
+  pub none_before : filter (is_receiver t s) (range_with_len 1 (agent - 1)) ≡ []
+  pub is : is_receiver t s agent ≡ true
+  pub within : agent ≤ t.agents
 
 -- What an own action does may be seen by others: it is public, or it makes the agent's private goals all true.
 abbrev pub is_visible : AgentTask → Act → AgentState → AgentState → Bool

@@ -6,7 +6,7 @@ ghost use Rattle.mp_task.specs.Met.{is_met};
 ghost use Rattle.mp_applicable.specs.Far.{IsFarIndexOf};
 ghost use Rattle.mp_task.specs.Public as public;
 ghost use Rattle.mp_search.specs.AgentState.{is_goal_state};
-ghost use Rattle.mp_search.specs.Concern.{concerns, is_receiver, is_visible, one_if, receivers};
+ghost use Rattle.mp_search.specs.Concern.{concerns, is_receiver, is_visible, one_if, receivers, IsFirstReceiver};
 ghost use Rattle.mp_search.specs.StateKeys.{reached_state, HasSizes};
 
 use crate::answer::AgentList;
@@ -109,36 +109,41 @@ fn add_receiver(
     Ok(())
 }
 
-/// The other agents that a state concerns, by rising number.
+/// The first other agent that a state concerns, if there is one. Takes no memory.
+pub(crate) fn first_receiver(task: &Task, far: &FarIndex, state: &Reached) -> Option<Agent>
+    requires index { IsFarIndexOf task.now far.now }
+    requires sizes { HasSizes task.now.publics task.now.privates state.now }
+    ensures some { is_some result ≡ not (length (receivers task.now (reached_state state.now)) == 0) }
+    ensures first { IfSome result (IsFirstReceiver task.now (reached_state state.now)) }
+{
+    for before in 0..task.agents {
+        let found = receiver(task, far, before + 1, state);
+        if found.is_some() {
+            return found;
+        }
+    }
+    None
+}
+
+/// The other agents that a state concerns, by rising number, of which the first one is known.
 pub(crate) fn receivers(
     alloc: Global,
     task: &Task,
     far: &FarIndex,
+    first: Agent,
     state: &Reached,
 ) -> Result<AgentList, OutOfMemory>
     requires index { IsFarIndexOf task.now far.now }
+    requires first { IsFirstReceiver task.now (reached_state state.now) first }
     requires sizes { HasSizes task.now.publics task.now.privates state.now }
     ensures { IfOk result (λ to. to ≡ receivers task.now (reached_state state.now)) }
 {
     let mut to = AgentList::new(alloc);
-    for before in 0..task.agents {
+    to.push(first)?;
+    for before in first.number()..task.agents {
         add_receiver(&mut to, task, far, before + 1, state)?;
     }
     Ok(to)
-}
-
-/// Whether a state concerns another agent. Takes no memory.
-pub(crate) fn has_receivers(task: &Task, far: &FarIndex, state: &Reached) -> bool
-    requires index { IsFarIndexOf task.now far.now }
-    requires sizes { HasSizes task.now.publics task.now.privates state.now }
-    ensures { result ≡ not (length (receivers task.now (reached_state state.now)) == 0) }
-{
-    for before in 0..task.agents {
-        if receiver(task, far, before + 1, state).is_some() {
-            return true;
-        }
-    }
-    false
 }
 
 /// Whether others may see what an own action did.

@@ -20,7 +20,7 @@ use crate::reached::Reached;
 use crate::sending::send_if_due;
 use crate::states::States;
 use mp_applicable::{ActionIndex, FarIndex};
-use mp_list::{Copied, OutOfMemory};
+use mp_list::OutOfMemory;
 use mp_sets::{Bits, Tags};
 use mp_store::{Key, Origin};
 use mp_task::{Act, Heuristic, Task};
@@ -96,14 +96,14 @@ pub(crate) fn scratch_for(alloc: Global, task: &Task) -> Result<Scratch, OutOfMe
     })
 }
 
-/// Makes tags equal to others. Takes memory only where they differ.
+/// Makes tags equal to others. Their memory is used again.
 fn set_tags(tags: &mut Tags, other: &Tags) -> Result<(), OutOfMemory>
     ensures { OnOk result (tags.new ≡ other.now) }
 {
-    if *tags == *other {
-        return Ok(());
+    tags.clear();
+    for tag in other.as_slice() {
+        tags.push(*tag)?;
     }
-    *tags = other.copy()?;
     Ok(())
 }
 

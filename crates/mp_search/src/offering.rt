@@ -72,6 +72,9 @@ fn offer_with(
     if !is_in_range(g, h) {
         return Ok(Received::Worse);
     }
+    if states.is_as_cheap(found, g) {
+        return Ok(Received::Worse);
+    }
     let goal = is_goal(task, state);
     Ok(reception(states.offer(state, found, g, h, origin, goal)?))
 }

@@ -1,10 +1,11 @@
 //! What is sent of a state.
 
-ghost use Rattle.std.specs.Prelude.{◌≡◌, ◌<◌, IfOk, OnOk, Some, length, map};
+ghost use Rattle.std.specs.Prelude.{◌≡◌, ◌<◌, is_some, IfOk, IfSome, OnOk, Some, length, map};
 ghost use Rattle.mp_store.specs.Minima.{best};
 ghost use Rattle.mp_store.specs.Sent.{mark_sent};
 ghost use Rattle.mp_task.specs.Public as public;
 ghost use Rattle.mp_applicable.specs.Far.{IsFarIndexOf};
+ghost use Rattle.mp_search.specs.Concern.{IsFirstReceiver};
 ghost use Rattle.mp_search.specs.AgentState.{same_state, start_state, start_tag, with_tag};
 ghost use Rattle.mp_search.specs.Search.{tokens_given};
 ghost use Rattle.mp_search.specs.Sending.{is_due, sent_best, sent_entry_of, sent_if_due};
@@ -12,7 +13,7 @@ ghost use Rattle.mp_search.specs.StateKeys.{reached_state, HasSizes, IsMessageOf
 ghost use Rattle.mp_search.specs.Steps.{AreStatesOf, HaveSent};
 
 use crate::answer::{Sending, SendingList};
-use crate::concern::{has_receivers, is_visible, receivers};
+use crate::concern::{first_receiver, is_visible, receivers};
 use crate::reached::Reached;
 use crate::states::{Shown, States};
 use mp_applicable::FarIndex;
@@ -69,19 +70,21 @@ fn message(
     })
 }
 
-/// Sends the state of an entry to agents, unless it was sent at that cost or less.
+/// Sends the state of an entry to the agents that it concerns, unless it was sent at that cost or less.
 fn send_entry(
     alloc: Global,
     task: &Task,
     far: &FarIndex,
     states: &mut States,
     state: &Reached,
+    first: Agent,
     entry: u64,
     out: &mut SendingList,
 ) -> Result<(), OutOfMemory>
     requires index { IsFarIndexOf task.now far.now }
     requires states { AreStatesOf task.now states.old }
     requires sizes { HasSizes task.now.publics task.now.privates state.now }
+    requires first { IsFirstReceiver task.now (reached_state state.now) first }
     requires inside { entry < length states.old.kept.entries }
     ensures { OnOk result (HaveSent task.now
         (sent_entry_of task.now (reached_state state.now) (Some entry) states.old.kept)
@@ -90,7 +93,7 @@ fn send_entry(
     let Some((number, token)) = states.send(entry)? else {
         return Ok(());
     };
-    let to = receivers(alloc, task, far, state)?;
+    let to = receivers(alloc, task, far, first, state)?;
     let state = message(alloc, task, number, token, states.entry(entry))?;
     out.push(Sending { state, to })
 }
@@ -102,38 +105,44 @@ fn send_best(
     far: &FarIndex,
     states: &mut States,
     state: &Reached,
+    first: Agent,
     found: Option<u64>,
     out: &mut SendingList,
 ) -> Result<(), OutOfMemory>
     requires index { IsFarIndexOf task.now far.now }
     requires states { AreStatesOf task.now states.old }
     requires sizes { HasSizes task.now.publics task.now.privates state.now }
+    requires first { IsFirstReceiver task.now (reached_state state.now) first }
     requires found { found ≡ best same_state (reached_state state.now) states.old.kept }
     ensures { OnOk result (HaveSent task.now (sent_best task.now (reached_state state.now) states.old.kept)
         out.old out.new states.old states.new) }
 {
     match found {
-        Some(entry) => send_entry(alloc, task, far, states, state, entry, out),
+        Some(entry) => send_entry(alloc, task, far, states, state, first, entry, out),
         None => Ok(()),
     }
 }
 
-/// Whether a state that an own action led to is due to be sent. Takes no memory.
-fn is_due(
+/// The first agent that a state that an own action led to is due to be sent to, if there is one. Takes no memory.
+fn first_due(
     task: &Task,
     far: &FarIndex,
     is_public: bool,
     act: &Act,
     before: &Reached,
     state: &Reached,
-) -> bool
+) -> Option<Agent>
     requires index { IsFarIndexOf task.now far.now }
     requires public { is_public ≡ public.is_public act.now }
     requires before { HasSizes task.now.publics task.now.privates before.now }
     requires sizes { HasSizes task.now.publics task.now.privates state.now }
-    ensures { result ≡ is_due task.now act.now (reached_state before.now) (reached_state state.now) }
+    ensures due { is_some result ≡ is_due task.now act.now (reached_state before.now) (reached_state state.now) }
+    ensures first { IfSome result (IsFirstReceiver task.now (reached_state state.now)) }
 {
-    is_visible(task, is_public, act, before, state) && has_receivers(task, far, state)
+    if is_visible(task, is_public, act, before, state) {
+        return first_receiver(task, far, state);
+    }
+    None
 }
 
 /// Sends a state that an own action led to, where that is due. Its best entry is known, if it has one.
@@ -160,10 +169,10 @@ pub(crate) fn send_if_due(
         (sent_if_due task.now act.now (reached_state before.now) (reached_state state.now) states.old.kept)
         out.old out.new states.old states.new) }
 {
-    if is_due(task, far, is_public, act, before, state) {
-        return send_best(alloc, task, far, states, state, found, out);
+    match first_due(task, far, is_public, act, before, state) {
+        Some(first) => send_best(alloc, task, far, states, state, first, found, out),
+        None => Ok(()),
     }
-    Ok(())
 }
 
 /// Tags that say of each agent whether its private goals hold at the start.
