@@ -38,21 +38,29 @@ pub(crate) fn send(
     outs.push(Out { to, bytes })
 }
 
-/// Adds a message, as bytes, for each of some agents.
+/// Adds a message, as bytes, for an agent.
+fn send_bytes(outs: &mut Outs, to: Agent, bytes: Bytes) -> Result<(), OutOfMemory>
+    ensures { OnOk result (outs.new ≡ outs.old ++ copies (to ∷ []) bytes) }
+{
+    outs.push(Out { to, bytes })
+}
+
+/// Adds a message, as bytes, for each of some agents. The last one gets the bytes themselves.
 pub(crate) fn send_copies(
     outs: &mut Outs,
     agents: &[Agent],
-    bytes: &Bytes,
+    bytes: Bytes,
 ) -> Result<(), OutOfMemory>
-    ensures { OnOk result (outs.new ≡ outs.old ++ copies agents.now bytes.now) }
+    ensures { OnOk result (outs.new ≡ outs.old ++ copies agents.now bytes) }
 {
-    for agent in agents {
-        outs.push(Out {
-            to: *agent,
-            bytes: bytes.copy()?,
-        })?;
+    match agents {
+        [] => Ok(()),
+        [agent] => send_bytes(outs, *agent, bytes),
+        [agent, rest @ ..] => {
+            send_bytes(outs, *agent, bytes.copy()?)?;
+            send_copies(outs, rest, bytes)
+        }
     }
-    Ok(())
 }
 
 /// Adds a message for an agent of a number if it is another one.

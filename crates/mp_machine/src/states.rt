@@ -28,7 +28,7 @@ fn send_state(alloc: Global, sending: &Sending, outs: &mut Outs) -> Result<(), O
     ensures { OnOk result (outs.new ≡ outs.old ++ sent_state sending.now) }
 {
     let bytes = encode_state(alloc, &sending.state)?;
-    send_copies(outs, sending.to.as_slice(), &bytes)
+    send_copies(outs, sending.to.as_slice(), bytes)
 }
 
 /// Sends states, each to the agents that it is for.
