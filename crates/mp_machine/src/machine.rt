@@ -1,6 +1,6 @@
 //! One agent as a pure step.
 
-ghost use Rattle.std.specs.Prelude.{◌≡◌, ◌≤◌, IfOk, IsFalse, None, option_map};
+ghost use Rattle.std.specs.Prelude.{◌≡◌, ◌≤◌, true, IfOk, IsFalse, None, option_map};
 ghost use Rattle.mp_task.specs.Limits.{most_expansions};
 ghost use Rattle.mp_machine.specs.AgentRecord.{given_verdict, new_record};
 ghost use Rattle.mp_machine.specs.LocalStep.{may};
@@ -116,6 +116,16 @@ impl<H: Heuristic> Machine<H> {
         if !may(&self.search, &self.member, &event) {
             return Err(StepRefusal::NotNow);
         }
+        self.step_allowed(event, bytes)
+    }
+
+    /// The same step, where the machine is not stopped and the event may happen: neither is asked again.
+    pub fn step_allowed(&mut self, event: Local, bytes: Option<&[u8]>) -> Result<Outs, StepRefusal>
+        requires free { self.old.stopped ≡ None }
+        requires may { may self.old.done event ≡ true }
+        ensures { IsStep (H.value self.old.done.task) self.old event
+            (given (option_map (λ b. b.now) bytes.entry)) result self.new }
+    {
         let taken = taken_bytes(bytes);
         match act(&mut self.search, &mut self.member, &event, taken) {
             Ok(outs) => Ok(outs),
