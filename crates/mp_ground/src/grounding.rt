@@ -82,6 +82,6 @@ pub fn ground(
     let lifted = lift(alloc, factor, known)?;
     let list = all_instances(alloc, me, &lifted)?;
     let facts = numbered(alloc, me, &lifted, &list)?;
-    let names = fact_names(alloc, factor.factor())?;
+    let names = fact_names(alloc, factor.factor(), lifted.private_objects.len())?;
     Ok(turned(alloc, me, &names, &lifted, &facts, list)?)
 }

@@ -4,14 +4,15 @@ ghost use Rattle.std.specs.Prelude.{◌≡◌, map, IfOk};
 ghost use Rattle.mp_lifted.specs.Bound.{binding};
 ghost use Rattle.mp_sexp.specs.Numbers.{name_at};
 ghost use Rattle.mp_grounder.specs.Named.{step_of};
+ghost use Rattle.mp_ground.specs.Numbered.{fact_names as names_of_facts};
 
 use crate::names::{copied_names, object_names};
-use mp_factor::SchemaList;
+use mp_factor::{Factor, SchemaList};
 use mp_joint::PlanStep;
 use mp_lifted::BoundAction;
-use mp_list::{Copied, OutOfMemory};
+use mp_list::{Copied, List, OutOfMemory};
 use mp_sets::Agent;
-use mp_sexp::Name;
+use mp_sexp::{Name, NameList};
 use mp_typing::CheckedFactor;
 use std::alloc::Global;
 
@@ -25,8 +26,24 @@ fn action_name(alloc: Global, schemas: &SchemaList, action: usize) -> Result<Nam
     }
 }
 
+/// Copies of the names of objects with these numbers. Where there are none, no object of the factor is looked at.
+fn object_arguments(
+    alloc: Global,
+    factor: &Factor,
+    numbers: &[u32],
+) -> Result<NameList, OutOfMemory>
+    ensures { IfOk result (λ list. list ≡ map (name_at (names_of_facts factor.now).objects) numbers.now) }
+{
+    if numbers.is_empty() {
+        return Ok(List::new(alloc));
+    }
+    let objects = object_names(alloc, factor)?;
+    let list = copied_names(alloc, &objects, numbers)?;
+    Ok(list)
+}
+
 /// A step of an agent's plan by its names, from the action of the factor and the objects that it stands for. It goes through
-/// the factor's objects once. Refuses only for want of memory.
+/// the factor's objects once at most. Refuses only for want of memory.
 pub fn step_name(
     alloc: Global,
     factor: &CheckedFactor,
@@ -36,9 +53,8 @@ pub fn step_name(
     ensures { IfOk result (λ named. named ≡ step_of me factor.now (binding step.entry)) }
 {
     let whole = factor.factor();
-    let objects = object_names(alloc, whole)?;
     let action = action_name(alloc, &whole.domain.schemas, step.action)?;
-    let args = copied_names(alloc, &objects, step.objects)?;
+    let args = object_arguments(alloc, whole, step.objects)?;
     Ok(PlanStep {
         agent: me,
         action,

@@ -8,7 +8,7 @@ ghost use Rattle.mp_views.specs.Lines.{spaced};
 ghost use Rattle.mp_views.specs.Sorted.{sorted_once as once_sorted};
 ghost use Rattle.mp_ground.specs.Numbered.{text_at, count_private as count_of_private, public_texts_at, places_of};
 
-use crate::names::FactNames;
+use crate::names::{FactNames, Names};
 use crate::places::Places;
 use mp_ground_facts::GroundFact;
 use mp_lifted::FactTexts;
@@ -25,7 +25,7 @@ fn bytes_of(name: &Name) -> &[u8]
 }
 
 /// The bytes of the name with a number: none where there is no such name.
-fn name_bytes<'a>(names: &NameTable<'a>, number: u32) -> &'a [u8]
+fn name_bytes<'a>(names: &Names<'a>, number: u32) -> &'a [u8]
     ensures { folded result.now ≡ name_at names.now number }
 {
     match names.name(number as usize) {
@@ -36,7 +36,7 @@ fn name_bytes<'a>(names: &NameTable<'a>, number: u32) -> &'a [u8]
 
 /// Appends the name with a number.
 #[tactic(auto, using(mp_views::proofs::FoldedLemmas::fact_steps))]
-fn push_name(text: &mut Vec<u8>, names: &NameTable<'_>, number: u32) -> Result<(), OutOfMemory>
+fn push_name(text: &mut Vec<u8>, names: &Names<'_>, number: u32) -> Result<(), OutOfMemory>
     ensures { OnOk result (folded text.new.items ≡ folded text.old.items ++ name_at names.now number) }
 {
     text.extend_from_slice(name_bytes(names, number))?;
@@ -45,7 +45,7 @@ fn push_name(text: &mut Vec<u8>, names: &NameTable<'_>, number: u32) -> Result<(
 
 /// Appends the names with these numbers, each behind one space.
 #[tactic(auto, using(mp_views::proofs::FoldedLemmas::fact_steps))]
-fn push_names(text: &mut Vec<u8>, names: &NameTable<'_>, numbers: &[u32]) -> Result<(), OutOfMemory>
+fn push_names(text: &mut Vec<u8>, names: &Names<'_>, numbers: &[u32]) -> Result<(), OutOfMemory>
     ensures { OnOk result (folded text.new.items
         ≡ folded text.old.items ++ spaced (map (name_at names.now) numbers.now)) }
 {

@@ -1,8 +1,11 @@
 use Rattle.std.proofs.Common.{◌≡◌, ◌≤◌, ℕ, List, length, sym, ap, ◌∙◌, subst}
+use Rattle.std.proofs.lemmas.List.{length-map}
 use Rattle.mp_factor.specs.declared.factor.Factor.{Factor}
 use Rattle.mp_lifted.specs.declared.lifted.LiftedFactor.{LiftedFactor}
 use Rattle.mp_lifted.specs.declared.view.OpenView.{OpenView}
 use Rattle.mp_lifted.specs.Factors.{lifted_factor}
+use Rattle.mp_joint.specs.Fact.{is_listed}
+use Rattle.mp_joint.specs.FactorContribution.{privates_of}
 use Rattle.mp_lifted.specs.Binding.{ActionBinding}
 use Rattle.mp_instances.specs.Costs.{HasSmallCosts}
 use Rattle.mp_instances.specs.Counts.{tries}
@@ -24,6 +27,15 @@ use Rattle.mp_ground.proofs.grounding.ground.Goals as goal
 pub all_instances-requires : goal.all_instances-requires
 all_instances-requires c =
     subst HasSmallCosts (sym c.in_ok-lifted.ensures) (small_costs c.args.factor.now c.args.known.now c.checked_factor_is_checked.ensures)
+
+-- as many objects have a name of their own as have a mark
+as_many : (factor : Factor) (view : OpenView) → length (lifted_factor factor view).private_objects ≡ length (fact_names factor).objects
+as_many factor view = length-map (fact_names factor).objects (λ o. is_listed o (privates_of factor).objects)
+
+pub fact_names-requires : goal.fact_names-requires
+fact_names-requires c =
+    c.len.ensures ∙ ap (λ (l : LiftedFactor). length l.private_objects) c.in_ok-lifted.ensures ∙ as_many c.args.factor.now c.args.known.now
+    ∙ ap (λ (f : Factor). length (fact_names f).objects) (sym c.factor.ensures.same)
 
 by_names : (me : ℕ) (factor : Factor) (view : OpenView) (lifted : LiftedFactor) (e : GroundRefusal) → IsChecked factor → lifted ≡ lifted_factor factor view
     → IsRefusedAt me (tries lifted) (length (instances lifted)) (length (facts_of lifted (instances lifted))) e

@@ -3,4 +3,4 @@ use Rattle.mp_factor.specs.declared.signature_values.Signature.{Signature}
 use Rattle.mp_ground.proofs.names.predicate_names.Given as goal
 
 abbrev pub invariant-loop-signature : goal.invariant-loop-signature
-invariant-loop-signature l = l.table ≡ map (λ (s : Signature). s.word.name) (take l.signature-index l.signatures)
+invariant-loop-signature l = map (λ n. n.now) l.names.items ≡ map (λ (s : Signature). s.word.name) (take l.signature-index l.signatures)
