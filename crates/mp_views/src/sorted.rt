@@ -37,7 +37,8 @@ pub fn sorted_once(alloc: Global, texts: Vec<Name>) -> Result<NameList, OutOfMem
     ensures { IfOk result (λ sorted. sorted ≡ once_sorted texts.items) }
 {
     let mut sorted = texts;
-    sorted.sort_unstable();
+    // Facts of a file most often stand in long runs that rise already, and these are merged.
+    sorted.sort()?;
     sorted.dedup();
     list_of(alloc, sorted)
 }
