@@ -1,6 +1,6 @@
 //! Facts that agents show, in the numbers of a factor.
 
-ghost use Rattle.std.specs.Prelude.{◌≡◌, ◌<◌, ◌==◌, ◌∷◌, [], true, false, Some, None, length, map, MatchOption, IfOk, IfNone, IfSome, if◌then◌else◌};
+ghost use Rattle.std.specs.Prelude.{◌≡◌, ◌<◌, ◌==◌, ◌∷◌, [], true, false, Some, None, length, map, MatchOption, IfOk, OnOk, IfNone, IfSome, if◌then◌else◌};
 ghost use Rattle.std.specs.List.{list_all, position, slice_split};
 ghost use Rattle.mp_joint.specs.Fact.{is_listed};
 ghost use Rattle.mp_sexp.specs.Numbers.{number_in};
@@ -54,19 +54,19 @@ fn first_word(text: &[u8]) -> Option<(&[u8], &[u8])>
     }
 }
 
-/// The words of a text, each two with a space between them.
+/// The words of a text, each two with a space between them. What `words` has is lost.
 #[tactic(auto, using(crate::proofs::Words::one_more, crate::proofs::Words::last_one))]
-fn words_of<'a>(alloc: Global, text: &'a [u8]) -> Result<Vec<&'a [u8]>, OutOfMemory>
-    ensures { IfOk result (λ words. map (λ w. w.now) words.items ≡ slice_split (λ b. b == 32) text.now) }
+fn words_of<'a>(words: &mut Vec<&'a [u8]>, text: &'a [u8]) -> Result<(), OutOfMemory>
+    ensures { OnOk result (map (λ w. w.now) words.new.items ≡ slice_split (λ b. b == 32) text.now) }
 {
-    let mut words = Vec::new(alloc);
+    words.clear();
     let mut rest = text;
     while let Some((word, others)) = first_word(rest) {
         words.push(word)?;
         rest = others;
     }
     words.push(rest)?;
-    Ok(words)
+    Ok(())
 }
 
 /// The numbers of names: none where one is not there.
@@ -126,18 +126,19 @@ fn atom_of(
     }
 }
 
-/// The atom that a text spells: none where it spells none, or the vocabulary has a name not.
-fn shown_atom(
+/// The atom that a text spells: none where it spells none, or the vocabulary has a name not. What `words` has is lost.
+fn shown_atom<'a>(
     alloc: Global,
+    words: &mut Vec<&'a [u8]>,
     vocabulary: &Vocabulary<'_>,
-    text: &[u8],
+    text: &'a [u8],
 ) -> Result<Option<GroundAtom>, OutOfMemory>
     ensures { IfOk result (λ made. made ≡ known_atom vocabulary.now text.now) }
 {
     match between_brackets(text) {
         Some(inner) => {
-            let words = words_of(alloc, inner)?;
-            atom_of(alloc, vocabulary, &words)
+            words_of(words, inner)?;
+            atom_of(alloc, vocabulary, words.as_slice())
         }
         None => Ok(None),
     }
@@ -151,9 +152,10 @@ pub fn known_atoms(
 ) -> Result<List<GroundAtom>, OutOfMemory>
     ensures { IfOk result (λ made. made ≡ atoms_known vocabulary.now texts.now) }
 {
+    let mut words = Vec::new(alloc);
     let mut made = List::new(alloc);
     for text in texts.as_slice() {
-        if let Some(atom) = shown_atom(alloc, vocabulary, text.as_slice())? {
+        if let Some(atom) = shown_atom(alloc, &mut words, vocabulary, text.as_slice())? {
             made.push(atom)?;
         }
     }
