@@ -100,3 +100,22 @@ added name_of entries more names last h none changed q =
     ∙ new_by q last (length names) names (bytes_eq last q) refl none
     ∙ ap (λ n. option_or (position_from (is_name q) 0 names) (cond (bytes_eq last q) (Some n) None)) (from_zero (length names))
     ∙ sym (place_push q 0 names last)
+
+-- ---- a place that is written over and put back
+
+put_back_by : (q last : List ℕ) (place earlier : ℕ) (before : Option ℕ) (test : Bool) → test ≡ bytes_eq last q → (bytes_eq last q ≡ true → before ≡ Some earlier)
+    → cond test (Some earlier) (cond test (Some place) before) ≡ before
+put_back_by q last place earlier before true e was = sym (was (sym e))
+put_back_by q last place earlier before false e was = refl
+
+pub put_back : {K : Type 0} (name_of : K → List ℕ) (entries during after : List (K × ℕ)) (last : List ℕ) (place earlier : ℕ)
+    → lookup (λ k. bytes_eq last (name_of k)) entries ≡ Some earlier
+    → ((q : List ℕ) → lookup (λ k. bytes_eq q (name_of k)) during
+    ≡ cond (bytes_eq last q) (Some place) (lookup (λ k. bytes_eq q (name_of k)) entries))
+    → ((q : List ℕ) → lookup (λ k. bytes_eq q (name_of k)) after
+    ≡ cond (bytes_eq last q) (Some earlier) (lookup (λ k. bytes_eq q (name_of k)) during))
+    → (q : List ℕ) → lookup (λ k. bytes_eq q (name_of k)) after ≡ lookup (λ k. bytes_eq q (name_of k)) entries
+put_back name_of entries during after last place earlier was over back q =
+    back q ∙ ap (cond (bytes_eq last q) (Some earlier)) (over q)
+    ∙ put_back_by q last place earlier _ (bytes_eq last q) refl
+    (λ same. ap (λ n. lookup (λ k. bytes_eq n (name_of k)) entries) (sym (equal last q same)) ∙ was)

@@ -1,8 +1,9 @@
 //! A table of names with numbers.
 
-ghost use Rattle.std.specs.Prelude.{◌≡◌, ◌++◌, ◌∷◌, [], length, map, OnErr, OnOk, slice_get};
+ghost use Rattle.std.specs.Prelude.{◌≡◌, ◌++◌, ◌∷◌, [], ℕ, List as ListOf, length, map, OnErr, OnOk, slice_get};
 ghost use Rattle.std.specs.Option.{option_map};
 ghost use Rattle.mp_sexp.specs.Numbers.{is_named, number_in, place_in};
+ghost use Rattle.mp_sexp.specs.Tables.{HasPlaces};
 
 use crate::name::Name;
 use mp_list::OutOfMemory;
@@ -48,11 +49,9 @@ impl<'a> NameTable<'a> {
     {
         let place = self.len();
         self.names.push(name)?;
-        if !self.first.contains_key(name.as_slice()) {
-            if let Err(failed) = self.first.insert(name.as_slice(), place) {
-                self.names.pop();
-                return Err(failed.into());
-            }
+        if let Err(failed) = keep_place(&mut self.first, name.as_slice(), place) {
+            self.names.pop();
+            return Err(failed);
         }
         Ok(())
     }
@@ -68,6 +67,9 @@ impl<'a> NameTable<'a> {
     pub fn find(&self, name: &[u8]) -> Option<usize>
         ensures { result ≡ place_in self.now name.now }
     {
+        if self.names.is_empty() {
+            return None;
+        }
         self.first.get(name).copied()
     }
 
@@ -86,7 +88,7 @@ impl<'a> NameTable<'a> {
     pub fn contains(&self, name: &Name) -> bool
         ensures { result ≡ is_named self.now name.now }
     {
-        self.first.contains_key(name.as_slice())
+        !self.names.is_empty() && self.first.contains_key(name.as_slice())
     }
 
     /// The names.
@@ -102,4 +104,21 @@ impl<'a> NameTable<'a> {
     {
         self.names.get(place).copied()
     }
+}
+
+/// Keeps the place of a name, where none is kept of it yet. Most names are new, and a name is then hashed once. For want
+/// of memory the map stays as it was.
+fn keep_place<'a>(
+    first: &mut HashMap<&'a [u8], usize>,
+    name: &'a [u8],
+    place: usize,
+) -> Result<(), OutOfMemory>
+    ensures added { OnOk result ((names : ListOf (ListOf ℕ)) → place ≡ length names
+        → HasPlaces (λ k. k.now) first.old.entries names → HasPlaces (λ k. k.now) first.new.entries (names ++ name.now ∷ [])) }
+    ensures kept { OnErr result (first.new.entries ≡ first.old.entries) }
+{
+    if let Some(earlier) = first.insert(name, place)? {
+        first.insert(name, earlier)?;
+    }
+    Ok(())
 }
