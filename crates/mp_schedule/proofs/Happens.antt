@@ -22,7 +22,7 @@ use Rattle.mp_schedule.proofs.Events.{Ready, bad_step, leads_on, logs, never_ref
 use Rattle.mp_schedule.proofs.MachinePlaces.{limit_again, same_again}
 
 -- what holds of all holds of each
-of_each : {X : Type 0} (P : X → Type 0) (xs : List X) (k : ℕ) (x : X) → All P xs → slice_get xs k ≡ Some x → P x
+pub of_each : {X : Type 0} (P : X → Type 0) (xs : List X) (k : ℕ) (x : X) → All P xs → slice_get xs k ≡ Some x → P x
 of_each P [] k x all there = absurd (none-some x there)
 of_each P (y ∷ ys) zero x all there = subst P (same_Some y x there) (All-head P y ys all)
 of_each P (y ∷ ys) (suc k) x all there = of_each P ys k x (All-tail P y ys all) there

@@ -118,20 +118,22 @@ fn lent(message: &Option<Posted>) -> Option<&[u8]>
     }
 }
 
-/// The agent of an event takes the step.
+/// The agent of an event that may happen takes the step.
 fn step<H: Heuristic>(
     machines: &mut Vec<Machine<H>>,
     event: &Event,
     bytes: Option<&[u8]>,
 ) -> Result<Outs, StepRefusal>
-    requires { agent_of event.now ≤ length machines.old.items }
+    requires team { agent_of event.now ≤ length machines.old.items }
+    requires may { agent_may (world_of machines.old.items []) event.now ≡ true }
+    requires free { All IsFree machines.old.items }
     ensures { HasStepped H.value machines.old.items event.now
         (given (option_map (λ b. b.now) bytes.entry)) result machines.new.items }
 {
     let at = place(agent_of(event));
     let local = local_of(event);
     let machine = &mut machines[at];
-    machine.step(local, bytes)
+    machine.step_allowed(local, bytes)
 }
 
 /// Adds to the log that an agent took a message. The bytes of one that was put stand there, and are not added again.

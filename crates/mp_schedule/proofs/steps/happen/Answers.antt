@@ -1,10 +1,14 @@
 use Rattle.std.proofs.Common.{◌≡◌, ◌++◌, length, ap, map, sym, ◌∙◌}
 use Rattle.std.specs.Prelude.{option_map}
+use Rattle.std.proofs.lemmas.Bool.{and_parts}
 use Rattle.std.proofs.lemmas.List.{length-map}
 use Rattle.mp_machine.specs.Machine.{AgentMachine, given}
 use Rattle.mp_world.specs.Logs.{entries_of}
 use Rattle.mp_schedule.proofs.Happens.{all_done, keeps_limit, keeps_tasks, not_done}
 use Rattle.mp_schedule.proofs.steps.happen.Goals as goal
+
+pub step-requires-clause-may : goal.step-requires-clause-may
+step-requires-clause-may g c = (and_parts _ _ c.requires.legal).0
 
 pub returns-in-Err : goal.returns-in-Err
 returns-in-Err g c =
