@@ -1,6 +1,6 @@
-use Rattle.std.proofs.Common.{◌≡◌, Bool, true, false, ◌&&◌, sym, ap, ◌∙◌, eqb, length}
+use Rattle.std.proofs.Common.{Bool, ◌&&◌, sym, ap, ◌∙◌, eqb, length}
 use Rattle.std.specs.Prelude.{not}
-use Rattle.mp_search.specs.Concern.{is_visible, receivers}
+use Rattle.mp_search.specs.Concern.{receivers}
 use Rattle.mp_search.specs.StateKeys.{reached_state}
 use Rattle.mp_search.proofs.sending.first_due.Goals as goal
 
