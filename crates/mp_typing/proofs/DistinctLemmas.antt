@@ -89,7 +89,7 @@ rest_distinct t ts e =
     let rest = fewer_names ts in
     omega (arith, long, out, rest, e)
 
-all_first : (ts : List Typed) → IsDistinct ts → first_declared ts ≡ ts
+pub all_first : (ts : List Typed) → length (first_declared ts) ≡ length ts → first_declared ts ≡ ts
 all_first [] e = first_none
 all_first (t ∷ ts) e =
     let long = ap length (declared_first t ts) in
