@@ -4,16 +4,15 @@ use Rattle.std.specs.Prelude.{Option, Result, Ok, Err}
 use Rattle.mp_sets.specs.Numbers.{Numbers}
 use Rattle.mp_messages.specs.declared.message.Message.TheVariants as kinds
 use Rattle.mp_messages.specs.declared.message.State.{State}
-use Rattle.mp_messages.specs.Reading.{message_of}
-use Rattle.mp_messages.proofs.Messages.{all_take}
-use Rattle.mp_messages.proofs.Taking.{IsBytes}
 use Rattle.mp_search.specs.declared.answer.Received.{Received}
 use Rattle.mp_search.specs.declared.answer.ReceiveRefusal.{ReceiveRefusal}
 use Rattle.mp_search.specs.declared.answer.ReceiveRefusal.TheVariants as receipts
 use Rattle.mp_search.specs.Answers.{IsReceiptOfBytes}
 use Rattle.mp_search.specs.Receipt.{IsStateFor, receipt}
 use Rattle.mp_search.specs.Search.{AgentSearch, SearchRecord}
+use Rattle.mp_search.specs.Spelled.{message_of}
 use Rattle.mp_search.proofs.Receiving.{was_nothing, was_refused, was_state}
+use Rattle.mp_search.proofs.Spelled.{message_is_spelled}
 use Rattle.mp_snapshot.specs.Notes.{Notes}
 use Rattle.mp_snapshot.specs.Rules.{after_state}
 use Rattle.mp_machine.specs.declared.member.Member.{Member}
@@ -28,14 +27,14 @@ use Rattle.mp_machine.proofs.TakingLemmas.{took_read}
 
 module _ (s new : AgentSearch) (m : Member) (value : Numbers → Numbers → Option ℕ) (from : ℕ) (bytes : List ℕ) (ready : IsReady s m) where
   -- bytes of a state that was received
-  module _ (fits : IsBytes bytes) (x : Received) (f : ℕ) (received : IsReceiptOfBytes value s from bytes (Ok (Some (x, f))) new) (notes : Notes)
+  module _ (x : Received) (f : ℕ) (received : IsReceiptOfBytes value s from bytes (Ok (Some (x, f))) new) (notes : Notes)
       (seen : notes ≡ after_state m.snapshot from f) where
     read : (state : State) × (message_of s.task.agents s.task.publics bytes ≡ Some (kinds.State state)) × (f ≡ state.g + state.h)
         × ◌≡◌ {A = Result Received ReceiveRefusal × SearchRecord} (Ok x, new.done) (receipt s.task value from state s.done)
     read = was_state s.task value from bytes s.done x f new.done (received.by_definition refl)
 
     fitting : IsStateFor s.task read.0
-    fitting = (all_take s.task.agents s.task.publics bytes (kinds.State read.0) fits read.1).fits
+    fitting = (message_is_spelled s.task.agents s.task.publics bytes (kinds.State read.0) read.1).fits
 
     was : WasReceived s.task value from read.0 s.done new.done
     was = was_received s.task value from read.0 s.done x new.done read.3

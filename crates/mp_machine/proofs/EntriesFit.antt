@@ -35,7 +35,7 @@ use Rattle.mp_search.specs.Expansion.{Parent, expanded, expanded_entry, with_act
 use Rattle.mp_search.specs.Offering.{by_keep_rule, offered_at, offered_with, own_value}
 use Rattle.mp_search.specs.Receipt.{greater_value, received, state_of}
 use Rattle.mp_search.specs.Search.{SearchRecord, sent_sets, tokens_given}
-use Rattle.mp_search.specs.Sending.{is_due, message_of, sending_of, sent_best, sent_entry_of, sent_if_due}
+use Rattle.mp_search.specs.Sending.{is_due, message_of_entry, sending_of, sent_best, sent_entry_of, sent_if_due}
 use Rattle.mp_machine.specs.MemberFields.{EntryFits, HasSentBelow, SendingFits}
 
 -- all entries fit, there are at least so many, and at most so many were sent
@@ -156,8 +156,8 @@ module _ (least : ℕ) where
 
   module _ (t : AgentTask) (task : IsWithinLimits t) where
     message_fits : (r : Record AgentState) (number : ℕ) (e : Entry AgentState) (to : List ℕ) → EntryFits e → number < 2 ^ 60 → length r.sent + 1 < 2 ^ 60
-        → SendingFits (record { state = message_of t r number e; to = to })
-    unfolding message_of
+        → SendingFits (record { state = message_of_entry t r number e; to = to })
+    unfolding message_of_entry
     message_fits r number e to fits small few =
         let token = place (tokens_given t r) e.key.mine in
         let below : token < 2 ^ 60 = omega (arith, place_within (tokens_given t r) e.key.mine, few_tokens t r) in

@@ -8,10 +8,9 @@ use Rattle.mp_task.specs.AgentTask.{AgentTask}
 use Rattle.mp_messages.specs.declared.message.Message.{Message}
 use Rattle.mp_messages.specs.declared.message.Message.TheVariants as kinds
 use Rattle.mp_messages.specs.declared.message.State.{State}
-use Rattle.mp_messages.specs.Reading.{message_of}
 use Rattle.mp_messages.specs.Spelling.{IsSpelling}
-use Rattle.mp_messages.proofs.Messages.{all_again, all_take}
-use Rattle.mp_messages.proofs.Taking.{IsBytes}
+use Rattle.mp_search.specs.Spelled.{message_of}
+use Rattle.mp_search.proofs.Spelled.{message_is_spelled, spelled_is_message}
 use Rattle.mp_snapshot.specs.Rules.{IsAnother}
 use Rattle.mp_machine.specs.declared.member.Member.{Member}
 use Rattle.mp_machine.specs.declared.refusal.BadKind.TheVariants.{NotASpelling}
@@ -40,17 +39,17 @@ module _ (value : Numbers → Numbers → Option ℕ) (r : AgentRecord) (from : 
   unfolding took
   took_spelled m small spelled =
       ap (λ (o : Option Message). option_map_or (took_message value r from) o (Err NotASpelling))
-      (sym (all_again r.task.agents r.task.publics m bytes small spelled))
+      (sym (spelled_is_message r.task.agents r.task.publics m bytes small spelled))
 
-  pub took_unspelled : IsBytes bytes → ((m : Message) → IsSpelling r.task.agents r.task.publics m bytes → ⊥)
+  pub took_unspelled : ((m : Message) → IsSpelling r.task.agents r.task.publics m bytes → ⊥)
       → took value r from bytes ≡ Err NotASpelling
   unfolding took
-  took_unspelled fits nothing = by (message_of r.task.agents r.task.publics bytes) refl
+  took_unspelled nothing = by (message_of r.task.agents r.task.publics bytes) refl
     where
       by : (o : Option Message) → message_of r.task.agents r.task.publics bytes ≡ o
           → option_map_or (took_message value r from) o (Err NotASpelling) ≡ Err NotASpelling
       by None is = refl
-      by (Some m) is = absurd (nothing m (all_take r.task.agents r.task.publics bytes m fits is))
+      by (Some m) is = absurd (nothing m (message_is_spelled r.task.agents r.task.publics bytes m is))
 
 -- the member's team is the task's
 module _ (t : AgentTask) (m : Member) (of : IsMember t m) (message : Message) (bytes : List ℕ) where

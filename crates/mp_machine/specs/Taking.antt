@@ -12,9 +12,9 @@ use Rattle.mp_messages.specs.declared.message.Message.{Message}
 use Rattle.mp_messages.specs.declared.message.Message.TheVariants.{State as AState, Marker, Report}
 use Rattle.mp_messages.specs.declared.message.Message.TheVariants.{Pick, Trace, Length, Done}
 use Rattle.mp_messages.specs.declared.message.State.{State}
-use Rattle.mp_messages.specs.Reading.{message_of}
 use Rattle.mp_store.specs.Sent.{sent_entry}
 use Rattle.mp_search.specs.Receipt.{is_byte_right, is_token_given, received}
+use Rattle.mp_search.specs.Spelled.{message_of}
 use Rattle.mp_snapshot.specs.Rules.{after_report, after_state, is_strange_marker, is_strange_report}
 use Rattle.mp_snapshot.specs.Rules.{is_under_way}
 use Rattle.mp_trail.specs.Share.{fits}

@@ -6,6 +6,8 @@ pub mod Fields
 pub mod States
 -- the same of messages, and what follows for what reads them
 pub mod Messages
+-- the message that bytes spell
+pub mod Spelled
 -- loops that read one item after the other
 pub mod Loops
 -- states that are read in parts

@@ -10,7 +10,7 @@ use Rattle.mp_messages.specs.declared.message.State.{State}
 use Rattle.mp_messages.specs.declared.message.Message.{Message}
 use Rattle.mp_messages.specs.declared.message.Message.TheVariants as kinds
 use Rattle.mp_messages.specs.Spelling.{number, state, findings, ending, spelling, Fits, IsSpelling}
-use Rattle.mp_messages.specs.Reading.{◌>>=◌, IsReading, as_kind, number_at, state_at, findings_at, trace_at, ending_at, fields_at, message_at, message_of}
+use Rattle.mp_messages.specs.Reading.{◌>>=◌, IsReading, as_kind, number_at, state_at, findings_at, trace_at, ending_at, fields_at, message_at, message_read}
 use Rattle.mp_messages.proofs.Taking.{IsBytes, IsBytes-rest, bind_some, chosen, some_is, Takes, Takes-byte}
 use Rattle.mp_messages.proofs.Fields.{number_takes, number_again, ending_takes, ending_again, trace_takes, trace_again, findings_take, findings_again}
 use Rattle.mp_messages.proofs.States.{state_takes, state_again}
@@ -113,8 +113,8 @@ message_again agents publics (kinds.Done end) rest small fits = rw (ending_again
 
 -- ---- all of the bytes
 
-pub all_take : (agents publics : ℕ) (bytes : List ℕ) (m : Message) → IsBytes bytes → message_of agents publics bytes ≡ Some m → IsSpelling agents publics m bytes
-unfolding message_of
+pub all_take : (agents publics : ℕ) (bytes : List ℕ) (m : Message) → IsBytes bytes → message_read agents publics bytes ≡ Some m → IsSpelling agents publics m bytes
+unfolding message_read
 all_take agents publics bytes m fits e =
     let a = bind_some (message_at agents publics bytes) (λ x. cond (eqb (length x.1) 0) (Some x.0) None) m e in
     let g = cond_some (eqb (length a.0.1) 0) a.0.0 m a.2 in
@@ -123,40 +123,40 @@ all_take agents publics bytes m fits e =
     let whole : bytes ≡ spelling a.0.0 = t.text.parts ∙ ap (λ (r : List ℕ). spelling a.0.0 ++ r) nothing ∙ append-nil (spelling a.0.0) in
     subst (λ (n : Message). IsSpelling agents publics n bytes) g.1 (record { fits = t.fits; is = whole })
 
-pub all_again : (agents publics : ℕ) (m : Message) (bytes : List ℕ) → publics < 2 ^ 32 → IsSpelling agents publics m bytes → message_of agents publics bytes ≡ Some m
-unfolding message_of
+pub all_again : (agents publics : ℕ) (m : Message) (bytes : List ℕ) → publics < 2 ^ 32 → IsSpelling agents publics m bytes → message_read agents publics bytes ≡ Some m
+unfolding message_read
 all_again agents publics m bytes small s =
     let read : message_at agents publics bytes ≡ Some (m, []) = ap (message_at agents publics) (s.is ∙ sym (append-nil (spelling m))) ∙ message_again agents publics m [] small s.fits in
     rw read refl
 
 -- ---- what a function returned that reads as it should
 
-pub reads_spelled : (agents publics : ℕ) (bytes : List ℕ) (r : Result Message DecodeRefusal) → IsBytes bytes → IsReading r (message_of agents publics bytes) → IfOk r (λ m. IsSpelling agents publics m bytes)
+pub reads_spelled : (agents publics : ℕ) (bytes : List ℕ) (r : Result Message DecodeRefusal) → IsBytes bytes → IsReading r (message_read agents publics bytes) → IfOk r (λ m. IsSpelling agents publics m bytes)
 reads_spelled agents publics bytes (Ok m) fits reading = all_take agents publics bytes m fits reading
 reads_spelled agents publics bytes (Err e) fits reading = tt
 
-pub reads_found : (agents publics : ℕ) (bytes : List ℕ) (r : Result Message DecodeRefusal) → publics < 2 ^ 32 → IsReading r (message_of agents publics bytes) → (m : Message) → IsSpelling agents publics m bytes → MatchResult r (λ read. read ≡ m) (λ e. e ≡ OutOfMemory)
+pub reads_found : (agents publics : ℕ) (bytes : List ℕ) (r : Result Message DecodeRefusal) → publics < 2 ^ 32 → IsReading r (message_read agents publics bytes) → (m : Message) → IsSpelling agents publics m bytes → MatchResult r (λ read. read ≡ m) (λ e. e ≡ OutOfMemory)
 reads_found agents publics bytes (Ok read) small reading m spelled = some_is read m (sym reading ∙ all_again agents publics m bytes small spelled)
 reads_found agents publics bytes (Err OutOfMemory) small reading m spelled = refl
 reads_found agents publics bytes (Err NotAMessage) small reading m spelled = absurd (none-some m (sym reading ∙ all_again agents publics m bytes small spelled))
 
-nothing_spelled : (agents publics : ℕ) (bytes : List ℕ) (r : Result Message DecodeRefusal) → publics < 2 ^ 32 → IsReading r (message_of agents publics bytes) → r ≡ Err NotAMessage → (m : Message) → IsSpelling agents publics m bytes → ⊥
+nothing_spelled : (agents publics : ℕ) (bytes : List ℕ) (r : Result Message DecodeRefusal) → publics < 2 ^ 32 → IsReading r (message_read agents publics bytes) → r ≡ Err NotAMessage → (m : Message) → IsSpelling agents publics m bytes → ⊥
 nothing_spelled agents publics bytes r small reading e m spelled =
-    let nothing : message_of agents publics bytes ≡ None = subst (λ (q : Result Message DecodeRefusal). IsReading q (message_of agents publics bytes)) e reading in
+    let nothing : message_read agents publics bytes ≡ None = subst (λ (q : Result Message DecodeRefusal). IsReading q (message_read agents publics bytes)) e reading in
     none-some m (sym nothing ∙ all_again agents publics m bytes small spelled)
 
-refuses_nothing : (agents publics : ℕ) (bytes : List ℕ) (r : Result Message DecodeRefusal) → IsBytes bytes → IsReading r (message_of agents publics bytes) → ((m : Message) → IsSpelling agents publics m bytes → ⊥) → r ≡ Err NotAMessage
+refuses_nothing : (agents publics : ℕ) (bytes : List ℕ) (r : Result Message DecodeRefusal) → IsBytes bytes → IsReading r (message_read agents publics bytes) → ((m : Message) → IsSpelling agents publics m bytes → ⊥) → r ≡ Err NotAMessage
 refuses_nothing agents publics bytes (Ok m) fits reading none = absurd (none m (all_take agents publics bytes m fits reading))
 refuses_nothing agents publics bytes (Err NotAMessage) fits reading none = refl
 refuses_nothing agents publics bytes (Err OutOfMemory) fits reading none = absurd (none (kinds.State reading.0) (all_take agents publics bytes (kinds.State reading.0) fits reading.1))
 
-pub reads_refused : (agents publics : ℕ) (bytes : List ℕ) (r : Result Message DecodeRefusal) → publics < 2 ^ 32 → IsBytes bytes → IsReading r (message_of agents publics bytes) → (r ≡ Err NotAMessage) ↔ ((m : Message) → IsSpelling agents publics m bytes → ⊥)
+pub reads_refused : (agents publics : ℕ) (bytes : List ℕ) (r : Result Message DecodeRefusal) → publics < 2 ^ 32 → IsBytes bytes → IsReading r (message_read agents publics bytes) → (r ≡ Err NotAMessage) ↔ ((m : Message) → IsSpelling agents publics m bytes → ⊥)
 reads_refused agents publics bytes r small fits reading =
     (nothing_spelled agents publics bytes r small reading, refuses_nothing agents publics bytes r fits reading)
 
-pub reads_memory : (agents publics : ℕ) (bytes : List ℕ) (r : Result Message DecodeRefusal) → IsBytes bytes → IsReading r (message_of agents publics bytes) → r ≡ Err OutOfMemory → (s : State) × IsSpelling agents publics (kinds.State s) bytes
+pub reads_memory : (agents publics : ℕ) (bytes : List ℕ) (r : Result Message DecodeRefusal) → IsBytes bytes → IsReading r (message_read agents publics bytes) → r ≡ Err OutOfMemory → (s : State) × IsSpelling agents publics (kinds.State s) bytes
 reads_memory agents publics bytes r fits reading e =
-    let state : (s : State) × (message_of agents publics bytes ≡ Some (kinds.State s)) = subst (λ (q : Result Message DecodeRefusal). IsReading q (message_of agents publics bytes)) e reading in
+    let state : (s : State) × (message_read agents publics bytes ≡ Some (kinds.State s)) = subst (λ (q : Result Message DecodeRefusal). IsReading q (message_read agents publics bytes)) e reading in
     (state.0, all_take agents publics bytes (kinds.State state.0) fits state.1)
 
 -- a state that is kept where nothing follows it
@@ -168,16 +168,16 @@ whole_state : (read : Option (State × List ℕ)) → is_some (as_kind kinds.Sta
 whole_state None some = absurd cc
 whole_state (Some x) some = (x.0, kept_state x.0 (eqb (length x.1) 0) some)
 
-state_by_byte : (agents publics : ℕ) (rest : List ℕ) → is_some (message_of agents publics (1 ∷ rest)) ≡ true → (s : State) × (message_of agents publics (1 ∷ rest) ≡ Some (kinds.State s))
-unfolding message_of message_at fields_at
+state_by_byte : (agents publics : ℕ) (rest : List ℕ) → is_some (message_read agents publics (1 ∷ rest)) ≡ true → (s : State) × (message_read agents publics (1 ∷ rest) ≡ Some (kinds.State s))
+unfolding message_read message_at fields_at
 state_by_byte agents publics rest some = whole_state (state_at agents publics rest) some
 
 -- bytes that begin as those of a state do spell a state, if anything
-pub state_by_kind : (agents publics : ℕ) (bytes : List ℕ) → slice_get bytes 0 ≡ Some 1 → is_some (message_of agents publics bytes) ≡ true → (s : State) × (message_of agents publics bytes ≡ Some (kinds.State s))
+pub state_by_kind : (agents publics : ℕ) (bytes : List ℕ) → slice_get bytes 0 ≡ Some 1 → is_some (message_read agents publics bytes) ≡ true → (s : State) × (message_read agents publics bytes ≡ Some (kinds.State s))
 state_by_kind agents publics [] first some = absurd cc
 state_by_kind agents publics (b ∷ rest) first some =
     let one : 1 ≡ b = sym (some_is b 1 first) in
-    subst (λ (k : ℕ). is_some (message_of agents publics (k ∷ rest)) ≡ true → (s : State) × (message_of agents publics (k ∷ rest) ≡ Some (kinds.State s))) one (state_by_byte agents publics rest) some
+    subst (λ (k : ℕ). is_some (message_read agents publics (k ∷ rest)) ≡ true → (s : State) × (message_read agents publics (k ∷ rest) ≡ Some (kinds.State s))) one (state_by_byte agents publics rest) some
 
 -- ---- laws
 

@@ -1,5 +1,5 @@
 -- Facts that are read into a set, and states that are read in parts.
-use Rattle.std.proofs.Common.{◌≡◌, ℕ, suc, ◌+◌, ◌-◌, ◌<◌, ◌≤◌, Bool, true, false, cond, ◌||◌, eqb, List, [], ◌∷◌, get_or, length, Option, Some, None, refl, sym, ap, subst, ◌∙◌, arith}
+use Rattle.std.proofs.Common.{◌≡◌, ℕ, suc, ◌+◌, ◌-◌, ◌^◌, ◌<◌, ◌≤◌, Bool, true, false, cond, ◌||◌, eqb, List, [], ◌∷◌, get_or, length, Option, Some, None, refl, sym, ap, subst, ◌∙◌, arith}
 use Rattle.std.proofs.lemmas.Bool.{eqb-true, eq-eqb}
 use Rattle.std.proofs.lemmas.Option.{cond_some, none-some}
 use Rattle.std.specs.Cmp.{nat_cmp_total}
@@ -13,12 +13,12 @@ use Rattle.mp_sets.specs.declared.tag.Tag.{Tag}
 use Rattle.mp_messages.specs.declared.message.State.{State}
 use Rattle.mp_messages.specs.declared.message.Message.{Message}
 use Rattle.mp_messages.specs.declared.message.Message.TheVariants as kinds
-use Rattle.mp_messages.specs.Parts.{StateParts, parts_of, as_set, in_parts, state_in}
-use Rattle.mp_messages.specs.Reading.{◌>>=◌, as_kind, fact_at, facts_at, costs_at, counted_at, tags_at, state_at, fields_at, message_at, message_of}
-use Rattle.mp_messages.specs.Spelling.{spelling}
+use Rattle.mp_messages.specs.Parts.{StateParts, parts_of, state_in}
+use Rattle.mp_messages.specs.Reading.{◌>>=◌, as_kind, as_set, in_parts, fact_at, facts_at, costs_at, counted_at, tags_at, state_at, fields_at, message_at, message_read}
+use Rattle.mp_messages.specs.Spelling.{spelling, IsSpelling}
 use Rattle.mp_messages.proofs.Loops.{with_front}
-use Rattle.mp_messages.proofs.Messages.{all_take}
-use Rattle.mp_messages.proofs.Taking.{IsBytes, bind_some, some_is}
+use Rattle.mp_messages.proofs.Messages.{all_again, all_take}
+use Rattle.mp_messages.proofs.Taking.{IsBytes, IsBytes-with, bind_some, some_is}
 
 -- ---- facts
 
@@ -133,8 +133,8 @@ module _ (agents publics : ℕ) (bytes : List ℕ) where
 abbrev whole : Option (State × List ℕ) → Option Message
 whole read = as_kind kinds.State read >>= λ m. cond (eqb (length m.1) 0) (Some m.0) None
 
-whole_is : (agents publics : ℕ) (bytes : List ℕ) → message_of agents publics (1 ∷ bytes) ≡ whole (state_at agents publics bytes)
-unfolding message_of message_at fields_at
+whole_is : (agents publics : ℕ) (bytes : List ℕ) → message_read agents publics (1 ∷ bytes) ≡ whole (state_at agents publics bytes)
+unfolding message_read message_at fields_at
 whole_is agents publics bytes = refl
 
 none_whole : (read : Option (State × List ℕ)) → None ≡ in_parts read → (s : State) → whole read ≡ Some (kinds.State s) → ⊥
@@ -157,28 +157,31 @@ all_whole (Some x) p rest e all =
     let ends : length x.1 ≡ 0 = sym (ap (λ (y : StateParts × List ℕ). length y.1) same) ∙ all in
     (x.0, ap (λ (b : Bool). cond b (Some (kinds.State x.0)) None) (eq-eqb (length x.1) 0 ends), ap (λ (y : StateParts × List ℕ). y.0) same)
 
-module _ (agents publics : ℕ) (bytes : List ℕ) where
-  pub no_state : None ≡ in_parts (state_at agents publics bytes) → (s : State) → message_of agents publics (1 ∷ bytes) ≡ Some (kinds.State s) → ⊥
-  no_state e s is = none_whole (state_at agents publics bytes) e s (sym (whole_is agents publics bytes) ∙ is)
+module _ (agents publics : ℕ) (bytes : List ℕ) (few : publics < 2 ^ 32) (fits : IsBytes bytes) where
+  no_spelling : ((s : State) → whole (state_at agents publics bytes) ≡ Some (kinds.State s) → ⊥)
+      → (s : State) → IsSpelling agents publics (kinds.State s) (1 ∷ bytes) → ⊥
+  no_spelling none s spelled = none s (sym (whole_is agents publics bytes) ∙ all_again agents publics (kinds.State s) (1 ∷ bytes) few spelled)
+
+  pub no_state : None ≡ in_parts (state_at agents publics bytes) → (s : State) → IsSpelling agents publics (kinds.State s) (1 ∷ bytes) → ⊥
+  no_state e = no_spelling (none_whole (state_at agents publics bytes) e)
 
   pub bytes_left : (p : StateParts) (rest : List ℕ) → Some (p, rest) ≡ in_parts (state_at agents publics bytes) → (length rest ≡ 0 → ⊥)
-      → (s : State) → message_of agents publics (1 ∷ bytes) ≡ Some (kinds.State s) → ⊥
-  bytes_left p rest e more s is = more_whole (state_at agents publics bytes) p rest e more s (sym (whole_is agents publics bytes) ∙ is)
+      → (s : State) → IsSpelling agents publics (kinds.State s) (1 ∷ bytes) → ⊥
+  bytes_left p rest e more = no_spelling (more_whole (state_at agents publics bytes) p rest e more)
 
   pub whole_read : (p : StateParts) (rest : List ℕ) → Some (p, rest) ≡ in_parts (state_at agents publics bytes) → length rest ≡ 0
-      → (s : State) × (message_of agents publics (1 ∷ bytes) ≡ Some (kinds.State s)) × (p ≡ parts_of s)
+      → (s : State) × IsSpelling agents publics (kinds.State s) (1 ∷ bytes) × (p ≡ parts_of s)
   whole_read p rest e all =
       let found = all_whole (state_at agents publics bytes) p rest e all in
-      (found.0, whole_is agents publics bytes ∙ found.1, found.2)
+      (found.0, all_take agents publics (1 ∷ bytes) (kinds.State found.0) (IsBytes-with 1 bytes (omega arith) fits) (whole_is agents publics bytes ∙ found.1), found.2)
 
 -- bytes that begin otherwise spell no state
-pub other_kind : (agents publics : ℕ) (bytes : List ℕ) → IsBytes bytes → (0 < length bytes → get_or bytes 0 0 ≡ 1 → ⊥) → (s : State)
-    → message_of agents publics bytes ≡ Some (kinds.State s) → ⊥
+pub other_kind : (agents publics : ℕ) (bytes : List ℕ) → (0 < length bytes → get_or bytes 0 0 ≡ 1 → ⊥) → (s : State)
+    → IsSpelling agents publics (kinds.State s) bytes → ⊥
 unfolding spelling
-other_kind agents publics bytes fits other s is =
-    let spelled = (all_take agents publics bytes (kinds.State s) fits is).is in
-    let long : 0 < length bytes = subst (λ (b : List ℕ). 0 < length b) (sym spelled) (omega arith) in
-    other long (ap (λ (b : List ℕ). get_or b 0 0) spelled)
+other_kind agents publics bytes other s spelled =
+    let long : 0 < length bytes = subst (λ (b : List ℕ). 0 < length b) (sym spelled.is) (omega arith) in
+    other long (ap (λ (b : List ℕ). get_or b 0 0) spelled.is)
 
 -- ---- the state in a message
 

@@ -1,9 +1,9 @@
 -- what may be sent, and its bytes
 pub mod Spelling
+-- states by their parts, with no list of facts
+pub mod Parts
 -- reading bytes from left to right
 pub mod Reading
--- states that are read with no list of facts
-pub mod Parts
 -- logs of what was done, put and taken
 pub mod History
 -- what `==` answers

@@ -7,7 +7,7 @@ use Rattle.mp_messages.specs.declared.message.State.{State}
 use Rattle.mp_messages.specs.declared.message.StateNumbers.{StateNumbers}
 use Rattle.mp_messages.specs.declared.message.Message.{Message}
 use Rattle.mp_messages.specs.declared.message.Message.TheVariants as kinds
-use Rattle.mp_messages.specs.Reading.{◌>>=◌}
+use Rattle.mp_messages.specs.Spelling.{IsSpelling}
 
 -- the parts of a state, its facts as a set
 pub record StateParts : Type 0 where
@@ -24,18 +24,10 @@ parts_of s = record { sent = s.sent; g = s.g; h = s.h; facts = set.from_list s.f
 abbrev pub parts : StateNumbers → Numbers → List Tag → StateParts
 parts n facts tags = record { sent = n.sent; g = n.g; h = n.h; facts = facts; tags = tags }
 
--- What was read is the state that bytes spell, by its parts; nothing was read exactly where they spell no state.
-abbrev pub IsStateReading : Option StateParts → Option Message → Type 0
-IsStateReading None read = (s : State) → read ≡ Some (kinds.State s) → ⊥
-IsStateReading (Some p) read = (s : State) × (read ≡ Some (kinds.State s)) × (p ≡ parts_of s)
-
--- a list that is read, as the set of its numbers
-abbrev pub as_set : Option (List ℕ × List ℕ) → Option (Numbers × List ℕ)
-as_set read = read >>= λ x. Some (set.from_list x.0, x.1)
-
--- a state that is read, as its parts
-abbrev pub in_parts : Option (State × List ℕ) → Option (StateParts × List ℕ)
-in_parts read = read >>= λ x. Some (parts_of x.0, x.1)
+-- What was found is the state that bytes spell, by its parts; nothing was found exactly where they spell no state.
+abbrev pub IsStateReading : ℕ → ℕ → List ℕ → Option StateParts → Type 0
+IsStateReading agents publics bytes None = (s : State) → IsSpelling agents publics (kinds.State s) bytes → ⊥
+IsStateReading agents publics bytes (Some p) = (s : State) × IsSpelling agents publics (kinds.State s) bytes × (p ≡ parts_of s)
 
 -- the state, where a message is one
 abbrev pub state_in : Message → Option State

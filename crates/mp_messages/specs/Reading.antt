@@ -1,7 +1,9 @@
 -- Reading from left to right: a field is a value and the bytes after it, or none where no value is spelled.
 use Rattle.std.specs.Prelude.{◌≡◌, ℕ, zero, suc, ◌+◌, Bool, true, false, ◌||◌, List, [], ◌∷◌, length, take, drop, Option, Some, None, Result, Ok, Err, nat_lt, nat_le, ◌==◌, if◌then◌else◌}
 use Rattle.std.specs.Int.{Width, w32, w64, byte_len, from_be_bytes}
+use Rattle.std.specs.FinSet as set
 use Rattle.mp_sets.specs.declared.tag.Tag.{Tag}
+use Rattle.mp_sets.specs.Numbers.{Numbers}
 use Rattle.mp_messages.specs.declared.message.State.{State}
 use Rattle.mp_messages.specs.declared.message.Findings.{Findings}
 use Rattle.mp_messages.specs.declared.message.EndKind.{EndKind}
@@ -10,6 +12,7 @@ use Rattle.mp_messages.specs.declared.message.Message.{Message}
 use Rattle.mp_messages.specs.declared.message.Message.TheVariants as kinds
 use Rattle.mp_messages.specs.declared.decoding.DecodeRefusal.{DecodeRefusal}
 use Rattle.mp_messages.specs.declared.decoding.DecodeRefusal.TheVariants.{NotAMessage, OutOfMemory}
+use Rattle.mp_messages.specs.Parts.{StateParts, parts_of}
 use Rattle.mp_messages.specs.Spelling.{limit}
 
 infixl 10 ◌>>=◌
@@ -140,8 +143,18 @@ unfoldable pub message_at : ℕ → ℕ → List ℕ → Option (Message × List
 message_at agents publics [] = None
 message_at agents publics (kind ∷ rest) = fields_at agents publics kind rest
 
--- the message that bytes spell, all of them, if they spell one
-unfoldable pub message_of : ℕ → ℕ → List ℕ → Option Message
-message_of agents publics bytes = do
+-- the message that is read from bytes, all of them, if one is
+unfoldable pub message_read : ℕ → ℕ → List ℕ → Option Message
+message_read agents publics bytes = do
   m ← message_at agents publics bytes
   if length m.1 == 0 then Some m.0 else None
+
+-- ---- states that are read with no list of facts
+
+-- a list that is read, as the set of its numbers
+abbrev pub as_set : Option (List ℕ × List ℕ) → Option (Numbers × List ℕ)
+as_set read = read >>= λ x. Some (set.from_list x.0, x.1)
+
+-- a state that is read, as its parts
+abbrev pub in_parts : Option (State × List ℕ) → Option (StateParts × List ℕ)
+in_parts read = read >>= λ x. Some (parts_of x.0, x.1)

@@ -1,5 +1,5 @@
 -- Messages as bytes: what may be sent, and the one spelling of it. The form is this program's own.
-use Rattle.std.specs.Prelude.{◌≡◌, ℕ, ◌+◌, ◌<◌, ◌^◌, Bool, true, false, List, [], ◌∷◌, ◌++◌, length, All, Option, Some, None, IfSome}
+use Rattle.std.specs.Prelude.{◌≡◌, ℕ, ◌+◌, ◌<◌, ◌^◌, ◌↔◌, Bool, true, false, List, [], ◌∷◌, ◌++◌, length, All, Option, Some, None, IfSome}
 use Rattle.std.specs.Int.{w32, w64, to_be_bytes}
 use Rattle.std.specs.List.{flat_map}
 use Rattle.std.specs.List.Sorted.{IsStrictlyIncreasing}
@@ -116,3 +116,9 @@ pub record Fits (agents publics : ℕ) (m : Message) : Type 0 where
 pub record IsSpelling (agents publics : ℕ) (m : Message) (bytes : List ℕ) : Type 0 where
   pub fits : Fits agents publics m
   pub is : bytes ≡ spelling m
+
+-- The message that bytes spell, and none where they spell none. In a team with so many public facts that four bytes
+-- have no room for their numbers there is none.
+pub record SpelledMessage (agents publics : ℕ) (bytes : List ℕ) : Type 0 where
+  pub message : Option Message
+  pub is : (m : Message) → (message ≡ Some m) ↔ ((publics < 2 ^ 32) × IsSpelling agents publics m bytes)

@@ -6,7 +6,7 @@ ghost use Rattle.std.specs.Option.{option_map};
 ghost use Rattle.mp_messages.specs.declared.decoding.DecodeRefusal.TheVariants.{OutOfMemory as NoMemory};
 ghost use Rattle.mp_messages.specs.declared.message.Message.{Message};
 ghost use Rattle.mp_messages.specs.Spelling.{limit, IsSpelling};
-ghost use Rattle.mp_messages.specs.Reading.{Gives, IsReading, rest_of, digits_at, number_at, flag_at, optional_at, ending_at, tag_at, tags_at, fact_at, facts_at, counted_at, costs_at, state_at, findings_at, trace_at, message_at, message_of};
+ghost use Rattle.mp_messages.specs.Reading.{Gives, IsReading, rest_of, digits_at, number_at, flag_at, optional_at, ending_at, tag_at, tags_at, fact_at, facts_at, counted_at, costs_at, state_at, findings_at, trace_at, message_at, message_read};
 
 use crate::message::{EndKind, Findings, Message, State};
 use mp_list::OutOfMemory;
@@ -300,14 +300,14 @@ fn message(
     }
 }
 
-#[tactic(auto, unfolding(crate::specs::Reading::message_of))]
+#[tactic(auto, unfolding(crate::specs::Reading::message_read))]
 fn whole_message(
     alloc: Global,
     agents: u16,
     publics: u32,
     bytes: &[u8],
 ) -> Result<Message, DecodeRefusal>
-    ensures read { Gives (λ m. m) result (message_of agents publics bytes.now) }
+    ensures read { Gives (λ m. m) result (message_read agents publics bytes.now) }
     ensures memory { IsErrOf result DecodeRefusal.OutOfMemory → slice_get bytes.now 0 ≡ Some 1 }
 {
     let (message, rest) = message(alloc, agents, publics, bytes)?;
@@ -363,10 +363,10 @@ fn after_state(agents: u16, publics: u32, bytes: &[u8]) -> Option<&[u8]>
 }
 
 /// Whether bytes that begin with the byte of a state spell one. It takes no memory.
-#[tactic(auto, unfolding(crate::specs::Reading::fields_at, crate::specs::Reading::message_at, crate::specs::Reading::message_of))]
+#[tactic(auto, unfolding(crate::specs::Reading::fields_at, crate::specs::Reading::message_at, crate::specs::Reading::message_read))]
 fn is_state(agents: u16, publics: u32, bytes: &[u8]) -> bool
     requires { slice_get bytes.now 0 ≡ Some 1 }
-    ensures { result ≡ is_some (message_of agents publics bytes.now) }
+    ensures { result ≡ is_some (message_read agents publics bytes.now) }
 {
     match bytes {
         [1, rest @ ..] => match after_state(agents, publics, rest) {
@@ -384,7 +384,7 @@ fn checked_message(
     publics: u32,
     bytes: &[u8],
 ) -> Result<Message, DecodeRefusal>
-    ensures { IsReading result (message_of agents publics bytes.now) }
+    ensures { IsReading result (message_read agents publics bytes.now) }
 {
     match whole_message(alloc, agents, publics, bytes) {
         Ok(message) => Ok(message),

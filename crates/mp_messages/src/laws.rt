@@ -10,7 +10,6 @@ ghost use Rattle.mp_messages.specs.declared.message.Findings.{Findings};
 ghost use Rattle.mp_messages.specs.declared.message.Message.{Message};
 ghost use Rattle.mp_messages.specs.declared.message.State.{State};
 ghost use Rattle.mp_messages.specs.History.{IsHistory, MayFollow, received, sent};
-ghost use Rattle.mp_messages.specs.Reading.{message_of};
 ghost use Rattle.mp_messages.specs.Spelling.{IsSpelling};
 
 /// A message has one spelling, and bytes spell at most one message of a team.
@@ -19,14 +18,6 @@ pub fn spelling_is_one_to_one()
         → IsSpelling agents publics m a → IsSpelling agents publics m b → a ≡ b }
     ensures message { (agents publics : ℕ) (m n : Message) (bytes : List ℕ) → publics < 2 ^ 32
         → IsSpelling agents publics m bytes → IsSpelling agents publics n bytes → m ≡ n }
-{}
-
-/// A message is the one that is read from bytes, all of them, from left to right, exactly where they are
-/// its spelling.
-pub fn spellings_are_read_from_left_to_right()
-    ensures { (agents publics : ℕ) (m : Message) (bytes : List ℕ) → publics < 2 ^ 32
-        → All (λ b. b < 256) bytes
-        → (message_of agents publics bytes ≡ Some m) ↔ IsSpelling agents publics m bytes }
 {}
 
 /// No spelling in a team begins another one: where one follows it with more bytes, these are none.

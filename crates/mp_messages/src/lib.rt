@@ -16,7 +16,7 @@ pub use history::{Bytes, Entries, Entry, Event, EventList, Kind, Views};
 pub use laws::{
     equal_entries_are_one, equal_messages_are_one, fronts_of_histories_are_legal,
     histories_grow_by_entries, messages_come_in_order, no_spelling_begins_another,
-    spelling_is_one_to_one, spellings_are_read_from_left_to_right,
+    spelling_is_one_to_one,
 };
 pub use lines::EntryView;
 pub use log::Log;

@@ -95,12 +95,29 @@ impl Log {
         )
     }
 
-    /// Adds at the end that a message was put. For want of memory the log stays as it was.
+    /// Adds at the end that a message was put. A state goes to its receivers one after another, so bytes that the last entry
+    /// has too are not added again. For want of memory the log stays as it was.
     pub fn push_put(&mut self, from: Agent, to: Agent, bytes: &[u8]) -> Result<(), OutOfMemory>
         ensures ok { OnOk result (self.new ≡ self.old ++ Put from to bytes.now ∷ []) }
         ensures err { OnErr result (self.new ≡ self.old) }
     {
-        let place = add_bytes(self.lines.as_slice(), &mut self.area, bytes)?;
+        let last = self.lines.len().saturating_sub(1);
+        self.push_put_of(from, to, bytes, last)
+    }
+
+    /// Adds at the end that a message was put, as `push_put` does. Where the entry at a place has the same message, its bytes
+    /// are not added again.
+    fn push_put_of(
+        &mut self,
+        from: Agent,
+        to: Agent,
+        bytes: &[u8],
+        at: usize,
+    ) -> Result<(), OutOfMemory>
+        ensures ok { OnOk result (self.new ≡ self.old ++ Put from to bytes.now ∷ []) }
+        ensures err { OnErr result (self.new ≡ self.old) }
+    {
+        let place = add_bytes_once(self.lines.as_slice(), &mut self.area, at, bytes)?;
         add_line(
             &mut self.lines,
             self.area.as_slice(),
@@ -150,6 +167,19 @@ impl Log {
             Entry::Act(agent, kind) => self.push_act(*agent, *kind),
             Entry::Put { from, to, bytes } => self.push_put(*from, *to, bytes.as_slice()),
             Entry::Took { by, from, bytes } => self.push_took(*by, *from, bytes.as_slice()),
+        }
+    }
+    /// Adds an entry at the end, as `push` does. Where the entry at a place has the same message, its bytes are not added again.
+    pub fn push_of(&mut self, entry: &Entry, at: usize) -> Result<(), OutOfMemory>
+        ensures ok { OnOk result (self.new ≡ self.old ++ entry.now ∷ []) }
+        ensures err { OnErr result (self.new ≡ self.old) }
+    {
+        match entry {
+            Entry::Act(agent, kind) => self.push_act(*agent, *kind),
+            Entry::Put { from, to, bytes } => self.push_put_of(*from, *to, bytes.as_slice(), at),
+            Entry::Took { by, from, bytes } => {
+                self.push_took_of(*by, *from, bytes.as_slice(), at)
+            }
         }
     }
 }

@@ -2,8 +2,8 @@
 
 ghost use Rattle.std.specs.Prelude.{◌≡◌, ◌+◌, ◌<◌, ◌^◌, IfOk, IfSome, ◌∷◌};
 ghost use Rattle.std.specs.Option.{option_map};
-ghost use Rattle.mp_messages.specs.Parts.{as_set, in_parts, parts, IsStateReading};
-ghost use Rattle.mp_messages.specs.Reading.{counted_at, facts_at, message_of, state_at, tags_at};
+ghost use Rattle.mp_messages.specs.Parts.{parts, IsStateReading};
+ghost use Rattle.mp_messages.specs.Reading.{as_set, counted_at, facts_at, in_parts, state_at, tags_at};
 
 use crate::decoding::{costs, fact, short_number, tag};
 use crate::message::StateNumbers;
@@ -94,8 +94,8 @@ fn whole_state_into(
     tags: &mut Tags,
 ) -> Result<Option<StateNumbers>, OutOfMemory>
     requires { facts.old.size ≡ publics }
-    ensures read { IfOk result (λ read. IsStateReading (option_map (λ n. parts n facts.new.members tags.new) read)
-        (message_of agents publics (1 ∷ bytes.now))) }
+    ensures read { IfOk result (λ read. IsStateReading agents publics (1 ∷ bytes.now)
+        (option_map (λ n. parts n facts.new.members tags.new) read)) }
     ensures size { facts.new.size ≡ publics }
     ensures below { IfOk result (λ read. IfSome read (λ n. n.g + n.h < 2 ^ 60)) }
 {
@@ -117,8 +117,8 @@ pub fn decode_state_into(
     facts: &mut Bits,
     tags: &mut Tags,
 ) -> Result<Option<StateNumbers>, OutOfMemory>
-    ensures read { IfOk result (λ read. IsStateReading (option_map (λ n. parts n facts.new.members tags.new) read)
-        (message_of agents facts.old.size bytes.now)) }
+    ensures read { IfOk result (λ read. IsStateReading agents facts.old.size bytes.now
+        (option_map (λ n. parts n facts.new.members tags.new) read)) }
     ensures size { facts.new.size ≡ facts.old.size }
     ensures below { IfOk result (λ read. IfSome read (λ n. n.g + n.h < 2 ^ 60)) }
 {

@@ -10,6 +10,8 @@ pub mod SentSets
 pub mod SendingSteps
 -- own actions one after another, and the expansion of an entry
 pub mod ActionSteps
+-- the message that bytes spell
+pub mod Spelled
 -- what is answered to a state that comes from another agent
 pub mod Receiving
 -- whether some of a row of numbers pass a test

@@ -1,5 +1,5 @@
 -- What is answered to a state that comes from another agent.
-use Rattle.std.proofs.Common.{◌≡◌, ℕ, ◌+◌, ◌≤◌, Bool, true, false, not, List, Some, None, Ok, Err, refl, sym, ap, ◌∙◌, inl, inr, arith}
+use Rattle.std.proofs.Common.{◌≡◌, ℕ, ◌+◌, ◌^◌, ◌<◌, ◌≤◌, Bool, true, false, not, List, Some, None, Ok, Err, refl, sym, ap, subst, ◌∙◌, inl, inr, arith}
 use Rattle.std.specs.Option.{option_map_or}
 use Rattle.std.specs.Prelude.{nat_lt, option_and_then, Option, Result, if◌then◌else◌}
 use Rattle.std.proofs.lemmas.Bool.{cases_order, lt-ltb}
@@ -9,8 +9,8 @@ use Rattle.mp_task.specs.AgentTask.{AgentTask}
 use Rattle.mp_messages.specs.declared.message.Message.{Message}
 use Rattle.mp_messages.specs.declared.message.Message.TheVariants as kinds
 use Rattle.mp_messages.specs.declared.message.State.{State}
-use Rattle.mp_messages.specs.Parts.{state_in}
-use Rattle.mp_messages.specs.Reading.{message_of}
+use Rattle.mp_messages.specs.Parts.{state_in, IsStateReading, StateParts}
+use Rattle.mp_messages.specs.Spelling.{IsSpelling}
 use Rattle.mp_messages.proofs.Parts.{state_in_some, no_state_in}
 use Rattle.mp_store.specs.Record.{Record}
 use Rattle.mp_search.specs.declared.answer.Received.{Received}
@@ -20,6 +20,8 @@ use Rattle.mp_search.specs.AgentState.{AgentState}
 use Rattle.mp_search.specs.Memory.{lacks_memory_for}
 use Rattle.mp_search.specs.Receipt.{answered, is_byte_right, is_token_given, receipt, receipt_of_bytes, received, with_sum}
 use Rattle.mp_search.specs.Search.{SearchRecord}
+use Rattle.mp_search.specs.Spelled.{message_of}
+use Rattle.mp_search.proofs.Spelled.{message_is_spelled, spelled_is_message}
 
 pub not_below : (x n : ℕ) → n ≤ x → nat_lt x n ≡ false
 not_below x n h = grind (arith, nat_tests)
@@ -100,6 +102,13 @@ sum_none f (Err other, r) new e =
     ap (λ (p : Result (Option (Received × ℕ)) ReceiveRefusal × SearchRecord). p.0) e in
     cc
 
+-- what was found for a team of a task's numbers
+pub found_for : (t : AgentTask) (agents publics : ℕ) (bytes : List ℕ) (found : Option StateParts) → agents ≡ t.agents → publics ≡ t.publics
+    → IsStateReading agents publics bytes found → IsStateReading t.agents t.publics bytes found
+found_for t agents publics bytes found same_agents same_publics reading =
+    subst (λ (n : ℕ). IsStateReading t.agents n bytes found) same_publics
+    (subst (λ (n : ℕ). IsStateReading n publics bytes found) same_agents reading)
+
 module _ (t : AgentTask) (value : Numbers → Numbers → Option ℕ) (from : ℕ) (bytes : List ℕ) (r : SearchRecord) where
   -- what is answered, by the state that is spelled
   by_state : Option State → Result (Option (Received × ℕ)) ReceiveRefusal × SearchRecord
@@ -112,15 +121,18 @@ module _ (t : AgentTask) (value : Numbers → Numbers → Option ℕ) (from : �
   unfolding receipt_of_bytes by_state spelled
   is_by_state = refl
 
-  pub nothing_read : ((m : State) → message_of t.agents t.publics bytes ≡ Some (kinds.State m) → ⊥) → (Ok None, r) ≡ receipt_of_bytes t value from bytes r
+  pub nothing_read : ((m : State) → IsSpelling t.agents t.publics (kinds.State m) bytes → ⊥) → (Ok None, r) ≡ receipt_of_bytes t value from bytes r
   unfolding by_state spelled
   nothing_read none =
-      sym (is_by_state ∙ ap by_state (no_state_in (message_of t.agents t.publics bytes) none))
+      sym (is_by_state ∙ ap by_state (no_state_in (message_of t.agents t.publics bytes)
+      (λ m is. none m (message_is_spelled t.agents t.publics bytes (kinds.State m) is))))
 
-  module _ (m : State) (is : message_of t.agents t.publics bytes ≡ Some (kinds.State m)) where
+  module _ (m : State) (few : t.publics < 2 ^ 32) (is : IsSpelling t.agents t.publics (kinds.State m) bytes) where
     one_spelled : by_state spelled ≡ with_sum (m.g + m.h) (receipt t value from m r)
     unfolding by_state spelled
-    one_spelled = ap (λ (o : Option Message). by_state (option_and_then state_in o)) is
+    one_spelled =
+        ap (λ (o : Option Message). by_state (option_and_then state_in o))
+        (spelled_is_message t.agents t.publics (kinds.State m) bytes few is)
 
     pub read_received : (answer : Received) (new : SearchRecord) → (Ok answer, new) ≡ receipt t value from m r
         → (Ok (Some (answer, m.g + m.h)), new) ≡ receipt_of_bytes t value from bytes r

@@ -25,7 +25,7 @@ use Rattle.mp_task.specs.declared.act.Act.{Act}
 use Rattle.mp_task.specs.Limits.{ActFits}
 use Rattle.std.specs.List.{filter, range_with_len}
 use Rattle.mp_search.specs.Search.{sent_sets, tokens_given}
-use Rattle.mp_search.specs.Sending.{message_of, sending_of, sent_entry_of, sent_if_due}
+use Rattle.mp_search.specs.Sending.{message_of_entry, sending_of, sent_entry_of, sent_if_due}
 use Rattle.mp_search.specs.StateKeys.{HasSizes, IsMessageOf, IsSent, IsShown, KeptStates, used_after}
 use Rattle.mp_search.specs.Steps.{AreStatesOf, HaveSent}
 use Rattle.mp_search.proofs.SentSets.{more_sets, order_more, same_entries, unsent_sets}
@@ -97,8 +97,8 @@ module _ (t : AgentTask) (s : AgentState) (n : ℕ) (answer : Option (ℕ × ℕ
         (sym (more_sets n old.kept e is (option_map (λ x. x.0) answer) new.kept sent.marked number (ap (option_map (λ (x : ℕ × ℕ). x.0)) some)))
 
     pub message_is : (x : Shown) (m : State) (seen : Entry AgentState) → slice_get new.kept.entries n ≡ Some seen → IsShown x seen → x.publics.size ≡ new.publics
-        → IsMessageOf t number own_token x m → m ≡ message_of t new.kept number e
-    unfolding message_of
+        → IsMessageOf t number own_token x m → m ≡ message_of_entry t new.kept number e
+    unfolding message_of_entry
     message_is x m seen at shown size made =
         let one : Some seen ≡ Some e = sym at ∙ ap (λ (es : List (Entry AgentState)). slice_get es n) entries_kept ∙ is in
         let same : seen ≡ e = cc in
@@ -120,10 +120,10 @@ module _ (t : AgentTask) (s : AgentState) (n : ℕ) (answer : Option (ℕ × ℕ
           }))) j;
         }
 
-    pub one_sent : (out : List Sending) (m : State) → m ≡ message_of t new.kept number e
+    pub one_sent : (out : List Sending) (m : State) → m ≡ message_of_entry t new.kept number e
         → HaveSent t (sent_entry_of t s (Some n) old.kept) out (out ++ record { state = m; to = receivers t s } ∷ []) old new
     one_sent out m is_message =
-        let done : sent_entry_of t s (Some n) old.kept ≡ (record { state = message_of t new.kept number e; to = receivers t s } ∷ [], new.kept) =
+        let done : sent_entry_of t s (Some n) old.kept ≡ (record { state = message_of_entry t new.kept number e; to = receivers t s } ∷ [], new.kept) =
         as_decided ∙ ap (λ (a : Option (ℕ × ℕ)). sending_of t s e (option_map (λ x. x.0) a, new.kept)) some
         in
         record {

@@ -10,6 +10,8 @@ pub mod Offering
 pub mod Sending
 -- how an entry is expanded
 pub mod Expansion
+-- the message that bytes spell
+pub mod Spelled
 -- how a state from another agent is received
 pub mod Receipt
 -- answers for want of memory

@@ -9,7 +9,6 @@ use Rattle.mp_task.specs.Met.{is_met}
 use Rattle.mp_messages.specs.declared.message.State.{State}
 use Rattle.mp_messages.specs.declared.message.Message.TheVariants as kinds
 use Rattle.mp_messages.specs.Parts.{state_in}
-use Rattle.mp_messages.specs.Reading.{message_of}
 use Rattle.mp_messages.specs.Spelling.{Fits}
 use Rattle.mp_tokens.specs.Order.{set_at}
 use Rattle.mp_store.specs.declared.entry.Origin.TheVariants.{From}
@@ -20,6 +19,7 @@ use Rattle.mp_search.specs.declared.answer.ReceiveRefusal.TheVariants.{UnknownTo
 use Rattle.mp_search.specs.AgentState.{AgentState, no_tag, with_tag}
 use Rattle.mp_search.specs.Offering.{offered_at, own_value}
 use Rattle.mp_search.specs.Search.{SearchRecord, tokens_given}
+use Rattle.mp_search.specs.Spelled.{message_of}
 
 -- a message of a state that a team with a task's number of agents and of public facts may send
 abbrev pub IsStateFor : AgentTask → State → Type 0

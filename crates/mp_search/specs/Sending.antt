@@ -18,8 +18,8 @@ use Rattle.mp_search.specs.Search.{tokens_given}
 
 -- The message of an entry's state that is sent under a number. The record has that sending already, so that the own
 -- set has a token: its place among the sets that have one.
-unfoldable pub message_of : AgentTask → Record AgentState → ℕ → Entry AgentState → State
-message_of t r number e = record {
+unfoldable pub message_of_entry : AgentTask → Record AgentState → ℕ → Entry AgentState → State
+message_of_entry t r number e = record {
   sent = number;
   g = e.g;
   h = e.h;
@@ -33,7 +33,7 @@ message_of t r number e = record {
 -- one state goes out to the agents that it concerns, or none where no number was given
 abbrev pub sending_of : AgentTask → AgentState → Entry AgentState → Option ℕ × Record AgentState → List Sending × Record AgentState
 sending_of t s e (None, r) = ([], r)
-sending_of t s e (Some number, r) = (record { state = message_of t r number e; to = receivers t s } ∷ [], r)
+sending_of t s e (Some number, r) = (record { state = message_of_entry t r number e; to = receivers t s } ∷ [], r)
 
 -- The best entry of a state is sent, if it has one, unless that state was sent at that cost or less.
 unfoldable pub sent_entry_of : AgentTask → AgentState → Option ℕ → Record AgentState → List Sending × Record AgentState

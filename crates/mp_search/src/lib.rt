@@ -4,6 +4,7 @@
 mod answer;
 mod concern;
 mod expansion;
+mod laws;
 mod offering;
 mod reached;
 mod receipt;
@@ -12,5 +13,6 @@ mod sending;
 mod states;
 
 pub use answer::{AgentList, ExpandRefusal, ReceiveRefusal, Received, Sending, SendingList};
+pub use laws::bytes_have_the_message_that_they_spell;
 pub use search::Search;
 pub use states::Shown;

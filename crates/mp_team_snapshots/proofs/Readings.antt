@@ -1,6 +1,6 @@
 -- A marker is read as itself, and the states among bytes.
 use Rattle.mp_world.proofs.Basics.{◌≡◌, ℕ, ◌<◌, ◌^◌, List, [], ◌∷◌, ◌++◌, map, Option, Some, None, refl, sym, ap, ◌∙◌, filter_map, option_and_then, filter_map-append}
-use Rattle.mp_messages.proofs.Messages.{all_again}
+use Rattle.mp_search.proofs.Spelled.{fitting_is_message}
 use Rattle.mp_world.specs.AgentWords.{Message, Marker, message_of, spelling, least_of, lesser}
 use Rattle.mp_team_snapshots.specs.Messages.{marker_of}
 use Rattle.mp_team_snapshots.proofs.Reading.{read_first}
@@ -13,8 +13,7 @@ not_empty (z ∷ zs) ys x is = let impossible : ⊥ = cc in impossible
 module _ (agents publics k : ℕ) (facts : publics < 2 ^ 32) (small : k < 2 ^ 60) where
   pub marker_read : message_of agents publics (spelling (Marker k)) ≡ Some (Marker k)
   marker_read =
-      all_again agents publics (Marker k) (spelling (Marker k)) facts
-      (record { fits = record { numbers = small; facts = tt; rising = tt; tags = tt }; is = refl })
+      fitting_is_message agents publics (Marker k) facts (record { numbers = small; facts = tt; rising = tt; tags = tt })
 
   -- bytes of which none is a marker do not have the bytes of a marker
   pub no_marker_among : (before later : List (List ℕ))

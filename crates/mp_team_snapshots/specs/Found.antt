@@ -3,7 +3,7 @@ use Rattle.std.specs.Prelude.{ℕ, ◌+◌, List, length, map, filter_map, Optio
 use Rattle.mp_messages.specs.declared.message.Findings.{Findings}
 use Rattle.mp_messages.specs.declared.message.Message.{Message}
 use Rattle.mp_messages.specs.declared.message.Message.TheVariants.{State, Marker, Report, Pick, Trace, Length, Done}
-use Rattle.mp_messages.specs.Reading.{message_of}
+use Rattle.mp_search.specs.Spelled.{message_of}
 use Rattle.mp_snapshot.specs.declared.verdict.Verdict.{Verdict}
 use Rattle.mp_snapshot.specs.Minima.{least_of}
 use Rattle.mp_snapshot.specs.VerdictRule.{verdict_of}

@@ -5,7 +5,7 @@ use Rattle.mp_messages.specs.declared.message.EndKind.{EndKind}
 use Rattle.mp_messages.specs.declared.message.Findings.{Findings}
 use Rattle.mp_messages.specs.declared.message.Message.{Message}
 use Rattle.mp_messages.specs.declared.message.Message.TheVariants.{State, Marker, Report, Pick, Trace, Length, Done}
-use Rattle.mp_messages.specs.Reading.{message_of}
+use Rattle.mp_search.specs.Spelled.{message_of}
 use Rattle.mp_world.specs.World.{World, under_way}
 
 -- the messages from one agent to another, the oldest first, in a team with so many public facts

@@ -3,7 +3,7 @@ use Rattle.mp_world.proofs.Basics.{◌≡◌, ℕ, zero, suc, get_or, ◌<◌, �
 use Rattle.mp_world.proofs.Basics.{All-weaker, get_or_from_slice_get, slice_get_within}
 use Rattle.mp_list.proofs.Members.{no_member}
 use Rattle.mp_store.proofs.Sound.{closed_sound, kept_sound, sent_sound}
-use Rattle.mp_search.specs.Sending.{message_of}
+use Rattle.mp_search.specs.Sending.{message_of_entry}
 use Rattle.mp_world.specs.AgentWords.{AgentTask}
 use Rattle.mp_world.specs.SearchWords.{Entry, Mark, Expanded, Open, Replaced, IsEarlier, IsSound, closed, Record, f, gives_way, is_known, is_open, kept, Sending, AgentState, same_state}
 use Rattle.mp_team_states.specs.Growing.{HasGrown}
@@ -23,7 +23,7 @@ with_number n r = record r { sent = r.sent ++ n ∷ [] }
 
 -- the message of an entry that is sent, to some agents
 abbrev pub sending : AgentTask → ℕ → Record AgentState → Entry AgentState → List ℕ → Sending
-sending t n r e to = record { state = message_of t (with_number n r) (length r.sent) e; to = to }
+sending t n r e to = record { state = message_of_entry t (with_number n r) (length r.sent) e; to = to }
 
 module _ (Comes : Record AgentState → Entry AgentState → Type 0) (t : AgentTask) where
   -- Changes from a record to another one, with what goes out. Which entries come is a parameter.
@@ -101,7 +101,7 @@ module _ (Comes : Record AgentState → Entry AgentState → Type 0) (t : AgentT
 
   -- what goes out is sent
   pub changes_sent : (r s : Record AgentState) (out : List Sending) → Changes r out s → IsSound same_state r → (x : Sending) → Contains out x → IsSentIn t s x.state
-  unfolding message_of
+  unfolding message_of_entry
   changes_sent r s out (nothing _) sound x here = absurd (no_member x here)
   changes_sent r s out (closes _ _ _ n rest) sound x here = changes_sent (closed n r) s out rest (closed_sound same_state n r sound) x here
   changes_sent r s out (keeps _ _ _ new fresh comes rest) sound x here =

@@ -2,7 +2,7 @@
 use Rattle.mp_world.proofs.Basics.{◌≡◌, ℕ, ◌+◌, ◌⊎◌, Bool, true, false, cond, ◌&&◌, List, [], ◌∷◌, ◌++◌, length, map, Option, Some, None, refl, sym, ap, subst, ◌∙◌, inl, inr, Contains, option_map, slice_get, and_right, Contains-append_left, Contains-append_right}
 use Rattle.mp_world.proofs.Basics.{none-some, same_Some, slice_get-map}
 use Rattle.mp_list.proofs.Members.{contains_head}
-use Rattle.mp_search.specs.Sending.{message_of}
+use Rattle.mp_search.specs.Sending.{message_of_entry}
 use Rattle.mp_world.specs.AgentWords.{AgentTask, Act}
 use Rattle.mp_world.specs.SearchWords.{Entry, Open, Expanded, Replaced, Origin, Record, gives_way, is_open, kept, Sending, AgentState, is_goal_state, same_state, receivers, offered_at, Numbers, Own, successor, Parent, with_actions, own_value, sent_if_due}
 use Rattle.mp_team_states.specs.Growing.{HasGrown}
@@ -157,7 +157,7 @@ module _ (t : AgentTask) where
   -- an entry is sent
   continues_sent : (r : Record AgentState) (n : ℕ) (e : Entry AgentState) → slice_get r.entries n ≡ Some e
       → Continues t r (sending t n r e (receivers t e.key) ∷ []) (with_number n r)
-  unfolding message_of
+  unfolding message_of_entry
   continues_sent r n e at = record {
     grown = grown_sent n r;
     expanded = λ m x there is. record { entry = x; at = there; is = is };

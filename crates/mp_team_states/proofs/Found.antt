@@ -2,15 +2,17 @@
 use Rattle.mp_world.proofs.Basics.{◌≡◌, ℕ, zero, suc, List, Option, Some, None, refl, sym, ap, subst, ◌∙◌, Contains, option_and_then, option_map, slice_get, none-some, same_Some}
 use Rattle.mp_task.proofs.Agreeing.{Contains-slice_get}
 use Rattle.mp_messages.specs.declared.message.Message.TheVariants as kinds
+use Rattle.mp_messages.specs.Parts.{state_in}
+use Rattle.mp_messages.proofs.Parts.{state_in_some}
 use Rattle.mp_store.specs.Sent.{sent_entries}
 use Rattle.mp_reach.specs.Explored.{IsAt}
 use Rattle.mp_reach.specs.Found.{Entry as Seen, Message as Sent}
 use Rattle.mp_reach.specs.LeadsOn.{Known}
-use Rattle.mp_world.specs.AgentWords.{AgentTask, Message, State, message_of, AgentRecord}
+use Rattle.mp_world.specs.AgentWords.{AgentTask, State, message_of, AgentRecord}
 use Rattle.mp_world.specs.SearchWords.{Entry, AgentState, receivers}
 use Rattle.mp_world.specs.World.{AreNumbered, IsTeamWorld, World, agent_at, under_way}
 use Rattle.mp_world.proofs.Agents.{member_of}
-use Rattle.mp_team_states.specs.TeamFound.{found_of, on_its_way, seen_entry, sent_by, sent_of, sent_to, state_in, state_read, states_between, states_from}
+use Rattle.mp_team_states.specs.TeamFound.{found_of, on_its_way, seen_entry, sent_by, sent_of, sent_to, state_read, states_between, states_from}
 use Rattle.mp_team_states.proofs.Members.{at_place, from_filter_map, from_flat_map, from_map, to_filter_map, to_flat_map, to_map}
 
 -- ---- entries
@@ -94,21 +96,8 @@ found_sent w x found =
 pub reads_state : (t : AgentTask) (bytes : List ℕ) (m : State) → message_of t.agents t.publics bytes ≡ Some (kinds.State m) → state_read t bytes ≡ Some m
 reads_state t bytes m reads = ap (option_and_then state_in) reads
 
-state_is : (x : Message) (m : State) → state_in x ≡ Some m → x ≡ kinds.State m
-state_is (kinds.State y) m is = ap kinds.State (same_Some y m is)
-state_is (kinds.Marker number) m is = absurd (none-some m is)
-state_is (kinds.Report findings) m is = absurd (none-some m is)
-state_is (kinds.Pick number) m is = absurd (none-some m is)
-state_is (kinds.Trace sent back) m is = absurd (none-some m is)
-state_is (kinds.Length plan) m is = absurd (none-some m is)
-state_is (kinds.Done ending) m is = absurd (none-some m is)
-
 pub state_was_read : (t : AgentTask) (bytes : List ℕ) (m : State) → state_read t bytes ≡ Some m → message_of t.agents t.publics bytes ≡ Some (kinds.State m)
-state_was_read t bytes m is = by (message_of t.agents t.publics bytes) refl is
-  where
-    by : (o : Option Message) → message_of t.agents t.publics bytes ≡ o → option_and_then state_in o ≡ Some m → message_of t.agents t.publics bytes ≡ Some (kinds.State m)
-    by None reads is = absurd (none-some m is)
-    by (Some x) reads is = reads ∙ ap Some (state_is x m is)
+state_was_read t bytes m is = state_in_some (message_of t.agents t.publics bytes) m is
 
 module _ (tasks : List AgentTask) (numbered : AreNumbered tasks) (w : World) (team : IsTeamWorld tasks w) where
   me_of : (agent : ℕ) (r : AgentRecord) → agent_at w agent ≡ Some r → r.task.me ≡ agent

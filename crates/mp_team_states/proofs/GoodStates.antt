@@ -3,7 +3,7 @@ use Rattle.mp_world.proofs.Basics.{◌≡◌, ℕ, ◌+◌, ◌-◌, Bool, true,
 use Rattle.std.specs.FinSet as set
 use Rattle.mp_task.specs.Plan.{IsJointState}
 use Rattle.mp_messages.specs.declared.message.Message.TheVariants as kinds
-use Rattle.mp_search.specs.Sending.{message_of as message_of_entry}
+use Rattle.mp_search.specs.Sending.{message_of_entry}
 use Rattle.mp_machine.proofs.TakingLemmas.{took_spelled}
 use Rattle.mp_world.specs.AgentWords.{AgentTask, private_of, task_of, State, message_of, spelling, UnknownToken, WrongByte, AgentRecord, without_messages, took, unless_bad, with_state}
 use Rattle.mp_world.specs.SearchWords.{Numbers, Entry, AgentState, no_tag, IsStateFor, is_byte_right, is_token_given, state_of}

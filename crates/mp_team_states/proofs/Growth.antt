@@ -8,7 +8,7 @@ use Rattle.mp_tokens.proofs.Orders.{has_token, keeps, one_after_another}
 use Rattle.mp_tokens.proofs.Places.{old_or_new, with_new, with_old}
 use Rattle.mp_store.proofs.Mapped.{sent-map}
 use Rattle.mp_store.proofs.Marks.{SameButMarks, closing_marks, giving_way_marks, same_at, same_length, unmarked}
-use Rattle.mp_search.specs.Sending.{message_of}
+use Rattle.mp_search.specs.Sending.{message_of_entry}
 use Rattle.mp_search.proofs.SentSets.{SentInside}
 use Rattle.mp_world.specs.AgentWords.{AgentTask, is_met, State}
 use Rattle.mp_world.specs.SearchWords.{Numbers, place, Entry, Expanded, Root, closed, Record, gives_way, kept, new_entry, AgentState, same_state, with_tag, sent_sets, tokens_given}
@@ -201,8 +201,8 @@ sent_token t r k n e sent there =
     has_token (set.from_list t.start_priv) (sent_sets r) e.key.mine (suc found.0, omega (arith, found.1), found.2)
 
 message_alike : (t : AgentTask) (r s : Record AgentState) (number : ℕ) (e later : Entry AgentState) → IsAlike e later
-    → place (tokens_given t s) e.key.mine ≡ place (tokens_given t r) e.key.mine → message_of t r number e ≡ message_of t s number later
-unfolding message_of
+    → place (tokens_given t s) e.key.mine ≡ place (tokens_given t r) e.key.mine → message_of_entry t r number e ≡ message_of_entry t s number later
+unfolding message_of_entry
 message_alike t r s number e later alike token =
     (λ j. message_with (sym token j) e.key e.g e.h) ∙ (λ j. message_with (place (tokens_given t s) (sym alike.key j).mine) (sym alike.key j) (sym alike.g j) (sym alike.h j))
   where

@@ -7,7 +7,7 @@ use Rattle.mp_tokens.specs.Order.{set_at}
 use Rattle.mp_tokens.proofs.Orders.{order_different}
 use Rattle.mp_tokens.proofs.Places.{at_place}
 use Rattle.mp_search.specs.Receipt.{own_set}
-use Rattle.mp_search.specs.Sending.{message_of}
+use Rattle.mp_search.specs.Sending.{message_of_entry}
 use Rattle.mp_search.proofs.KeyedStates.{all_get}
 use Rattle.mp_world.specs.AgentWords.{AgentTask, IsWithinLimits, is_met, JointState, State, AgentRecord}
 use Rattle.mp_world.specs.SearchWords.{Tag, Numbers, place, Entry, AgentState, no_tag, with_tag, IsStateFor, state_of, sent_sets, tokens_given}
@@ -66,11 +66,11 @@ module _ (w : World) (t : AgentTask) (limits : IsWithinLimits t) (r : AgentRecor
   -- a message tells of the joint state of the entry that was sent
   pub sent_joint : (m : State) (n : ℕ) (e : Entry AgentState) → IsSentIn t r.search.kept m → slice_get r.search.kept.sent m.sent ≡ Some n
       → slice_get r.search.kept.entries n ≡ Some e → joint w t.me e.key ≡ joint_told w m
-  unfolding message_of
+  unfolding message_of_entry
   sent_joint m n e sent at_sent at =
       let number : sent.number ≡ n = same_Some sent.number n (sym sent.sent ∙ at_sent) in
       let one : sent.entry ≡ e = same_Some sent.entry e (sym sent.there ∙ ap (slice_get r.search.kept.entries) number ∙ at) in
-      let is : m ≡ message_of t r.search.kept m.sent e = subst (λ (e : Entry AgentState). m ≡ message_of t r.search.kept m.sent e) one sent.is in
+      let is : m ≡ message_of_entry t r.search.kept m.sent e = subst (λ (e : Entry AgentState). m ≡ message_of_entry t r.search.kept m.sent e) one sent.is in
       let known : IsStateOf w t e.key = all_get (λ (e : Entry AgentState). IsStateOf w t e.key) r.search.kept.entries n e sound.states at in
       let sets = tokens_given t r.search.kept in
       let own : Tag = record { token = place sets e.key.mine; met = is_met t e.key.mine } in

@@ -9,7 +9,7 @@ use Rattle.mp_sets.proofs.ListedLemmas.{passing_below}
 use Rattle.mp_sets.proofs.NumbersLemmas.{All_at, contains-after, listed-IsStrictlyIncreasing}
 use Rattle.mp_task.proofs.Agreeing.{Contains-slice_get}
 use Rattle.mp_messages.specs.declared.message.Message.TheVariants as kinds
-use Rattle.mp_search.specs.Sending.{message_of}
+use Rattle.mp_search.specs.Sending.{message_of_entry}
 use Rattle.mp_search.proofs.KeyedStates.{all_get}
 use Rattle.mp_machine.specs.MemberFields.{EntryFits, SendingFits}
 use Rattle.mp_machine.proofs.EntriesFit.{FitsUpTo, HasExpanded, expanded_fits, received_fits}
@@ -92,7 +92,7 @@ flat_out P (y ∷ ys) all =
 
 -- the message of a sent state fits the team
 state_fits : (w : World) (t : AgentTask) (r : Record AgentState) (y : Sending) → All (λ e. IsStateOf w t e.key) r.entries → SendingFits y → IsSentIn t r y.state → IsStateFor t y.state
-unfolding message_of
+unfolding message_of_entry
 state_fits w t r y states small sent =
     let e = sent.entry in
     let is = all_get (λ (e : Entry AgentState). IsStateOf w t e.key) r.entries sent.number e states sent.there in

@@ -7,7 +7,7 @@ use Rattle.mp_tokens.specs.Order.{set_at}
 use Rattle.mp_tokens.proofs.Orders.{order_only}
 use Rattle.mp_tokens.proofs.Places.{at_place}
 use Rattle.mp_search.specs.Receipt.{own_set, own_tag}
-use Rattle.mp_search.specs.Sending.{message_of}
+use Rattle.mp_search.specs.Sending.{message_of_entry}
 use Rattle.mp_search.proofs.KeyedStates.{all_get}
 use Rattle.mp_world.specs.AgentWords.{AgentTask, IsWithinLimits, is_met, State, AgentRecord}
 use Rattle.mp_world.specs.SearchWords.{Tag, AllBelow, Numbers, place, Entry, Record, AgentState, no_tag, with_tag, IsStateFor, is_byte_right, is_token_given, state_of, sent_sets, tokens_given}
@@ -82,7 +82,7 @@ module _ (w : World) (t : AgentTask) (limits : IsWithinLimits t) (r : AgentRecor
 
   -- of a state that it sent, each agent told its tag
   pub sent_told : (m : State) → IsSentIn t r.search.kept m → AreTold w m.tags
-  unfolding message_of
+  unfolding message_of_entry
   sent_told m sent agent low high = by (cases_eq agent t.me)
     where
       e : Entry AgentState

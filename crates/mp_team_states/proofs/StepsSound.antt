@@ -1,14 +1,11 @@
 -- What is so of the states that agents keep and send stays so at each event.
-use Rattle.mp_world.proofs.Basics.{◌≡◌, ◌≢◌, ℕ, zero, suc, ◌<◌, ◌⊎◌, Bool, true, false, cond, eqb, List, [], ◌∷◌, ◌++◌, length, map, Option, Some, None, All, refl, sym, ap, subst, ◌∙◌, arith, inl, inr, Contains, IsSomeAnd, Ok, drop, not, option_map, slice_get, ◌==◌}
+use Rattle.mp_world.proofs.Basics.{◌≡◌, ◌≢◌, ℕ, zero, suc, ◌<◌, ◌⊎◌, Bool, true, false, List, [], ◌∷◌, length, map, Option, Some, None, All, refl, sym, ap, subst, ◌∙◌, arith, inl, inr, Contains, IsSomeAnd, Ok, drop, not, option_map, slice_get, ◌==◌}
 use Rattle.mp_world.proofs.Basics.{if◌then◌else◌, filter, and_parts, cases_eq, eqb-true, All-contains, All-filter, All-map, All-weaker, Contains-append_cases, Contains-get_or, none-some, same_Some, slice_get-map, slice_get_within}
-use Rattle.std.proofs.lemmas.Option.{cond_some}
 use Rattle.mp_list.proofs.Members.{contains_tail, no_member}
 use Rattle.mp_messages.specs.declared.message.Message.TheVariants as kinds
-use Rattle.mp_messages.specs.Reading.{ending_at, findings_at}
-use Rattle.mp_messages.specs.Spelling.{ending, findings}
-use Rattle.mp_messages.proofs.Messages.{all_again}
+use Rattle.mp_search.proofs.Spelled.{kind, same_kind, spelled_is_message}
 use Rattle.mp_machine.specs.declared.event.Local.TheVariants as locals
-use Rattle.mp_world.specs.AgentWords.{AgentTask, IsWithinLimits, task_of, Event, Expand, Take, Start, Message, State, ◌>>=◌, as_kind, fields_at, message_at, message_of, number_at, trace_at, Fits, IfState, number, spelling, Local, Out, AgentRecord, is_going, local, may}
+use Rattle.mp_world.specs.AgentWords.{AgentTask, IsWithinLimits, task_of, Event, Expand, Take, Start, Message, State, message_of, Fits, IfState, spelling, Local, Out, AgentRecord, is_going, local, may}
 use Rattle.mp_world.specs.AgentWords.{Outgoing, Step, in_bytes}
 use Rattle.mp_world.specs.SearchWords.{Numbers, IsStateFor, may_expand}
 use Rattle.mp_world.specs.Team.{AreTeamTasks}
@@ -29,22 +26,26 @@ use Rattle.mp_team_states.proofs.WorldsGrow.{search_holds, sent_state_stays, sta
 
 -- ---- what is read of bytes that spell no state
 
-read_other : {A : Type 0} (kind : A → Message) (read : Option (A × List ℕ)) (m : Message) → ((a : A) → IsOther (kind a))
-    → (as_kind kind read >>= λ x. cond (eqb (length x.1) 0) (Some x.0) None) ≡ Some m → IsOther m
-read_other kind None m each is = absurd (none-some m is)
-read_other kind (Some x) m each is =
-    let parts = cond_some (eqb (length x.1) 0) (kind x.0) m is in
-    subst IsOther parts.1 (each x.0)
+not_a_state : (m : Message) → IsOther m → kind m ≡ 1 → ⊥
+not_a_state (kinds.State x) other is = other
+not_a_state (kinds.Marker n) other is = omega arith
+not_a_state (kinds.Report f) other is = omega arith
+not_a_state (kinds.Pick n) other is = omega arith
+not_a_state (kinds.Trace sent back) other is = omega arith
+not_a_state (kinds.Length n) other is = omega arith
+not_a_state (kinds.Done e) other is = omega arith
+
+is_other : (m : Message) → (kind m ≡ 1 → ⊥) → IsOther m
+is_other (kinds.State x) none = none refl
+is_other (kinds.Marker n) none = tt
+is_other (kinds.Report f) none = tt
+is_other (kinds.Pick n) none = tt
+is_other (kinds.Trace sent back) none = tt
+is_other (kinds.Length n) none = tt
+is_other (kinds.Done e) none = tt
 
 pub other_stays : (agents publics : ℕ) (m read : Message) → IsOther m → message_of agents publics (spelling m) ≡ Some read → IsOther read
-unfolding message_of message_at fields_at spelling
-other_stays agents publics (kinds.State x) read other is = absurd other
-other_stays agents publics (kinds.Marker n) read other is = read_other kinds.Marker (number_at (number n)) read (λ a. tt) is
-other_stays agents publics (kinds.Report f) read other is = read_other kinds.Report (findings_at (findings f)) read (λ a. tt) is
-other_stays agents publics (kinds.Pick n) read other is = read_other kinds.Pick (number_at (number n)) read (λ a. tt) is
-other_stays agents publics (kinds.Trace sent back) read other is = read_other (λ t. kinds.Trace t.0 t.1) (trace_at (number sent ++ number back)) read (λ a. tt) is
-other_stays agents publics (kinds.Length n) read other is = read_other kinds.Length (number_at (number n)) read (λ a. tt) is
-other_stays agents publics (kinds.Done e) read other is = read_other kinds.Done (ending_at (ending e)) read (λ a. tt) is
+other_stays agents publics m read other is = is_other read (λ one. not_a_state m other (same_kind agents publics m read is ∙ one))
 
 -- ---- a step of an agent
 
@@ -58,7 +59,7 @@ pub record IsKnown (w : World) (t : AgentTask) (bytes : List ℕ) : Type 0 where
 pub read_state : (t : AgentTask) (limits : IsWithinLimits t) (m : State) (bytes : List ℕ) → bytes ≡ spelling (kinds.State m) → IsStateFor t m
     → message_of t.agents t.publics bytes ≡ Some (kinds.State m)
 read_state t limits m bytes is fits =
-    all_again t.agents t.publics (kinds.State m) bytes (let size = limits.publics in omega arith) (record { fits = fits; is = is })
+    spelled_is_message t.agents t.publics (kinds.State m) bytes (let size = limits.publics in omega arith) (record { fits = fits; is = is })
 
 -- a state that is read is the message that was spelled
 pub spelled_state : (t : AgentTask) → IsWithinLimits t → (Fitting : State → Type 0) → ((x : State) → Fitting x → IsStateFor t x)

@@ -6,7 +6,7 @@ use Rattle.mp_store.specs.declared.entry.Entry.{Entry}
 use Rattle.mp_store.specs.Record.{Record}
 use Rattle.mp_store.specs.Sent.{sent_entry}
 use Rattle.mp_search.specs.AgentState.{AgentState}
-use Rattle.mp_search.specs.Sending.{message_of}
+use Rattle.mp_search.specs.Sending.{message_of_entry}
 
 -- A message tells of a state that was sent: it is that of the entry of its sent number.
 pub record IsSentIn (t : AgentTask) (r : Record AgentState) (m : State) : Type 0 where
@@ -14,4 +14,4 @@ pub record IsSentIn (t : AgentTask) (r : Record AgentState) (m : State) : Type 0
   pub entry : Entry AgentState
   pub sent : sent_entry m.sent r ≡ Some number
   pub there : slice_get r.entries number ≡ Some entry
-  pub is : m ≡ message_of t r m.sent entry
+  pub is : m ≡ message_of_entry t r m.sent entry

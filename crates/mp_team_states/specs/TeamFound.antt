@@ -1,31 +1,20 @@
 -- What the agents of a world have found: their entries, the states that they sent to each agent
 -- that these concern, and the states under way (MAD-A*, Nissim and Brafman 2014).
-use Rattle.std.specs.Prelude.{ℕ, List, Option, Some, None, option_and_then, option_map}
+use Rattle.std.specs.Prelude.{ℕ, List, Option, option_and_then, option_map}
 use Rattle.std.specs.Prelude.{map, filter_map, flat_map, slice_get}
 use Rattle.mp_task.specs.AgentTask.{AgentTask}
-use Rattle.mp_messages.specs.Reading.{message_of}
-use Rattle.mp_messages.specs.declared.message.Message.{Message}
-use Rattle.mp_messages.specs.declared.message.Message.TheVariants as kinds
+use Rattle.mp_messages.specs.Parts.{state_in}
 use Rattle.mp_messages.specs.declared.message.State.{State}
 use Rattle.mp_store.specs.declared.entry.Entry.{Entry}
 use Rattle.mp_store.specs.Sent.{sent_entries}
 use Rattle.mp_search.specs.AgentState.{AgentState}
 use Rattle.mp_search.specs.Concern.{receivers}
+use Rattle.mp_search.specs.Spelled.{message_of}
 use Rattle.mp_machine.specs.AgentRecord.{AgentRecord}
 use Rattle.mp_reach.specs.Found.{Entry as Seen, Found, Message as Sending}
 use Rattle.mp_reach.specs.LeadsOn.{Known}
 use Rattle.mp_world.specs.Joint.{joint, joint_told}
 use Rattle.mp_world.specs.World.{World, agent_at, under_way}
-
--- the state in a message, if it is one of a state
-abbrev pub state_in : Message → Option State
-state_in (kinds.State m) = Some m
-state_in (kinds.Marker number) = None
-state_in (kinds.Report findings) = None
-state_in (kinds.Pick number) = None
-state_in (kinds.Trace sent back) = None
-state_in (kinds.Length plan) = None
-state_in (kinds.Done ending) = None
 
 -- the state that an agent reads in bytes
 abbrev pub state_read : AgentTask → List ℕ → Option State

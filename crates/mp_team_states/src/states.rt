@@ -5,13 +5,13 @@ ghost use Rattle.std.specs.Prelude.{◌≡◌, ◌↔◌, ℕ, true, slice_get, 
 ghost use Rattle.mp_machine.specs.AgentRecord.{AgentRecord};
 ghost use Rattle.mp_machine.specs.Outgoing.{without_messages};
 ghost use Rattle.mp_machine.specs.Taking.{took, with_state};
-ghost use Rattle.mp_messages.specs.Reading.{message_of};
 ghost use Rattle.mp_messages.specs.Spelling.{spelling};
 ghost use Rattle.mp_messages.specs.declared.history.Event.{Event};
 ghost use Rattle.mp_messages.specs.declared.message.Message.TheVariants as kinds;
 ghost use Rattle.mp_messages.specs.declared.message.State.{State};
 ghost use Rattle.mp_search.specs.AgentState.{AgentState};
 ghost use Rattle.mp_search.specs.Receipt.{is_byte_right, is_token_given, state_of};
+ghost use Rattle.mp_search.specs.Spelled.{message_of};
 ghost use Rattle.mp_sets.specs.Numbers.{Numbers};
 ghost use Rattle.mp_sets.specs.declared.tag.Tag.{Tag};
 ghost use Rattle.mp_task.specs.AgentTask.{AgentTask};

@@ -3,7 +3,7 @@ use Rattle.mp_world.proofs.Basics.{ℕ, ◌+◌, Bool, true, false, cond, List, 
 use Rattle.std.proofs.lemmas.List.Elements.{All-contains_itself}
 use Rattle.mp_messages.specs.declared.message.Message.TheVariants as kinds
 use Rattle.mp_store.specs.Sent.{mark_sent}
-use Rattle.mp_search.specs.Sending.{message_of}
+use Rattle.mp_search.specs.Sending.{message_of_entry}
 use Rattle.mp_world.specs.AgentWords.{Act, AgentTask, Message, State, outgoing_of, Outgoing, others, to_each, to_one, to_others}
 use Rattle.mp_world.specs.SearchWords.{Numbers, Entry, best, least_open, Record, Sending, AgentState, applies, same_state, successor, receivers, Parent, expanded, expanded_entry, with_action, with_actions, with_successor, SearchRecord, is_due, sending_of, sent_best}
 use Rattle.mp_world.specs.SearchWords.{sent_entry_of, sent_if_due}
@@ -59,7 +59,7 @@ module _ (t : AgentTask) where
   sending_sent : (s : AgentState) (e : Entry AgentState) (d : Option ℕ × Record AgentState)
       → AreSent t (sending_of t s e d).0
   sending_sent s e (None, r) = none_sent
-  sending_sent s e (Some number, r) = state_sent s (message_of t r number e)
+  sending_sent s e (Some number, r) = state_sent s (message_of_entry t r number e)
 
   entry_sent : (s : AgentState) (o : Option ℕ) (r : Record AgentState) → AreSent t (sent_entry_of t s o r).0
   unfolding sent_entry_of

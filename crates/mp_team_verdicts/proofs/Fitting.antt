@@ -3,7 +3,7 @@ use Rattle.mp_world.proofs.Basics.{◌≡◌, ℕ, ◌<◌, ◌^◌, Bool, true,
 use Rattle.mp_world.proofs.Basics.{All-tail, All-weaker, filter-append, filter_map-append}
 use Rattle.mp_messages.specs.declared.message.Message.TheVariants.{State}
 use Rattle.mp_messages.specs.Spelling.{IsSpelling}
-use Rattle.mp_messages.proofs.Messages.{all_again}
+use Rattle.mp_search.proofs.Spelled.{fitting_is_message}
 use Rattle.mp_world.specs.AgentWords.{AgentTask, Event, Expand, Take, Start, Message, Marker, Report, Pick, Trace, Length, Done, message_of, Fits, spelling, Out, Outgoing, in_bytes}
 use Rattle.mp_world.specs.SearchWords.{Record, AgentState}
 use Rattle.mp_world.specs.Events.{agent_of, sent_in, without_taken}
@@ -94,8 +94,7 @@ sent_read agents publics small to (x ∷ xs) fits =
   where
     read : message_of agents publics (spelling x.message) ≡ Some x.message
     read =
-        all_again agents publics x.message (spelling x.message) small
-        (record { fits = All-head (λ (y : Outgoing). Fits agents publics y.message) x xs fits; is = refl })
+        fitting_is_message agents publics x.message small (All-head (λ (y : Outgoing). Fits agents publics y.message) x xs fits)
 
     by : (b : Bool) → (x.to == to) ≡ b → filter_map (message_of agents publics) (sent_to to (map in_bytes xs)) ≡ messages_to to xs
         → filter_map (message_of agents publics) (sent_to to (map in_bytes (x ∷ xs))) ≡ messages_to to (x ∷ xs)

@@ -4,7 +4,7 @@ use Rattle.mp_world.proofs.Basics.{filter_map, option_map_or, and_parts, cases_e
 use Rattle.std.specs.Option.{is_none}
 use Rattle.mp_messages.specs.declared.message.Message.TheVariants.{State as AState}
 use Rattle.mp_messages.specs.Spelling.{IsSpelling}
-use Rattle.mp_messages.proofs.Messages.{all_again}
+use Rattle.mp_search.proofs.Spelled.{spelled_is_message}
 use Rattle.mp_trail.specs.Share.{fits}
 use Rattle.mp_machine.specs.declared.refusal.BadKind.TheVariants.{StrangeMarker, StrangeReport}
 use Rattle.mp_machine.specs.Snapshots.{marked}
@@ -221,7 +221,7 @@ module _ (publics : ℕ) (tasks : List AgentTask) (are : AreTeamTasks tasks) (te
     first_message =
         ap (λ n. filter_map (message_of n publics) (under_way w a b)) (team_numbers publics tasks team w known.team).size
         ∙ ap (filter_map (message_of (length tasks) publics)) front
-        ∙ read_first (length tasks) publics bytes later read.message (all_again (length tasks) publics read.message bytes team.facts read.spelled)
+        ∙ read_first (length tasks) publics bytes later read.message (spelled_is_message (length tasks) publics read.message bytes team.facts read.spelled)
 
     -- as the receiver reads it
     spelled : IsSpelling r.task.agents r.task.publics read.message bytes
@@ -247,7 +247,7 @@ module _ (publics : ℕ) (tasks : List AgentTask) (are : AreTeamTasks tasks) (te
     unfolding IsGood
     state_good m is =
         let at : task_of tasks a ≡ Some other.0.task = task_at tasks are w known.team a other.0 other.1 in
-        let reads = all_again r.task.agents r.task.publics (AState m) bytes few_facts is in
+        let reads = spelled_is_message r.task.agents r.task.publics (AState m) bytes few_facts is in
         let found = what_is_read tasks are w known.team known.so_far.sound a b other.0.task r at there bytes m
         (first_among bytes (under_way w a b) later front) reads in
         let good = state_is_taken tasks are w known.team known.so_far.sound a b other.0.task r at there value m found.1 in

@@ -15,8 +15,6 @@ pub use Rattle.mp_machine.specs.declared.outgoing.Out.{Out}
 pub use Rattle.mp_machine.specs.declared.refusal.BadKind.{BadKind}
 pub use Rattle.mp_machine.specs.declared.refusal.BadKind.TheVariants.{StrangeDone, StrangeLength, StrangePick, StrangeTrace, UnknownToken, WrongByte}
 pub use Rattle.mp_messages.specs.History.{part, schedule, sent}
-pub use Rattle.mp_messages.specs.Reading.{as_kind, ◌>>=◌}
-unfoldable pub use Rattle.mp_messages.specs.Reading.{fields_at, message_at, message_of, number_at, trace_at}
 pub use Rattle.mp_messages.specs.Spelling.{AreFindings, Fits, IfState}
 unfoldable pub use Rattle.mp_messages.specs.Spelling.{number, spelling}
 pub use Rattle.mp_messages.specs.declared.history.Event.{Event}
@@ -27,6 +25,7 @@ pub use Rattle.mp_messages.specs.declared.message.Message.{Message}
 pub use Rattle.mp_messages.specs.declared.message.Message.TheVariants.{Done, Length, Marker, Pick, Report, Trace}
 pub use Rattle.mp_messages.specs.declared.message.State.{State}
 pub use Rattle.mp_runs.specs.System.{state_after}
+pub use Rattle.mp_search.specs.Spelled.{message_of}
 pub use Rattle.mp_snapshot.specs.Minima.{least_of, lesser}
 pub use Rattle.mp_snapshot.specs.Notes.{Notes}
 pub use Rattle.mp_snapshot.specs.Rules.{after_report, after_state, before_all, begun, has, is_complete, is_counted, is_strange_marker, is_strange_report, is_under_way, is_whole, noted, nothing, own, verdict, with_marker}

@@ -17,7 +17,7 @@ returns-in-Ok-Some-clause-step g c =
     subst (λ (answer : Result (Option (Received × ℕ)) ReceiveRefusal). IsReceiptOfBytes value s c.args.from c.args.bytes.now answer c.receive_bytes.new.self)
     (c.in-Ok-Some.is ∙ ap (λ (o : Option (Received × ℕ)). Ok o) c.in-Ok-Some.field-0-is) c.receive_bytes.ensures
     in
-    bytes_taken s c.receive_bytes.new.self c.args.member.now value c.args.from c.args.bytes.now c.requires.ready (λ i. omega (arith, c.type_inv.bytes i))
+    bytes_taken s c.receive_bytes.new.self c.args.member.now value c.args.from c.args.bytes.now c.requires.ready
     c.in-Ok-Some.field-0-0-0 c.in-Ok-Some.f received c.state_seen.new.self c.state_seen.ensures.notes c.args.outs.now
 
 pub returns-in-Ok-Some-clause-ready : goal.returns-in-Ok-Some-clause-ready
@@ -31,7 +31,7 @@ returns-in-Ok-Some-clause-ready g c =
     let high : c.args.from ≤ s.task.agents =
     let team = c.requires.ready.member.notes_agents in let within = c.requires.another.in_team in omega arith
     in
-    ready_taken s c.receive_bytes.new.self c.args.member.now value c.args.from c.args.bytes.now c.requires.ready (λ i. omega (arith, c.type_inv.bytes i))
+    ready_taken s c.receive_bytes.new.self c.args.member.now value c.args.from c.args.bytes.now c.requires.ready
     c.in-Ok-Some.field-0-0-0 c.in-Ok-Some.f received c.state_seen.new.self c.state_seen.ensures.notes c.requires.another.from_1 high
 
 pub take_decoded-requires-clause-ready : goal.take_decoded-requires-clause-ready

@@ -28,7 +28,7 @@ unfolding as_answer
 returns-in-Err-NotAMessage-clause-step g c =
     let s = c.args.search.now in
     let m = c.args.member.now in (
-      took_unspelled (g.H.Heuristic.value s.task) (record_of s m) c.args.from c.args.bytes.now (λ i. omega (arith, c.type_inv.bytes i))
+      took_unspelled (g.H.Heuristic.value s.task) (record_of s m) c.args.from c.args.bytes.now
           (λ message spelled.
           c.in-Err-NotAMessage.ensures.refused.0 (ap as_answer c.in-Err-NotAMessage.field-0-is) message
           (spelled_by s.task m c.requires.ready.member message c.args.bytes.now spelled)),

@@ -1,7 +1,6 @@
 use Rattle.std.proofs.Common.{◌≡◌, ◌+◌, ◌-◌, sym, ap, ◌∙◌, arith}
 use Rattle.mp_sets.specs.Numbers.{SizedSet}
-use Rattle.mp_messages.specs.Parts.{as_set}
-use Rattle.mp_messages.specs.Reading.{facts_at}
+use Rattle.mp_messages.specs.Reading.{as_set, facts_at}
 use Rattle.mp_messages.proofs.Parts.{into_set, into_empty, facts_go_in, facts_stop_in, facts_end_in}
 use Rattle.mp_messages.proofs.reading.facts_into.Goals as goal
 

@@ -1,6 +1,5 @@
 use Rattle.std.proofs.Common.{◌≡◌, ◌-◌}
-use Rattle.mp_messages.specs.Parts.{as_set}
-use Rattle.mp_messages.specs.Reading.{facts_at}
+use Rattle.mp_messages.specs.Reading.{as_set, facts_at}
 use Rattle.mp_messages.proofs.Parts.{into_set}
 use Rattle.mp_messages.proofs.reading.facts_into.Given as goal
 
