@@ -3,6 +3,7 @@
 
 mod merging;
 mod moving;
+mod places;
 mod stamped;
 #[cfg(test)]
 mod tests;

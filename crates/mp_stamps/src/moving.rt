@@ -9,9 +9,10 @@ ghost use Rattle.mp_stamps.specs.Sorting.{IsInOrderOf};
 ghost use Rattle.mp_stamps.specs.Turns.{BeginsWith, IsTurn, begins_up_to, left_behind, up_to};
 
 use crate::merging::{Turn, count_of, turn_with_stamp};
+use crate::places::Places;
 use crate::stamped::{Stamped, StampedList, StampedLists};
 use mp_list::OutOfMemory;
-use mp_messages::Log;
+use mp_messages::{Entry, Log};
 use std::collections::VecDeque;
 use std::marker::Model;
 
@@ -19,6 +20,8 @@ use std::marker::Model;
 #[derive(Drop)]
 struct Rest {
     entries: VecDeque<Stamped>,
+    /// The place in the log of the last message that its agent put.
+    put: usize,
 }
 
 impl Model for Rest {
@@ -37,6 +40,7 @@ impl Rest {
     {
         Rest {
             entries: VecDeque::from_vec(list.into_items()),
+            put: 0,
         }
     }
 
@@ -61,24 +65,62 @@ impl Rest {
     }
 
     /// The first entry, if there is one, goes over to the log.
-    fn move_first(&mut self, log: &mut Log) -> Result<(), OutOfMemory>
+    fn move_first(&mut self, log: &mut Log, places: &mut Places) -> Result<(), OutOfMemory>
         ensures { OnOk result ((s : Item) (ss : List Item) → self.old ≡ s ∷ ss
             → (self.new ≡ ss) × (log.new ≡ log.old ++ s.entry ∷ [])) }
     {
         match self.entries.pop_front() {
-            Some(first) => log.push(&first.entry),
+            Some(first) => add(log, places, &mut self.put, &first.entry),
             None => Ok(()),
         }
     }
 }
 
+/// The place of the log at which the message of its next entry may stand already: a state goes to several receivers, so it
+/// may be the last one that the agent put, and what is taken stands where it was put.
+fn likely_place(
+    next: usize,
+    places: &mut Places,
+    put: &mut usize,
+    entry: &Entry,
+) -> Result<usize, OutOfMemory> {
+    let last = *put;
+    match entry {
+        Entry::Act(_, _) => Ok(last),
+        Entry::Put { from, to, .. } => {
+            places.put(*from, *to, next)?;
+            *put = next;
+            Ok(last)
+        }
+        Entry::Took { by, from, .. } => Ok(places.take(*from, *by).unwrap_or(last)),
+    }
+}
+
+/// Adds an entry of an agent to the log.
+fn add(
+    log: &mut Log,
+    places: &mut Places,
+    put: &mut usize,
+    entry: &Entry,
+) -> Result<(), OutOfMemory>
+    ensures { OnOk result (log.new ≡ log.old ++ entry.now ∷ []) }
+{
+    let at = likely_place(log.len(), places, put, entry)?;
+    log.push_of(entry, at)
+}
+
 /// The entries up to a stamp go over to the log.
-fn move_up_to(rest: &mut Rest, last: u64, log: &mut Log) -> Result<(), OutOfMemory>
+fn move_up_to(
+    rest: &mut Rest,
+    last: u64,
+    log: &mut Log,
+    places: &mut Places,
+) -> Result<(), OutOfMemory>
     ensures log { OnOk result (log.new ≡ log.old ++ entries (up_to last rest.old)) }
     ensures rest { OnOk result (rest.new ≡ left_behind last rest.old) }
 {
     'entries: while rest.begins_up_to(last) {
-        rest.move_first(log)?;
+        rest.move_first(log, places)?;
     }
     Ok(())
 }
@@ -103,9 +145,10 @@ fn moved(lists: StampedLists) -> Result<Log, OutOfMemory>
     ensures { IfOk result (λ log. IsInOrderOf lists log) }
 {
     let mut log = Log::with_capacity(lists.allocator(), count_of(lists.as_slice()))?;
+    let mut places = Places::new(lists.allocator())?;
     let mut rests = rests_of(lists)?;
     'turns: while let Some(turn) = next_turn(rests.as_slice()) {
-        take_turn(&mut rests, turn, &mut log)?;
+        take_turn(&mut rests, turn, &mut log, &mut places)?;
     }
     Ok(log)
 }
@@ -143,12 +186,17 @@ fn turn_with(turn: Option<Turn>, at: usize, rest: &Rest) -> Option<Turn>
 }
 
 /// The entries whose turn it is go over to the log.
-fn take_turn(rests: &mut Vec<Rest>, turn: Turn, log: &mut Log) -> Result<(), OutOfMemory>
+fn take_turn(
+    rests: &mut Vec<Rest>,
+    turn: Turn,
+    log: &mut Log,
+    places: &mut Places,
+) -> Result<(), OutOfMemory>
     requires { turn.at < length rests.old.items }
     ensures log { OnOk result (log.new ≡ log.old ++ entries (up_to turn.last (slice_index_or rests.old.items turn.at []))) }
     ensures rests { OnOk result (rests.new.items
         ≡ slice_set rests.old.items turn.at (left_behind turn.last (slice_index_or rests.old.items turn.at []))) }
 {
     let rest = &mut rests[turn.at];
-    move_up_to(rest, turn.last, log)
+    move_up_to(rest, turn.last, log, places)
 }
