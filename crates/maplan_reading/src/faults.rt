@@ -30,7 +30,7 @@ fn show_fault(out: &mut Vec<u8>, kind: FaultKind, place: Place) -> Result<(), Ou
 }
 
 /// Adds the line of the first fault of shape, or of none.
-pub(crate) fn show_first(out: &mut Vec<u8>, fault: Option<Fault<'_>>) -> Result<(), OutOfMemory> {
+pub(crate) fn show_first(out: &mut Vec<u8>, fault: Option<Fault>) -> Result<(), OutOfMemory> {
     match fault {
         Some(fault) => show_fault(out, fault.kind, fault.place),
         None => show(out, b"  none\n"),

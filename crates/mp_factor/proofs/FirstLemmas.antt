@@ -1,17 +1,17 @@
 -- Faults are in a strict and total order, so that the earliest of some is their first.
-use Rattle.std.proofs.Common.{◌≡◌, ℕ, zero, suc, List, [], ◌∷◌, Ordering, Less, Equal, Greater, Option, Some, None, refl, sym, ap, ◌∙◌}
-use Rattle.std.specs.Prelude.{MatchOption, Result, Ok, Err, IfOk}
+use Rattle.std.proofs.Common.{◌≡◌, ℕ, zero, suc, Bool, true, false, List, [], ◌∷◌, ◌++◌, Ordering, Less, Equal, Greater, Some, refl, sym, ap, ◌∙◌, true≢false}
+use Rattle.std.specs.Prelude.{if◌then◌else◌}
 use Rattle.std.specs.Ordering.{is_lt, nat_cmp, ordering_then}
 use Rattle.std.specs.Cmp.Lexicographic.{slice_cmp}
-use Rattle.mp_list.specs.First.{IsStrictOrder, IsTotal}
+use Rattle.mp_list.specs.First.{IsStrictOrder, IsTotal, leftmost}
 use Rattle.mp_list.proofs.Orders.{is_less, strict_on, total_on, numbers_strict, numbers_total}
-use Rattle.mp_list.proofs.FirstLemmas.{found}
+use Rattle.mp_list.proofs.FirstLemmas.{found_first}
 use Rattle.mp_list.proofs.OneFirst.{first_is_one}
-use Rattle.mp_factor.specs.Fault.{Fault}
+use Rattle.mp_factor.specs.declared.fault.Fault.{Fault}
 use Rattle.mp_factor.specs.declared.fault.FaultKind.{FaultKind}
 use Rattle.mp_factor.specs.declared.fault.FaultKind.TheVariants.{Shape, Unsupported, Parameters, Cost}
-use Rattle.mp_factor.specs.Faults.{rank_of, order_of, is_earlier, leftmost}
-use Rattle.mp_factor.specs.Faults.First.{IsFirst}
+use Rattle.mp_factor.specs.Faults.{rank_of, order_of, is_earlier, IsFirst}
+use Rattle.mp_factor.specs.Found.{earlier_of, earliest_of}
 
 abbrev kind_of : ℕ → FaultKind
 kind_of zero = Shape
@@ -36,7 +36,7 @@ of_order a b = ap (λ (k : FaultKind). record { place = a.place; kind = k; word 
 apart : (a b : Fault) → order_of a ≡ order_of b → a ≡ b
 apart a b e = sym (of_order a a) ∙ ap (λ (ns : List ℕ). fault_of ns a) e ∙ of_order b a
 
-strict : IsStrictOrder is_earlier
+pub strict : IsStrictOrder is_earlier
 unfolding is_earlier
 strict = strict_on order_of (is_less (slice_cmp nat_cmp)) numbers_strict
 
@@ -70,13 +70,51 @@ earlier_by a b =
 pub one_first : (faults : List Fault) (a b : Fault) → IsFirst faults a → IsFirst faults b → a ≡ b
 one_first = first_is_one is_earlier total
 
--- what is found, said of all faults, where memory was left
-pub found_if : {E : Type 0} → (faults : List Fault) (answer : Result (Option Fault) E) → IfOk answer (λ first. first ≡ leftmost None faults)
-    → IfOk answer (λ first. MatchOption first (faults ≡ []) (λ (f : Fault). IsFirst faults f))
-found_if faults (Ok answer) e = found is_earlier strict faults answer e
-found_if faults (Err e') e = tt
+-- ---- the earliest of some
 
-pub none_there : (faults : List Fault) (answer : Option Fault) → answer ≡ None
-    → MatchOption answer (faults ≡ []) (λ (f : Fault). IsFirst faults f) → faults ≡ []
-none_there faults None is e = e
-none_there faults (Some f) is e = cc
+leftmost_is : (fault : Fault) (others : List Fault) → leftmost is_earlier (Some fault) others ≡ Some (earliest_of fault others)
+unfolding earlier_of
+leftmost_is fault [] = refl
+leftmost_is fault (f ∷ fs) = leftmost_is (if is_earlier f fault then f else fault) fs
+
+pub earliest_first : (fault : Fault) (others : List Fault) → IsFirst (fault ∷ others) (earliest_of fault others)
+earliest_first fault others = found_first is_earlier strict (fault ∷ others) (earliest_of fault others) (leftmost_is fault others)
+
+by_turns : (p q r : Bool) (a b c : Fault) → (p ≡ true → q ≡ true → r ≡ true) → (p ≡ false → q ≡ false → r ≡ false)
+    → (if p then (if q then c else b) else (if r then c else a)) ≡ (if q then (if r then c else a) else (if p then b else a))
+by_turns true true r a b c both none = ap (λ (t : Bool). if t then c else a) (sym (both refl refl))
+by_turns true false r a b c both none = refl
+by_turns false true r a b c both none = refl
+by_turns false false r a b c both none = ap (λ (t : Bool). if t then c else a) (none refl refl)
+
+passed : (a b c : Fault) (r : Bool) → is_earlier c a ≡ r → is_earlier b a ≡ true → is_earlier c b ≡ true → r ≡ true
+passed a b c true e p q = refl
+passed a b c false e p q = absurd (true≢false (sym q ∙ strict.passes c a b e (strict.turns b a p)))
+
+step : (p q : Bool) (a b c : Fault) → is_earlier b a ≡ p → is_earlier c b ≡ q
+    → earlier_of (if p then b else a) c ≡ earlier_of a (if q then c else b)
+unfolding earlier_of
+step p q a b c e f =
+    let r = is_earlier c a in
+    let left : earlier_of (if p then b else a) c ≡ (if p then (if q then c else b) else (if r then c else a)) =
+    elim p as (λ t. earlier_of (if t then b else a) c ≡ (if t then (if q then c else b) else (if r then c else a)))
+    [ true ↦ ap (λ (t : Bool). if t then c else b) f | false ↦ refl ] in
+    let right : earlier_of a (if q then c else b) ≡ (if q then (if r then c else a) else (if p then b else a)) =
+    elim q as (λ t. earlier_of a (if t then c else b) ≡ (if t then (if r then c else a) else (if p then b else a)))
+    [ true ↦ refl | false ↦ ap (λ (t : Bool). if t then b else a) e ] in
+    left
+    ∙ by_turns p q r a b c (λ (x : p ≡ true) (y : q ≡ true). passed a b c r refl (e ∙ x) (f ∙ y))
+    (λ (x : p ≡ false) (y : q ≡ false). strict.passes c b a (f ∙ y) (e ∙ x))
+    ∙ sym right
+
+pub earlier_assoc : (a b c : Fault) → earlier_of (earlier_of a b) c ≡ earlier_of a (earlier_of b c)
+unfolding earlier_of
+earlier_assoc a b c = step (is_earlier b a) (is_earlier c b) a b c refl refl
+
+earliest_from : (f g : Fault) (gs : List Fault) → earliest_of (earlier_of f g) gs ≡ earlier_of f (earliest_of g gs)
+earliest_from f g [] = refl
+earliest_from f g (h ∷ hs) = ap (λ (x : Fault). earliest_of x hs) (earlier_assoc f g h) ∙ earliest_from f (earlier_of g h) hs
+
+pub earliest_append : (f g : Fault) (fs gs : List Fault) → earliest_of f (fs ++ g ∷ gs) ≡ earlier_of (earliest_of f fs) (earliest_of g gs)
+earliest_append f g [] gs = earliest_from f g gs
+earliest_append f g (x ∷ xs) gs = earliest_append (earlier_of f x) g xs gs

@@ -18,7 +18,7 @@ use Rattle.mp_factor.specs.Kinds.{is_name, is_variable}
 use Rattle.mp_factor.specs.FactorParts.{DomainParts, ProblemParts}
 use Rattle.mp_factor.specs.Named.{IsTypedOf, IsSignatureOf, IsTermOf, IsAtomOf, IsLiteralOf, IsIncreaseOf, IsValueOf, IsSchemaOf, IsDomainOf, IsProblemOf, IsName, IsVariable, IsNameOrVariable, DomainIsNamed, ProblemIsNamed}
 use Rattle.mp_factor.specs.Taken.{typed_words, signature_words, term_word, atom_words, literal_words, increase_words, value_words, schema_words, words_of_domain, words_of_problem}
-use Rattle.mp_factor.proofs.TakenWords.{all_flat}
+use Rattle.mp_factor.proofs.FormLaws.{all_flat}
 
 -- of all the words of some forms, by what holds of each form
 all_words : {X : Type 0} (Says : Word → Type 0) (words : X → List Word) (Is : X → Type 0) → ((x : X) → Is x → All Says (words x)) → (xs : List X) → All Is xs

@@ -1,7 +1,7 @@
 -- The conjuncts of a condition or an effect (PDDL 2.1): what stands under `and`, however deep.
 use Rattle.std.specs.Prelude.{Bool, List, [], ◌∷◌, ◌++◌, if◌then◌else◌, codes}
 use Rattle.mp_sexp.specs.Node.{Node, Nodes, word, list, none, more}
-use Rattle.mp_factor.specs.Parts.{is_word, is_headed, parts, rest_of}
+use Rattle.mp_factor.specs.Parts.{is_word, is_headed}
 
 unfoldable mutual
   -- `()` has none, `(and C ..)` those of its members one after another, all else is its own one
@@ -23,11 +23,3 @@ is_negation node = is_headed (codes "not") node
 -- `(increase ..)`
 abbrev pub is_increase : Node → Bool
 is_increase node = is_headed (codes "increase") node
-
-abbrev pub first_or : Node → List Node → Node
-first_or other [] = other
-first_or other (n ∷ ns) = n
-
--- what stands behind `not`; where nothing does, the list itself, which is refused
-abbrev pub under_not : Node → Node
-under_not node = first_or node (rest_of (parts node))

@@ -1,11 +1,11 @@
 -- What stays where one section of a file is let go. No public clause cites this module.
 use Rattle.std.specs.Prelude.{◌≡◌, ℕ, false, List}
+use Rattle.std.specs.List.{filter}
 use Rattle.std.specs.Str.{bytes_eq}
 use Rattle.mp_sexp.specs.Node.{Node}
-use Rattle.mp_factor.specs.Faults.Files.{has_section}
-use Rattle.mp_factor.specs.Values.Files.{section_in}
+use Rattle.mp_factor.specs.Parts.{is_headed}
 
--- all sections but those of this word say what they said before
-pub record KeepsOthers (keyword : List ℕ) (before after : List Node) : Type 0 where
-  pub contents : (other : List ℕ) → bytes_eq keyword other ≡ false → section_in other after ≡ section_in other before
-  pub presence : (other : List ℕ) → bytes_eq keyword other ≡ false → has_section other after ≡ has_section other before
+-- all sections but those of this word are there as they were before
+abbrev pub KeepsOthers : List ℕ → List Node → List Node → Type 0
+KeepsOthers keyword before after =
+    (other : List ℕ) → bytes_eq keyword other ≡ false → filter (is_headed other) after ≡ filter (is_headed other) before

@@ -3,23 +3,24 @@ pub mod Words
 pub mod Kinds
 pub mod Numbers
 pub mod Parts
--- what a form is made of
 pub mod Conjuncts
-pub mod Keys
--- what is wrong in a tree
-pub mod Fault
+-- what a tree is read as
 pub mod Faults
--- what a tree says
-pub mod Values
-pub mod KeptSections
+pub mod Reading
+-- what files say, and what each form is read as
 pub mod FactorParts
 pub mod FactorFields
-pub mod FromFile
 pub mod Limits
--- what the calls answer
-pub mod OfFile
+pub mod Rules
+pub mod FromFile
 pub mod Shapes
 -- what a file says is written in it, and names are names
 pub mod Written
 pub mod Named
 pub mod Taken
+-- what code finds
+pub mod Found
+pub mod FoundForms
+pub mod FirstCosts
+pub mod KeptSections
+pub mod OfFile

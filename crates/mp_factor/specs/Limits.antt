@@ -8,9 +8,14 @@ use Rattle.mp_factor.specs.declared.effect_values.Increase.TheVariants.{Number, 
 use Rattle.mp_factor.specs.declared.init_values.Value.{Value}
 use Rattle.mp_factor.specs.declared.schema_values.Schema.{Schema}
 use Rattle.mp_factor.specs.Numbers.{greatest_cost}
-use Rattle.mp_factor.specs.Faults.Actions.{most_parameters}
-use Rattle.mp_factor.specs.Faults.Effects.{most_increases}
 use Rattle.mp_factor.specs.FactorParts.{DomainParts, ProblemParts}
+
+-- the most parameters and the most increases of an action
+abbrev pub most_parameters : ℕ
+most_parameters = 12
+
+abbrev pub most_increases : ℕ
+most_increases = 16
 
 abbrev pub IsAllowedIncrease : Increase → Type 0
 IsAllowedIncrease (Number cost) = cost ≤ greatest_cost

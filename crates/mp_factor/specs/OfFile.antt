@@ -1,11 +1,8 @@
 -- What is said of domains and of problems, by which of an agent's two files it is.
 use Rattle.std.specs.Prelude.{ℕ, List, codes}
-use Rattle.mp_sexp.specs.declared.tree.Place.{Place}
-use Rattle.mp_sexp.specs.Node.{Node}
-use Rattle.mp_factor.specs.Fault.{Fault}
 use Rattle.mp_factor.specs.declared.files.File.{File}
 use Rattle.mp_factor.specs.declared.files.File.TheVariants.{Domain, Problem}
-use Rattle.mp_factor.specs.Faults.Files.{domain_words, problem_words, domain_sections_faults, problem_sections_faults}
+use Rattle.mp_factor.specs.Rules.Sections.{domain_words, problem_words}
 
 -- the words that begin its sections, and those that begin the sections of the other file
 abbrev pub own_words : File → List (List ℕ)
@@ -19,7 +16,3 @@ other_words Problem = domain_words
 abbrev pub kind_word : File → List ℕ
 kind_word Domain = codes "domain"
 kind_word Problem = codes "problem"
-
-abbrev pub inside_faults : File → Place → List Node → List Fault
-inside_faults Domain whole sections = domain_sections_faults whole sections
-inside_faults Problem whole sections = problem_sections_faults whole sections

@@ -1,11 +1,11 @@
 -- What a refusal says of a tree that is no domain or problem.
-use Rattle.std.specs.Prelude.{◌≡◌, ◌⊎◌, List}
-use Rattle.mp_sexp.specs.Node.{Node}
-use Rattle.mp_factor.specs.Fault.{Fault}
+use Rattle.std.specs.Prelude.{◌≡◌, ◌⊎◌}
+use Rattle.mp_factor.specs.declared.fault.Fault.{Fault}
 use Rattle.mp_factor.specs.declared.fault.FaultKind.TheVariants as kinds
 use Rattle.mp_factor.specs.declared.refusal.ShapeRefusal.{ShapeRefusal}
 use Rattle.mp_factor.specs.declared.refusal.ShapeRefusal.TheVariants.{Shape, Unsupported, Parameters, Cost, OutOfMemory}
-use Rattle.mp_factor.specs.Faults.First.{IsFirst}
+use Rattle.mp_factor.specs.Faults.{IsFirst}
+use Rattle.mp_factor.specs.Reading.{Reading, faults_in}
 
 -- this refusal tells this fault; want of memory may always be told
 abbrev pub Says : Fault → ShapeRefusal → Type 0
@@ -23,7 +23,7 @@ IsMemory (Parameters place) = ⊥
 IsMemory (Cost place) = ⊥
 IsMemory OutOfMemory = Unit {0}
 
--- the refusal tells the first of the faults that a file has by this definition, or memory ran out
-abbrev pub Refuses : (Node → List Fault) → Node → ShapeRefusal → Type 0
-Refuses faults_of node refusal =
-    IsMemory refusal ⊎ ((fault : Fault) × IsFirst (faults_of node) fault × Says fault refusal)
+-- the refusal tells the first of all that is wrong by this reading, or memory ran out
+abbrev pub Refuses : {X : Type 0} → Reading X → ShapeRefusal → Type 0
+Refuses reading refusal =
+    IsMemory refusal ⊎ ((fault : Fault) × IsFirst (faults_in reading) fault × Says fault refusal)

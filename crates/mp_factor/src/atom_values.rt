@@ -2,10 +2,14 @@
 
 ghost use Rattle.std.specs.Prelude.{◌≡◌, IfOk};
 ghost use Rattle.mp_sexp.specs.Node.{node_of, nodes_in};
-ghost use Rattle.mp_factor.specs.Values.Atoms.{term_value, term_values, atom_value};
+ghost use Rattle.mp_factor.specs.Reading.{both, each};
+ghost use Rattle.mp_factor.specs.Found.{found_in, both_found, said_found};
+ghost use Rattle.mp_factor.specs.declared.atom_values.Term.TheVariants.{Object as ObjectOf};
+ghost use Rattle.mp_factor.specs.Rules.Atoms.{object_rule, term_rule, predicate_rule, applied, applied_rule, atom_rule};
 
-use crate::trees::{behind_first, is_variable, members};
-use crate::word::{Word, first_word_in, word_in};
+use crate::found::{Form, Found, pair, read_each, shape_fault, word_fault};
+use crate::trees::{is_fixed, is_variable, members, place};
+use crate::word::{NameForm, Word, word_in};
 use mp_list::{Copied, List, OutOfMemory};
 use mp_sexp::Tree;
 use std::alloc::Global;
@@ -55,39 +59,119 @@ impl Copied for Atom {
     }
 }
 
-/// A term.
-#[tactic(auto, unfolding(crate::specs::Values::Atoms::term_value))]
-fn term_in(alloc: Global, tree: &Tree) -> Result<Term, OutOfMemory>
-    ensures { IfOk result (λ term. term ≡ term_value (node_of tree.now)) }
+/// The object of this name.
+fn object(name: Found<Word>) -> Found<Term>
+    ensures { result ≡ said_found ObjectOf name }
 {
-    let word = word_in(alloc, tree)?;
-    if is_variable(tree) {
-        Ok(Term::Variable(word))
-    } else {
-        Ok(Term::Object(word))
+    match name {
+        Ok(word) => Ok(Term::Object(word)),
+        Err(fault) => Err(fault),
     }
 }
 
-/// Some terms.
-#[tactic(auto, using(crate::proofs::BuildSteps::append_steps), unfolding(crate::specs::Values::Atoms::term_values))]
-fn terms_in(alloc: Global, trees: &[Tree]) -> Result<TermList, OutOfMemory>
-    ensures { IfOk result (λ terms. terms ≡ term_values (nodes_in trees.now)) }
-{
-    let mut terms = List::with_capacity(alloc, trees.len())?;
-    for tree in trees {
-        terms.push(term_in(alloc, tree)?)?;
+/// The name of an object.
+#[derive(Clone, Copy)]
+pub struct ObjectForm;
+
+#[tactic(auto, using(crate::proofs::FoundLemmas::found_said))]
+impl Form<Term> for ObjectForm {
+    ghost rule = { λ form node. object_rule node };
+
+    fn read(&self, alloc: Global, tree: &Tree) -> Result<Found<Term>, OutOfMemory> {
+        Ok(object(NameForm.read(alloc, tree)?))
     }
-    Ok(terms)
 }
 
-/// `(NAME TERM ..)`.
-#[tactic(auto, unfolding(crate::specs::Values::Atoms::atom_value))]
-pub fn atom_in(alloc: Global, tree: &Tree) -> Result<Atom, OutOfMemory>
-    ensures { IfOk result (λ atom. atom ≡ atom_value (node_of tree.now)) }
+/// A variable or a name.
+#[derive(Clone, Copy)]
+pub struct TermForm;
+
+#[tactic(auto, unfolding(crate::specs::Rules::Atoms::term_rule))]
+impl Form<Term> for TermForm {
+    ghost rule = { λ form node. term_rule node };
+
+    fn read(&self, alloc: Global, tree: &Tree) -> Result<Found<Term>, OutOfMemory> {
+        if is_variable(tree) {
+            Ok(Ok(Term::Variable(word_in(alloc, tree)?)))
+        } else {
+            ObjectForm.read(alloc, tree)
+        }
+    }
+}
+
+/// The name of a predicate.
+#[derive(Clone, Copy)]
+pub struct PredicateForm;
+
+#[tactic(auto, unfolding(crate::specs::Rules::Atoms::predicate_rule))]
+impl Form<Word> for PredicateForm {
+    ghost rule = { λ form node. predicate_rule node };
+
+    fn read(&self, alloc: Global, tree: &Tree) -> Result<Found<Word>, OutOfMemory> {
+        if is_fixed(tree) {
+            word_fault(alloc, tree)
+        } else {
+            NameForm.read(alloc, tree)
+        }
+    }
+}
+
+/// This name applied to these terms.
+fn atom_of(word: Found<Word>, terms: Found<TermList>) -> Found<Atom>
+    ensures { result ≡ both_found applied word terms }
 {
-    let trees = members(tree);
-    Ok(Atom {
-        word: first_word_in(alloc, trees)?,
-        terms: terms_in(alloc, behind_first(trees))?,
-    })
+    match pair(word, terms) {
+        Ok((word, terms)) => Ok(Atom { word, terms }),
+        Err(fault) => Err(fault),
+    }
+}
+
+/// A name applied to terms, of these forms. Refuses only for want of memory.
+#[tactic(auto, using(crate::proofs::FoundLemmas::found_both))]
+fn read_members<N: Form<Word>, T: Form<Term>>(
+    alloc: Global,
+    forms: &Applied<N, T>,
+    head: &Tree,
+    terms: &[Tree],
+) -> Result<Found<Atom>, OutOfMemory>
+    ensures { IfOk result (λ found. found ≡ found_in (both applied
+        (N.rule forms.now.name (node_of head.now)) (each (T.rule forms.now.term) (nodes_in terms.now)))) }
+{
+    let word = forms.name.read(alloc, head)?;
+    Ok(atom_of(word, read_each(alloc, &forms.term, terms)?))
+}
+
+/// A name of a form applied to terms of a form.
+#[derive(Clone, Copy)]
+pub struct Applied<N, T> {
+    pub name: N,
+    pub term: T,
+}
+
+#[tactic(auto, unfolding(crate::specs::Rules::Atoms::applied_rule))]
+impl<N: Form<Word>, T: Form<Term>> Form<Atom> for Applied<N, T> {
+    ghost rule = { λ forms node. applied_rule (N.rule forms.name) (T.rule forms.term) node };
+
+    fn read(&self, alloc: Global, tree: &Tree) -> Result<Found<Atom>, OutOfMemory> {
+        match members(tree) {
+            [] => Ok(shape_fault(alloc, place(tree))),
+            [head, terms @ ..] => read_members(alloc, self, head, terms),
+        }
+    }
+}
+
+/// An atom.
+#[derive(Clone, Copy)]
+pub struct AtomForm;
+
+impl Form<Atom> for AtomForm {
+    ghost rule = { λ form node. atom_rule node };
+
+    fn read(&self, alloc: Global, tree: &Tree) -> Result<Found<Atom>, OutOfMemory> {
+        let forms = Applied {
+            name: PredicateForm,
+            term: TermForm,
+        };
+        forms.read(alloc, tree)
+    }
 }

@@ -1,14 +1,14 @@
 //! What is wrong in a tree, and which of two faults comes first.
 
-ghost use Rattle.std.specs.Bool.{OnTrue};
-ghost use Rattle.std.specs.Prelude.{◌≡◌, ◌∷◌, [], option_map, unwrap_or};
+ghost use Rattle.std.specs.Prelude.{◌≡◌, ◌∷◌, [], IfOk};
 ghost use Rattle.mp_sexp.specs.Node.{node_of};
-ghost use Rattle.mp_factor.specs.Parts.{word_of};
-ghost use Rattle.mp_factor.specs.Faults.{rank_of, is_earlier, leftmost, fault_at, unsupported, unsupported_fault};
+ghost use Rattle.mp_factor.specs.Faults.{rank_of, is_earlier, fault_at, unsupported_fault};
+ghost use Rattle.mp_factor.specs.Found.{earlier_of};
 
 use crate::trees::place;
+use mp_list::{Copied, OutOfMemory};
 use mp_sexp::{Name, Place, Tree};
-use std::marker::Model;
+use std::alloc::Global;
 
 /// What is wrong with a word or list.
 #[derive(Clone, Copy, Debug, PartialEq, Eq)]
@@ -23,27 +23,13 @@ pub enum FaultKind {
     Cost,
 }
 
-/// Something that is wrong, the place of the word or list, and the word where it is not supported. Contracts see the
-/// word as its bytes.
+/// Something that is wrong, the place of the word or list, and the word where it is not supported.
 #[derive(Drop)]
-pub struct Fault<'t> {
+pub struct Fault {
     pub place: Place,
     pub kind: FaultKind,
     /// The word that is not supported; a fault of another kind has none.
-    pub word: Option<&'t Name>,
-}
-
-impl<'t> Model for Fault<'t> {
-    ghost use Rattle.std.specs.Prelude.{[], option_map, unwrap_or};
-    ghost use Rattle.mp_factor.specs.Fault.{Fault};
-
-    ghost Value = { Fault };
-
-    ghost view = { λ f. record {
-      place = f.place;
-      kind = f.kind;
-      word = unwrap_or (option_map (λ name. name.now) f.word) [];
-    } };
+    pub word: Name,
 }
 
 /// Which fault at one place is answered: the lowest.
@@ -59,103 +45,61 @@ fn rank(kind: FaultKind) -> u32
 }
 
 /// The numbers by which faults come one after another.
-fn order(fault: &Fault<'_>) -> [u32; 3]
+fn order(fault: &Fault) -> [u32; 3]
     ensures { result ≡ fault.now.place.line ∷ fault.now.place.column
         ∷ rank_of fault.now.kind ∷ [] }
 {
     [fault.place.line, fault.place.column, rank(fault.kind)]
 }
 
-/// The bytes of the word of a fault; those of none are none.
-fn word_bytes<'t>(fault: &Fault<'t>) -> &'t [u8]
-    ensures { result.now ≡ fault.now.word }
-{
-    match fault.word {
-        Some(name) => name.as_slice(),
-        None => b"",
-    }
-}
-
 /// Whether a fault comes before another: by the numbers, and by the word where they are the same.
-fn is_before(a: &Fault<'_>, b: &Fault<'_>) -> bool
+fn is_before(a: &Fault, b: &Fault) -> bool
     ensures { result ≡ is_earlier a.now b.now }
 {
     order(a)
         .cmp(&order(b))
-        .then(word_bytes(a).cmp(word_bytes(b)))
+        .then(a.word.as_slice().cmp(b.word.as_slice()))
         .is_lt()
 }
 
-/// The first fault, when this one is found too.
-fn earliest<'t>(least: Option<Fault<'t>>, fault: Fault<'t>) -> Option<Fault<'t>>
-    ensures { result ≡ leftmost least.entry (fault.entry ∷ []) }
+/// The earlier of two faults.
+#[tactic(auto, unfolding(crate::specs::Found::earlier_of))]
+pub fn earlier(known: Fault, fault: Fault) -> Fault
+    ensures { result ≡ earlier_of known fault }
 {
-    match least {
-        Some(other) => {
-            if is_before(&fault, &other) {
-                Some(fault)
-            } else {
-                Some(other)
-            }
-        }
-        None => Some(fault),
+    if is_before(&fault, &known) {
+        fault
+    } else {
+        known
     }
 }
 
 /// A fault of a kind that tells no word.
-fn without_word<'t>(place: Place, kind: FaultKind) -> Fault<'t>
+pub fn without_word(alloc: Global, place: Place, kind: FaultKind) -> Fault
     ensures { result ≡ fault_at place kind }
 {
     Fault {
         place,
         kind,
-        word: None,
+        word: Name::new(alloc),
     }
 }
 
-/// The name that a tree is; a list is none.
-fn name_in(tree: &Tree) -> Option<&Name>
-    ensures { unwrap_or (option_map (λ name. name.now) result) [] ≡ word_of (node_of tree.now) }
+/// The fault of a word that is not supported. Refuses only for want of memory.
+pub fn of_word(alloc: Global, tree: &Tree) -> Result<Fault, OutOfMemory>
+    ensures { IfOk result (λ fault. fault ≡ unsupported_fault (node_of tree.now)) }
 {
+    let place = place(tree);
     match tree {
-        Tree::Word(name, _) => Some(name),
-        Tree::List(_, _) => None,
-    }
-}
-
-/// The fault of a word that is not supported.
-fn of_word(tree: &Tree) -> Fault<'_>
-    ensures { result ≡ unsupported_fault (node_of tree.now) }
-{
-    Fault {
-        place: place(tree),
-        kind: FaultKind::Unsupported,
-        word: name_in(tree),
-    }
-}
-
-/// The first fault, when this one is found too, of a kind that tells no word.
-pub fn with<'t>(least: Option<Fault<'t>>, place: Place, kind: FaultKind) -> Option<Fault<'t>>
-    ensures { result ≡ leftmost least.entry (fault_at place kind ∷ []) }
-{
-    earliest(least, without_word(place, kind))
-}
-
-/// The first fault, when this word is found too, which is not supported.
-pub fn with_unsupported<'t>(least: Option<Fault<'t>>, tree: &'t Tree) -> Option<Fault<'t>>
-    ensures { result ≡ leftmost least.entry (unsupported (node_of tree.now)) }
-{
-    earliest(least, of_word(tree))
-}
-
-/// Whether a fault here would not be the first one: then nobody needs to know whether it is there. What is asked once
-/// for each member of a long list, at the cost of a look at all members before it, is so asked only as far as the first
-/// answer that is yes.
-pub fn is_behind(least: &Option<Fault<'_>>, place: Place, kind: FaultKind) -> bool
-    ensures { OnTrue result (leftmost least.now (fault_at place kind ∷ []) ≡ least.now) }
-{
-    match least {
-        Some(other) => !is_before(&without_word(place, kind), other),
-        None => false,
+        Tree::Word(name, _) => Ok(Fault {
+            place,
+            kind: FaultKind::Unsupported,
+            word: name.copy()?,
+        }),
+        Tree::List(_, _) => Ok(Fault {
+            place,
+            kind: FaultKind::Unsupported,
+            word: Name::new(alloc),
+        }),
     }
 }

@@ -1,24 +1,36 @@
 //! The keys of an action, each with its value.
 
-ghost use Rattle.std.specs.Prelude.{◌≡◌, ◌<◌, ◌≤◌, ◌∷◌, [], ⊤, take, drop, length, MatchOption};
+ghost use Rattle.std.specs.Prelude.{◌≡◌, ◌<◌, ◌∷◌, [], ⊤, length, map, MatchOption, IfOk};
 ghost use Rattle.mp_sexp.specs.Node.{node_of, nodes_in};
-ghost use Rattle.mp_factor.specs.Keys.{is_key as key_test, value_length as value_length_of, keys_of, value_of_key};
+ghost use Rattle.mp_factor.specs.Found.{found_in};
+ghost use Rattle.mp_factor.specs.Reading.{all_right};
+ghost use Rattle.mp_factor.specs.FoundForms.{key_nodes};
+ghost use Rattle.mp_factor.specs.Rules.Actions.{is_key, value_length, keys_of, is_cut_short as cut_short_test, key_rule};
 
-use crate::trees::is_word;
-use mp_sexp::Tree;
+use crate::found::{Found, second, shape_fault, word_fault};
+use crate::trees::{is_list, is_word, place, split};
+use mp_list::OutOfMemory;
+use mp_sexp::{Place, Tree};
+use std::alloc::Global;
 
-/// What stands in the place of a key, its value, and what stands behind both.
+/// What stands in the place of a key, and its value.
 #[derive(Clone, Copy)]
-pub struct FirstKey<'t> {
+pub struct Key<'t> {
     pub key: &'t Tree,
     pub value: &'t [Tree],
-    pub behind: &'t [Tree],
+}
+
+/// A key, and what stands behind its value.
+#[derive(Clone, Copy)]
+struct FirstKey<'t> {
+    key: Key<'t>,
+    behind: &'t [Tree],
 }
 
 /// Whether a tree is a word that is a key.
-#[tactic(auto, unfolding(crate::specs::Keys::is_key))]
-pub fn is_key(tree: &Tree) -> bool
-    ensures { result ≡ key_test (node_of tree.now) }
+#[tactic(auto, unfolding(crate::specs::Rules::Actions::is_key))]
+fn names_key(tree: &Tree) -> bool
+    ensures { result ≡ is_key (node_of tree.now) }
 {
     is_word(tree, b":agent")
         || is_word(tree, b":parameters")
@@ -27,55 +39,81 @@ pub fn is_key(tree: &Tree) -> bool
 }
 
 /// How many members the value of a key has.
-#[tactic(auto, unfolding(crate::specs::Keys::value_length))]
-fn value_length(tree: &Tree) -> usize
-    ensures { result ≡ value_length_of (node_of tree.now) }
+#[tactic(auto, unfolding(crate::specs::Rules::Actions::value_length))]
+fn value_len(tree: &Tree) -> usize
+    ensures { result ≡ value_length (node_of tree.now) }
 {
     if is_word(tree, b":agent") {
         3
-    } else if is_key(tree) {
+    } else if names_key(tree) {
         1
     } else {
         0
     }
 }
 
-/// The first so many of some trees and the others, or all where there are fewer.
-fn split(trees: &[Tree], count: usize) -> (&[Tree], &[Tree])
-    ensures front { nodes_in result.0.now ≡ take count (nodes_in trees.now) }
-    ensures back { nodes_in result.1.now ≡ drop count (nodes_in trees.now) }
-    ensures fewer { length result.1.now ≤ length trees.now }
-{
-    trees.split_at(count.min(trees.len()))
-}
-
 /// The first key of these members of an action, where there is one.
-pub fn first_key(trees: &[Tree]) -> Option<FirstKey<'_>>
+fn first_key(trees: &[Tree]) -> Option<FirstKey<'_>>
     ensures key { MatchOption result (nodes_in trees.now ≡ [])
-        (λ k. keys_of (nodes_in trees.now)
-        ≡ record { key = node_of k.key.now; value = nodes_in k.value.now } ∷ keys_of (nodes_in k.behind.now)) }
+        (λ k. keys_of (nodes_in trees.now) ≡ key_nodes k.key ∷ keys_of (nodes_in k.behind.now)) }
     ensures fewer { MatchOption result ⊤ (λ k. length k.behind.now < length trees.now) }
 {
     match trees {
         [] => None,
         [key, others @ ..] => {
-            let (value, behind) = split(others, value_length(key));
-            Some(FirstKey { key, value, behind })
+            let (value, behind) = split(others, value_len(key));
+            Some(FirstKey {
+                key: Key { key, value },
+                behind,
+            })
         }
     }
 }
 
-/// The value of the first key that is this word.
-#[tactic(auto, unfolding(crate::specs::Keys::value_of_key))]
-pub fn value_in<'t>(trees: &'t [Tree], keyword: &[u8]) -> &'t [Tree]
-    ensures { nodes_in result.now ≡ value_of_key keyword.now (keys_of (nodes_in trees.now)) }
+/// The keys of an action, whose members behind its name these are. Refuses only for want of memory.
+pub fn keys_in(alloc: Global, trees: &[Tree]) -> Result<Vec<Key<'_>>, OutOfMemory>
+    ensures { IfOk result (λ keys. map key_nodes keys.items ≡ keys_of (nodes_in trees.now)) }
 {
+    let mut keys = Vec::new(alloc);
     let mut rest = trees;
-    while let Some(k) = first_key(rest) {
-        if is_word(k.key, keyword) {
-            return k.value;
-        }
-        rest = k.behind;
+    while let Some(first) = first_key(rest) {
+        keys.push(first.key)?;
+        rest = first.behind;
     }
-    &[]
+    Ok(keys)
+}
+
+/// Whether a value lacks some of its members.
+fn is_cut_short(key: Key<'_>) -> bool
+    ensures { result ≡ cut_short_test (key_nodes key.entry) }
+{
+    key.value.len() < value_len(key.key)
+}
+
+/// Whether a word that is a key stands in its place and has its value, in the action at this place. Refuses only for
+/// want of memory.
+#[tactic(auto, unfolding(crate::specs::Rules::Actions::key_rule))]
+fn check_key(alloc: Global, whole: Place, key: Key<'_>) -> Result<Found<()>, OutOfMemory>
+    ensures { IfOk result (λ found. found ≡ found_in (key_rule whole (key_nodes key.entry))) }
+{
+    if is_list(key.key) {
+        Ok(shape_fault(alloc, place(key.key)))
+    } else if !names_key(key.key) {
+        word_fault(alloc, key.key)
+    } else if is_cut_short(key) {
+        Ok(shape_fault(alloc, whole))
+    } else {
+        Ok(Ok(()))
+    }
+}
+
+/// Whether all keys of the action at this place are keys with their values. Refuses only for want of memory.
+pub fn check_keys(alloc: Global, whole: Place, keys: &[Key<'_>]) -> Result<Found<()>, OutOfMemory>
+    ensures { IfOk result (λ found. found ≡ found_in (all_right (key_rule whole) (map key_nodes keys.now))) }
+{
+    let mut so_far = Ok(());
+    for key in keys {
+        so_far = second(so_far, check_key(alloc, whole, *key)?);
+    }
+    Ok(so_far)
 }

@@ -1,11 +1,11 @@
 //! Laws of first faults, and of values and the files that they are taken from.
 
-ghost use Rattle.std.specs.Prelude.{◌≡◌, List, [], All};
+ghost use Rattle.std.specs.Prelude.{◌≡◌, List, All};
 ghost use Rattle.mp_sexp.specs.Node.{Node};
-ghost use Rattle.mp_factor.specs.Fault.{Fault as FaultOf};
-ghost use Rattle.mp_factor.specs.Faults.First.{IsFirst};
-ghost use Rattle.mp_factor.specs.Faults.Files.{domain_faults, problem_faults};
-ghost use Rattle.mp_factor.specs.Values.Files.{domain_value, problem_value};
+ghost use Rattle.mp_factor.specs.declared.fault.Fault.{Fault as FaultOf};
+ghost use Rattle.mp_factor.specs.Faults.{IsFirst};
+ghost use Rattle.mp_factor.specs.Reading.{Says};
+ghost use Rattle.mp_factor.specs.Rules.Files.{domain_rule, problem_rule};
 ghost use Rattle.mp_factor.specs.FactorParts.{DomainParts, ProblemParts};
 ghost use Rattle.mp_factor.specs.Named.{IsNameOrVariable, DomainIsNamed, ProblemIsNamed};
 ghost use Rattle.mp_factor.specs.Taken.{words_of_domain, words_of_problem, DomainIsTaken, ProblemIsTaken};
@@ -15,11 +15,11 @@ pub fn first_fault_is_one()
     ensures { (faults : List FaultOf) (a b : FaultOf) → IsFirst faults a → IsFirst faults b → a ≡ b }
 {}
 
-/// Nothing is made up: each word of a file's value, with its place, and each of its costs is written in
-/// the file, where the file has no fault. Its names are names then, and its variables are variables.
+/// Nothing is made up: each word of what a file says, with its place, and each of its costs is written in
+/// the file. Its names are names then, and its variables are variables.
 pub fn values_are_taken_from_the_file()
-    ensures domains { (node : Node) → domain_faults node ≡ [] → DomainIsTaken node (domain_value node) }
-    ensures problems { (node : Node) → problem_faults node ≡ [] → ProblemIsTaken node (problem_value node) }
+    ensures domains { (node : Node) (domain : DomainParts) → domain_rule node ≡ Says domain → DomainIsTaken node domain }
+    ensures problems { (node : Node) (problem : ProblemParts) → problem_rule node ≡ Says problem → ProblemIsTaken node problem }
 {}
 
 /// Where names are names and variables are variables, each word is a name or a variable.

@@ -1,22 +1,22 @@
 //! A problem that is read from a tree of which nobody has more need: its list of objects is let go before its facts
 //! are read, so that a large file takes less memory.
 
-ghost use Rattle.std.specs.Prelude.{◌≡◌, [], IfOk, IfErr};
+ghost use Rattle.std.specs.Prelude.{◌≡◌, [], codes, IfOk, IfErr};
 ghost use Rattle.mp_sexp.specs.Node.{node_of, nodes_in};
-ghost use Rattle.mp_factor.specs.Parts.{parts, rest_of};
-ghost use Rattle.mp_factor.specs.Faults.Files.{problem_faults};
-ghost use Rattle.mp_factor.specs.FromFile.{IsProblemOfFile};
+ghost use Rattle.mp_factor.specs.Parts.{parts};
+ghost use Rattle.mp_factor.specs.Reading.{Says, besides, keyword};
+ghost use Rattle.mp_factor.specs.Found.{found_in, said_found};
+ghost use Rattle.mp_factor.specs.FoundForms.{problem_from};
 ghost use Rattle.mp_factor.specs.KeptSections.{KeepsOthers};
+ghost use Rattle.mp_factor.specs.Rules.Files.{problem_sections, title_rule, define_members, problem_rule};
 ghost use Rattle.mp_factor.specs.Shapes.{Refuses};
-ghost use Rattle.mp_factor.specs.Values.Files.{problem_of_sections as said_by_sections, problem_parts, problem_value};
 
 use crate::factor::Problem;
-use crate::files::problem_fault;
+use crate::files::{File, read_title};
+use crate::found::{Found, expect, second, shape_fault};
 use crate::refusal::{ShapeRefusal, refusal_of};
-use crate::shape::{problem_with, section_in, title_in};
-use crate::trees::is_headed;
-use crate::typed_values::objects_in;
-use crate::word::Word;
+use crate::shape::{ReadProblem, check_file, problem_with, read_behind_objects, read_objects};
+use crate::trees::{is_headed, place};
 use mp_list::OutOfMemory;
 use mp_sexp::{Place, Tree, TreeList};
 use std::alloc::Global;
@@ -28,16 +28,6 @@ fn into_members(alloc: Global, tree: Tree) -> Vec<Tree>
     match tree {
         Tree::Word(_, _) => Vec::new(alloc),
         Tree::List(list, _) => list.items,
-    }
-}
-
-/// The members behind the first one.
-fn behind_first_mut(trees: &mut [Tree]) -> &mut [Tree]
-    ensures { nodes_in result.now ≡ rest_of (nodes_in trees.old) }
-{
-    match trees {
-        [] => &mut [],
-        [_, rest @ ..] => rest,
     }
 }
 
@@ -60,40 +50,52 @@ fn let_go(alloc: Global, sections: &mut [Tree], keyword: &[u8])
     }
 }
 
-/// The problem of this title and these sections. Of them the list of objects is gone once it is read.
-fn problem_of_sections(
+/// What a problem of this title says, part by part. Of its sections the list of objects is gone once it is read. Refuses
+/// only for want of memory.
+fn read_and_let_go(
     alloc: Global,
-    title: Word,
+    whole: Place,
+    head: &Tree,
+    title: &Tree,
     sections: &mut [Tree],
-) -> Result<Problem, OutOfMemory>
-    requires { IsProblemOfFile (said_by_sections title (nodes_in sections.old)) }
-    ensures { IfOk result (λ problem. problem ≡ said_by_sections title (nodes_in sections.old)) }
+) -> Result<Found<ReadProblem>, OutOfMemory>
+    ensures { IfOk result (λ found. said_found problem_from found ≡ found_in (besides (keyword (codes "define") (node_of head.now))
+        (problem_sections whole (title_rule (codes "problem") (node_of title.now)) (nodes_in sections.old)))) }
 {
-    let objects = objects_in(alloc, section_in(sections, b":objects"))?;
+    let define = expect(alloc, b"define", head);
+    let right = check_file(alloc, File::Problem, sections)?;
+    let name = read_title(alloc, File::Problem, title)?;
+    let known = read_objects(alloc, whole, name, sections)?;
     let_go(alloc, sections, b":objects");
-    problem_with(alloc, title, objects, sections)
+    let parts = read_behind_objects(alloc, known, sections)?;
+    Ok(second(define, second(right, parts)))
 }
 
-/// The problem of these members behind the first word, which may be changed.
-fn problem_of(alloc: Global, behind: &mut [Tree]) -> Result<Problem, OutOfMemory>
-    requires { IsProblemOfFile (problem_parts (nodes_in behind.old)) }
-    ensures { IfOk result (λ problem. problem ≡ problem_parts (nodes_in behind.old)) }
+/// What the members of a problem's list say, which is at this place, part by part. Refuses only for want of memory.
+fn read_members(
+    alloc: Global,
+    whole: Place,
+    members: &mut [Tree],
+) -> Result<Found<ReadProblem>, OutOfMemory>
+    ensures { IfOk result (λ found. said_found problem_from found
+        ≡ found_in (define_members (codes "problem") problem_sections whole (nodes_in members.old))) }
 {
-    let title = title_in(alloc, behind)?;
-    problem_of_sections(alloc, title, behind_first_mut(behind))
+    match members {
+        [head, title, sections @ ..] => read_and_let_go(alloc, whole, head, title, sections),
+        _ => Ok(shape_fault(alloc, whole)),
+    }
 }
 
 /// What a problem's tree says, or why it is refused, as [`problem`](crate::problem) answers, for a tree of which nobody
 /// has more need.
-#[tactic(auto, unfolding(crate::specs::Values::Files::problem_value))]
 pub fn into_problem(alloc: Global, tree: Tree) -> Result<Problem, ShapeRefusal>
-    ensures shape { IfOk result (λ problem. problem_faults (node_of tree) ≡ []) }
-    ensures value { IfOk result (λ problem. problem ≡ problem_value (node_of tree)) }
-    ensures fault { IfErr result (Refuses problem_faults (node_of tree)) }
+    ensures said { IfOk result (λ problem. problem_rule (node_of tree) ≡ Says problem) }
+    ensures fault { IfErr result (Refuses (problem_rule (node_of tree))) }
 {
-    if let Some(fault) = problem_fault(alloc, &tree)? {
-        return Err(refusal_of(alloc, fault));
-    }
+    let whole = place(&tree);
     let mut members = into_members(alloc, tree);
-    Ok(problem_of(alloc, behind_first_mut(members.as_mut_slice()))?)
+    match read_members(alloc, whole, members.as_mut_slice())? {
+        Ok(parts) => Ok(problem_with(parts)),
+        Err(fault) => Err(refusal_of(fault)),
+    }
 }

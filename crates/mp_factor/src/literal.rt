@@ -1,13 +1,14 @@
-//! Literals, and those of conditions.
+//! Literals and conditions.
 
-ghost use Rattle.std.specs.Prelude.{◌≡◌, ◌++◌, IfOk, OnOk};
-ghost use Rattle.std.specs.List.{flat_map};
-ghost use Rattle.mp_sexp.specs.Node.{node_of, nodes_in};
-ghost use Rattle.mp_factor.specs.Conjuncts.{under_not as under_not_of};
-ghost use Rattle.mp_factor.specs.Values.Conditions.{literal_value, condition_values};
+ghost use Rattle.std.specs.Prelude.{◌≡◌, Bool, IfOk};
+ghost use Rattle.mp_sexp.specs.Node.{node_of};
+ghost use Rattle.mp_factor.specs.Found.{found_in, said_found};
+ghost use Rattle.mp_factor.specs.Rules.Conditions.{literal, negated_rule, literal_rule, condition_rule};
 
-use crate::atom_values::{Atom, atom_in};
-use crate::trees::{is_headed, is_word, members};
+use crate::atom_values::{Atom, AtomForm};
+use crate::conjuncts::{conjuncts_in, read_conjuncts};
+use crate::found::{Form, Found, read_alone};
+use crate::trees::{behind_first, is_headed, members, place};
 use mp_list::{Copied, List, OutOfMemory};
 use mp_sexp::Tree;
 use std::alloc::Global;
@@ -32,62 +33,56 @@ impl Copied for Literal {
     }
 }
 
-/// What stands behind `not`; where nothing does, the tree itself.
-pub fn under_not(tree: &Tree) -> &Tree
-    ensures { node_of result.now ≡ under_not_of (node_of tree.now) }
+/// `(not ATOM)`.
+#[derive(Clone, Copy)]
+pub struct NegatedForm;
+
+#[tactic(auto, unfolding(crate::specs::Rules::Conditions::negated_rule))]
+impl Form<Atom> for NegatedForm {
+    ghost rule = { λ form node. negated_rule node };
+
+    fn read(&self, alloc: Global, tree: &Tree) -> Result<Found<Atom>, OutOfMemory> {
+        read_alone(alloc, &AtomForm, place(tree), behind_first(members(tree)))
+    }
+}
+
+/// This atom or its negation.
+fn literal_of(positive: bool, atom: Found<Atom>) -> Found<Literal>
+    ensures { result ≡ said_found (literal positive) atom }
 {
-    match members(tree) {
-        [_, atom, ..] => atom,
-        _ => tree,
+    match atom {
+        Ok(atom) => Ok(Literal { positive, atom }),
+        Err(fault) => Err(fault),
     }
 }
 
 /// An atom or `(not ATOM)`.
-#[tactic(auto, unfolding(crate::specs::Values::Conditions::literal_value))]
-fn literal_in(alloc: Global, tree: &Tree) -> Result<Literal, OutOfMemory>
-    ensures { IfOk result (λ literal. literal ≡ literal_value (node_of tree.now)) }
-{
-    if is_headed(tree, b"not") {
-        Ok(Literal {
-            positive: false,
-            atom: atom_in(alloc, under_not(tree))?,
-        })
-    } else {
-        Ok(Literal {
-            positive: true,
-            atom: atom_in(alloc, tree)?,
-        })
+#[derive(Clone, Copy)]
+pub struct LiteralForm;
+
+#[tactic(auto, using(crate::proofs::FoundLemmas::found_said), unfolding(crate::specs::Rules::Conditions::literal_rule))]
+impl Form<Literal> for LiteralForm {
+    ghost rule = { λ form node. literal_rule node };
+
+    fn read(&self, alloc: Global, tree: &Tree) -> Result<Found<Literal>, OutOfMemory> {
+        if is_headed(tree, b"not") {
+            Ok(literal_of(false, NegatedForm.read(alloc, tree)?))
+        } else {
+            Ok(literal_of(true, AtomForm.read(alloc, tree)?))
+        }
     }
 }
 
-/// Adds the literals of a condition.
-#[cycle(condition)]
-pub fn add_condition(alloc: Global, out: &mut LiteralList, tree: &Tree) -> Result<(), OutOfMemory>
-    ensures { OnOk result (out.new ≡ out.old ++ condition_values (node_of tree.now)) }
-{
-    match tree {
-        Tree::Word(_, _) => out.push(literal_in(alloc, tree)?),
-        Tree::List(list, _) => match list.items.as_slice() {
-            [] => Ok(()),
-            [head, rest @ ..] => {
-                if is_word(head, b"and") {
-                    add_conditions(alloc, out, rest)
-                } else {
-                    out.push(literal_in(alloc, tree)?)
-                }
-            }
-        },
-    }
-}
+/// A condition.
+#[derive(Clone, Copy)]
+pub struct ConditionForm;
 
-/// Adds the literals of some conditions.
-#[tactic(auto, using(crate::proofs::BuildSteps::append_steps))]
-#[cycle(condition)]
-fn add_conditions(alloc: Global, out: &mut LiteralList, trees: &[Tree]) -> Result<(), OutOfMemory>
-    ensures { OnOk result (out.new ≡ out.old ++ flat_map condition_values (nodes_in trees.now)) }
-{
-    for tree in trees {
-        add_condition(alloc, out, tree)?;
+#[tactic(auto, unfolding(crate::specs::Rules::Conditions::condition_rule))]
+impl Form<LiteralList> for ConditionForm {
+    ghost rule = { λ form node. condition_rule node };
+
+    fn read(&self, alloc: Global, tree: &Tree) -> Result<Found<LiteralList>, OutOfMemory> {
+        let conjuncts = conjuncts_in(alloc, tree)?;
+        read_conjuncts(alloc, &LiteralForm, conjuncts.as_slice())
     }
-    Ok(())
 }

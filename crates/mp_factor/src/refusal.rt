@@ -1,12 +1,10 @@
 //! Why a tree is no domain or problem.
 
-ghost use Rattle.std.specs.Prelude.{◌≡◌, IfOk};
 ghost use Rattle.mp_factor.specs.Shapes.{Says};
 
 use crate::fault::{Fault, FaultKind};
-use mp_list::{Copied, OutOfMemory};
+use mp_list::OutOfMemory;
 use mp_sexp::{Name, Place};
-use std::alloc::Global;
 use thiserror::Error;
 
 /// The first fault of a domain's or problem's tree, or want of memory.
@@ -41,27 +39,15 @@ impl From<OutOfMemory> for ShapeRefusal {
     }
 }
 
-/// A copy of the word of a fault; that of none is empty. Refuses only for want of memory.
-fn word_copy(alloc: Global, fault: &Fault<'_>) -> Result<Name, OutOfMemory>
-    ensures { IfOk result (λ name. name ≡ fault.now.word) }
-{
-    match fault.word {
-        Some(name) => name.copy(),
-        None => Ok(Name::new(alloc)),
-    }
-}
-
 /// The refusal of a tree with this fault.
-pub fn refusal_of(alloc: Global, fault: Fault<'_>) -> ShapeRefusal
-    ensures { Says fault.entry result }
+pub fn refusal_of(fault: Fault) -> ShapeRefusal
+    ensures { Says fault result }
 {
-    match fault.kind {
-        FaultKind::Shape => ShapeRefusal::Shape(fault.place),
-        FaultKind::Unsupported => match word_copy(alloc, &fault) {
-            Ok(word) => ShapeRefusal::Unsupported(word, fault.place),
-            Err(_) => ShapeRefusal::OutOfMemory,
-        },
-        FaultKind::Parameters => ShapeRefusal::Parameters(fault.place),
-        FaultKind::Cost => ShapeRefusal::Cost(fault.place),
+    let Fault { place, kind, word } = fault;
+    match kind {
+        FaultKind::Shape => ShapeRefusal::Shape(place),
+        FaultKind::Unsupported => ShapeRefusal::Unsupported(word, place),
+        FaultKind::Parameters => ShapeRefusal::Parameters(place),
+        FaultKind::Cost => ShapeRefusal::Cost(place),
     }
 }

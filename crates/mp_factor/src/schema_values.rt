@@ -1,22 +1,31 @@
-//! What an action says.
+//! Actions.
 
-ghost use Rattle.std.specs.Prelude.{◌≡◌, ◌++◌, IfOk, OnOk};
-ghost use Rattle.mp_sexp.specs.Node.{nodes_in};
-ghost use Rattle.mp_factor.specs.Keys.{keys_of, from_first};
-ghost use Rattle.mp_factor.specs.Values.Schemas.{agent_values, parameters_of, parameter_values, schema_value};
-ghost use Rattle.mp_factor.specs.Values.Typed.{type_words};
-ghost use Rattle.mp_factor.specs.Values.Conditions.{condition_values};
-ghost use Rattle.mp_factor.specs.Values.Effects.{adds, deletes, increases};
+ghost use Rattle.std.specs.Prelude.{◌≡◌, ◌++◌, ◌∷◌, [], false, List, codes, map, take, option_map, IfOk};
+ghost use Rattle.std.specs.List.{find, flat_map};
+ghost use Rattle.mp_sexp.specs.Node.{Node, node_of, nodes_in};
+ghost use Rattle.mp_factor.specs.Parts.{place_of, is_word as word_test, is_variable_word};
+ghost use Rattle.mp_factor.specs.Limits.{most_parameters};
+ghost use Rattle.mp_factor.specs.Reading.{both, besides, keyword, wanted, at_most, all_right, misshapen};
+ghost use Rattle.mp_factor.specs.Found.{found_in, both_found, second_found, said_found};
+ghost use Rattle.mp_factor.specs.FoundForms.{key_nodes, schema_from};
+ghost use Rattle.mp_factor.specs.Rules.Words.{variable_rule};
+ghost use Rattle.mp_factor.specs.Rules.Typed.{type_rule, typed_of};
+ghost use Rattle.mp_factor.specs.Rules.Actions.{keys_of, in_key, key_rule, agent_rule, parameters_rule, parameter_members, surplus_parameter, first_parts, keys_rule, by_keys, action_rule};
+ghost use Rattle.mp_factor.specs.Rules.Conditions.{condition_rule};
+ghost use Rattle.mp_factor.specs.Rules.Effects.{effect_rule, no_effect};
 
 use crate::atom_values::AtomList;
-use crate::effect_values::{Effect, IncreaseList, add_effect};
-use crate::keys::value_in;
-use crate::literal::{LiteralList, add_condition};
-use crate::trees::{behind_first, members};
-use crate::typed_values::{Typed, TypedList, add_typed, words_of_type};
-use crate::word::{Word, WordList, first_word_in, word_in};
-use mp_list::{Copied, List, OutOfMemory, SmallList};
-use mp_sexp::Tree;
+use crate::counted::{Room, counted};
+use crate::effect_values::{Effect, EffectForm, IncreaseList};
+use crate::fault::FaultKind;
+use crate::found::{Form, Found, expect, pair, read_wanted, second, shape_fault};
+use crate::keys::{Key, check_keys, keys_in};
+use crate::literal::{ConditionForm, LiteralList};
+use crate::trees::{behind_first, is_list, is_variable, is_word, members, place};
+use crate::typed_values::{TypeForm, Typed, TypedList, VARIABLES, append, read_typed};
+use crate::word::{NameForm, VariableForm, Word, WordList};
+use mp_list::{Copied, List, OutOfMemory};
+use mp_sexp::{Place, Tree};
 use std::alloc::Global;
 
 /// An action with variables for its parameters.
@@ -63,99 +72,338 @@ impl Copied for Schema {
     }
 }
 
-/// The words of the type that comes first.
-fn first_type_in(alloc: Global, trees: &[Tree]) -> Result<WordList, OutOfMemory>
-    ensures { IfOk result (λ types. types ≡ from_first type_words (nodes_in trees.now)) }
+/// The most parameters of an action.
+const MOST_PARAMETERS: u64 = 12;
+
+/// The keys of an action, whose list is at a place.
+#[derive(Clone, Copy)]
+struct Action<'t> {
+    whole: Place,
+    keys: &'t [Key<'t>],
+}
+
+/// A variable and its types, as `:agent` declares them.
+fn agent_of(
+    alloc: Global,
+    variable: Found<Word>,
+    types: Found<WordList>,
+) -> Result<Found<TypedList>, OutOfMemory>
+    ensures { IfOk result (λ found. found
+        ≡ both_found (λ word types. typed_of false word types ∷ []) variable types) }
 {
-    match trees {
-        [] => Ok(SmallList::new(alloc)),
-        [tree, ..] => words_of_type(alloc, Some(tree)),
+    match pair(variable, types) {
+        Ok((word, types)) => {
+            let mut agent = List::new(alloc);
+            agent.push(Typed {
+                word,
+                types,
+                private: false,
+            })?;
+            Ok(Ok(agent))
+        }
+        Err(fault) => Ok(Err(fault)),
     }
 }
 
-/// Adds the agent as a parameter, where there is one.
-#[tactic(auto, unfolding(crate::specs::Values::Schemas::agent_values))]
-fn add_agent(alloc: Global, out: &mut TypedList, value: &[Tree]) -> Result<(), OutOfMemory>
-    ensures { OnOk result (out.new ≡ out.old ++ agent_values (nodes_in value.now)) }
+/// A variable, `-` and a type. Refuses only for want of memory.
+#[tactic(auto, using(crate::proofs::FoundLemmas::found_both))]
+fn agent_by(
+    alloc: Global,
+    variable: &Tree,
+    dash: &Tree,
+    agent_type: &Tree,
+) -> Result<Found<TypedList>, OutOfMemory>
+    ensures { IfOk result (λ found. found ≡ found_in (besides (keyword (codes "-") (node_of dash.now))
+        (both (λ word types. typed_of false word types ∷ [])
+        (variable_rule (node_of variable.now)) (type_rule (node_of agent_type.now))))) }
+{
+    let sign = expect(alloc, b"-", dash);
+    let word = VariableForm.read(alloc, variable)?;
+    let types = TypeForm.read(alloc, agent_type)?;
+    Ok(second(sign, agent_of(alloc, word, types)?))
+}
+
+/// What stands behind `:agent`. Refuses only for want of memory.
+#[tactic(auto, unfolding(crate::specs::Rules::Actions::agent_rule))]
+fn read_agent(alloc: Global, whole: Place, value: &[Tree]) -> Result<Found<TypedList>, OutOfMemory>
+    ensures { IfOk result (λ found. found ≡ found_in (agent_rule whole (nodes_in value.now))) }
 {
     match value {
-        [] => Ok(()),
-        [variable, typing @ ..] => out.push(Typed {
-            word: word_in(alloc, variable)?,
-            types: first_type_in(alloc, behind_first(typing))?,
-            private: false,
-        }),
+        [variable, dash, agent_type, ..] => agent_by(alloc, variable, dash, agent_type),
+        _ => Ok(shape_fault(alloc, whole)),
     }
 }
 
-/// Adds what the parameter list that comes first declares.
-fn add_parameters(alloc: Global, out: &mut TypedList, value: &[Tree]) -> Result<(), OutOfMemory>
-    ensures { OnOk result (out.new ≡ out.old ++ from_first parameters_of (nodes_in value.now)) }
-{
-    match value {
-        [] => Ok(()),
-        [tree, ..] => add_typed(alloc, out, false, members(tree)),
+/// A parameter list.
+#[derive(Clone, Copy)]
+struct ParametersForm;
+
+#[tactic(auto, unfolding(crate::specs::Rules::Actions::parameters_rule))]
+impl Form<TypedList> for ParametersForm {
+    ghost rule = { λ form node. parameters_rule node };
+
+    fn read(&self, alloc: Global, tree: &Tree) -> Result<Found<TypedList>, OutOfMemory> {
+        if is_list(tree) {
+            read_typed(alloc, &VARIABLES, place(tree), members(tree))
+        } else {
+            Ok(shape_fault(alloc, place(tree)))
+        }
     }
 }
 
-/// The parameters, the agent first.
-#[tactic(auto, unfolding(crate::specs::Values::Schemas::parameter_values))]
-fn parameters_in(alloc: Global, keys: &[Tree]) -> Result<TypedList, OutOfMemory>
-    ensures { IfOk result (λ params. params ≡ parameter_values (keys_of (nodes_in keys.now))) }
+/// The first key that is this word.
+fn first_named<'t>(keys: &[Key<'t>], keyword: &[u8]) -> Option<Key<'t>>
+    ensures { option_map key_nodes result ≡ find (λ k. word_test keyword.now k.key) (map key_nodes keys.now) }
 {
-    let mut params = List::new(alloc);
-    add_agent(alloc, &mut params, value_in(keys, b":agent"))?;
-    add_parameters(alloc, &mut params, value_in(keys, b":parameters"))?;
-    Ok(params)
-}
-
-/// The literals of the condition that comes first.
-fn precondition_in(alloc: Global, value: &[Tree]) -> Result<LiteralList, OutOfMemory>
-    ensures { IfOk result (λ pre. pre ≡ from_first condition_values (nodes_in value.now)) }
-{
-    let mut pre = List::new(alloc);
-    match value {
-        [] => {}
-        [tree, ..] => add_condition(alloc, &mut pre, tree)?,
+    for key in keys {
+        if is_word(key.key, keyword) {
+            return Some(*key);
+        }
     }
-    Ok(pre)
+    None
 }
 
-/// What the effect that comes first says.
-fn effect_in(alloc: Global, value: &[Tree]) -> Result<Effect, OutOfMemory>
-    ensures add { IfOk result (λ effect. effect.add ≡ from_first adds (nodes_in value.now)) }
-    ensures del { IfOk result (λ effect. effect.del ≡ from_first deletes (nodes_in value.now)) }
-    ensures increases { IfOk result (λ effect. effect.increases ≡ from_first increases (nodes_in value.now)) }
+/// Whether at most one key is this word.
+fn check_single(alloc: Global, keys: &[Key<'_>], keyword: &[u8]) -> Found<()>
+    ensures { result ≡ found_in (at_most 1 (λ k. word_test keyword.now k.key) (λ k. misshapen (place_of k.key))
+        (map key_nodes keys.now)) }
 {
-    let mut effect = Effect {
-        add: List::new(alloc),
-        del: List::new(alloc),
-        increases: List::new(alloc),
+    let mut room = Room {
+        found: Ok(()),
+        left: 1,
     };
-    match value {
-        [] => {}
-        [tree, ..] => add_effect(alloc, &mut effect, tree)?,
+    for key in keys {
+        let is_one = is_word(key.key, keyword);
+        room = counted(alloc, room, is_one, place(key.key), FaultKind::Shape);
     }
-    Ok(effect)
+    room.found
 }
 
-/// An action, whose members behind its first word these are.
-#[tactic(auto, unfolding(crate::specs::Values::Schemas::schema_value))]
-pub fn schema_in(alloc: Global, trees: &[Tree]) -> Result<Schema, OutOfMemory>
-    ensures { IfOk result (λ schema. schema ≡ schema_value (nodes_in trees.now)) }
+/// What the value of this key says, by the form of the one member that it has; where the key is missing, this. Refuses
+/// only for want of memory.
+fn read_key<T: Drop, F: Form<T>>(
+    alloc: Global,
+    form: &F,
+    action: Action<'_>,
+    keyword: &[u8],
+    missing: T,
+) -> Result<Found<T>, OutOfMemory>
+    ensures { IfOk result (λ found. found ≡ found_in (in_key keyword.now (wanted (F.rule form.now) action.entry.whole) missing
+        (map key_nodes action.entry.keys.now))) }
 {
-    let keys = behind_first(trees);
+    let single = check_single(alloc, action.keys, keyword);
+    match first_named(action.keys, keyword) {
+        Some(key) => Ok(second(single, read_wanted(alloc, form, action.whole, key.value)?)),
+        None => Ok(second(single, Ok(missing))),
+    }
+}
+
+/// The agent of an action; without one, no parameter. Refuses only for want of memory.
+fn read_agent_key(alloc: Global, action: Action<'_>) -> Result<Found<TypedList>, OutOfMemory>
+    ensures { IfOk result (λ found. found ≡ found_in (in_key (codes ":agent") (agent_rule action.entry.whole) []
+        (map key_nodes action.entry.keys.now))) }
+{
+    let single = check_single(alloc, action.keys, b":agent");
+    match first_named(action.keys, b":agent") {
+        Some(key) => Ok(second(single, read_agent(alloc, action.whole, key.value)?)),
+        None => Ok(second(single, Ok(List::new(alloc)))),
+    }
+}
+
+/// What an action says, part by part.
+type Parts = ((((Word, TypedList), TypedList), LiteralList), Effect);
+
+/// The action of these parts. Refuses only for want of memory.
+fn schema_with(parts: Parts) -> Result<Schema, OutOfMemory>
+    ensures { IfOk result (λ schema. schema
+        ≡ schema_from parts) }
+{
+    let ((((word, mut params), others), pre), effect) = parts;
+    append(&mut params, others)?;
     let Effect {
         add,
         del,
         increases,
-    } = effect_in(alloc, value_in(keys, b":effect"))?;
+    } = effect;
     Ok(Schema {
-        word: first_word_in(alloc, trees)?,
-        params: parameters_in(alloc, keys)?,
-        pre: precondition_in(alloc, value_in(keys, b":precondition"))?,
+        word,
+        params,
+        pre,
         add,
         del,
         increases,
     })
+}
+
+/// The action of the parts that are found. Refuses only for want of memory.
+fn schema_found(parts: Found<Parts>) -> Result<Found<Schema>, OutOfMemory>
+    ensures { IfOk result (λ found. found ≡ said_found schema_from parts) }
+{
+    match parts {
+        Ok(parts) => Ok(Ok(schema_with(parts)?)),
+        Err(fault) => Ok(Err(fault)),
+    }
+}
+
+/// What an action does without an effect.
+fn nothing(alloc: Global) -> Effect
+    ensures { result ≡ no_effect }
+{
+    Effect {
+        add: List::new(alloc),
+        del: List::new(alloc),
+        increases: List::new(alloc),
+    }
+}
+
+/// The keys of an action read, part by part. Refuses only for want of memory.
+fn read_parts(
+    alloc: Global,
+    action: Action<'_>,
+    name: Found<Word>,
+) -> Result<Found<Parts>, OutOfMemory>
+    ensures { IfOk result (λ found. found ≡ both_found (λ a b. (a, b)) (both_found (λ a b. (a, b)) (both_found (λ a b. (a, b)) (both_found (λ a b. (a, b)) name
+        (found_in (in_key (codes ":agent") (agent_rule action.entry.whole) [] (map key_nodes action.entry.keys.now))))
+        (found_in (in_key (codes ":parameters") (wanted parameters_rule action.entry.whole) [] (map key_nodes action.entry.keys.now))))
+        (found_in (in_key (codes ":precondition") (wanted condition_rule action.entry.whole) [] (map key_nodes action.entry.keys.now))))
+        (found_in (in_key (codes ":effect") (wanted effect_rule action.entry.whole) no_effect (map key_nodes action.entry.keys.now)))) }
+{
+    let agent = pair(name, read_agent_key(alloc, action)?);
+    let none = List::new(alloc);
+    let params = pair(
+        agent,
+        read_key(alloc, &ParametersForm, action, b":parameters", none)?,
+    );
+    let none = List::new(alloc);
+    let pre = pair(
+        params,
+        read_key(alloc, &ConditionForm, action, b":precondition", none)?,
+    );
+    let none = nothing(alloc);
+    Ok(pair(pre, read_key(alloc, &EffectForm, action, b":effect", none)?))
+}
+
+/// What an action of this name says by its keys. Refuses only for want of memory.
+fn read_keys(alloc: Global, action: Action<'_>, name: &Tree) -> Result<Found<Schema>, OutOfMemory>
+    ensures { IfOk result (λ found. found ≡ found_in (keys_rule action.entry.whole (node_of name.now)
+        (map key_nodes action.entry.keys.now))) }
+{
+    let word = NameForm.read(alloc, name)?;
+    let parts = read_parts(alloc, action, word)?;
+    let schema = schema_found(parts)?;
+    Ok(schema)
+}
+
+/// The members of the list that comes first.
+fn first_members(trees: &[Tree]) -> &[Tree]
+    ensures { nodes_in result.now ≡ first_parts (nodes_in trees.now) }
+{
+    match trees {
+        [] => &[],
+        [tree, ..] => members(tree),
+    }
+}
+
+/// The first of some trees alone.
+fn first_alone(trees: &[Tree]) -> &[Tree]
+    ensures { nodes_in result.now ≡ take 1 (nodes_in trees.now) }
+{
+    &trees[..trees.len().min(1)]
+}
+
+/// Where a key names parameters.
+#[tactic(auto, unfolding(crate::specs::Rules::Actions::parameter_members))]
+fn naming_members<'t>(key: Key<'t>) -> &'t [Tree]
+    ensures { nodes_in result.now ≡ parameter_members (key_nodes key.entry) }
+{
+    if is_word(key.key, b":agent") {
+        first_alone(key.value)
+    } else if is_word(key.key, b":parameters") {
+        first_members(key.value)
+    } else {
+        &[]
+    }
+}
+
+/// The room behind the parameters among these trees.
+fn count_parameters(alloc: Global, room: Room, trees: &[Tree]) -> Room
+    ensures { (others : List Node)
+        → second_found result.found (found_in (at_most result.left is_variable_word surplus_parameter others))
+        ≡ second_found room.found (found_in (at_most room.left is_variable_word surplus_parameter (nodes_in trees.now ++ others))) }
+{
+    let mut room = room;
+    for tree in trees {
+        room = counted(
+            alloc,
+            room,
+            is_variable(tree),
+            place(tree),
+            FaultKind::Parameters,
+        );
+    }
+    room
+}
+
+/// Whether an action has at most twelve parameters.
+fn check_parameters(alloc: Global, keys: &[Key<'_>]) -> Found<()>
+    ensures { result ≡ found_in (at_most most_parameters is_variable_word surplus_parameter
+        (flat_map parameter_members (map key_nodes keys.now))) }
+{
+    let mut room = Room {
+        found: Ok(()),
+        left: MOST_PARAMETERS,
+    };
+    for key in keys {
+        room = count_parameters(alloc, room, naming_members(*key));
+    }
+    room.found
+}
+
+/// What an action of this name says, whose keys these are. Refuses only for want of memory.
+#[tactic(auto, using(crate::proofs::FoundLemmas::found_both))]
+fn read_by_keys(
+    alloc: Global,
+    action: Action<'_>,
+    name: &Tree,
+) -> Result<Found<Schema>, OutOfMemory>
+    ensures { IfOk result (λ found. found
+        ≡ found_in (by_keys action.entry.whole (node_of name.now) (map key_nodes action.entry.keys.now))) }
+{
+    let right = check_keys(alloc, action.whole, action.keys)?;
+    let few = check_parameters(alloc, action.keys);
+    Ok(second(right, second(few, read_keys(alloc, action, name)?)))
+}
+
+/// What an action says, with this name and these members behind it. Refuses only for want of memory.
+fn read_members(
+    alloc: Global,
+    whole: Place,
+    name: &Tree,
+    trees: &[Tree],
+) -> Result<Found<Schema>, OutOfMemory>
+    ensures { IfOk result (λ found. found ≡ found_in (by_keys whole (node_of name.now) (keys_of (nodes_in trees.now)))) }
+{
+    let keys = keys_in(alloc, trees)?;
+    let action = Action {
+        whole,
+        keys: keys.as_slice(),
+    };
+    let schema = read_by_keys(alloc, action, name)?;
+    Ok(schema)
+}
+
+/// An action.
+#[derive(Clone, Copy)]
+pub struct ActionForm;
+
+#[tactic(auto, unfolding(crate::specs::Rules::Actions::action_rule))]
+impl Form<Schema> for ActionForm {
+    ghost rule = { λ form node. action_rule node };
+
+    fn read(&self, alloc: Global, tree: &Tree) -> Result<Found<Schema>, OutOfMemory> {
+        match behind_first(members(tree)) {
+            [] => Ok(shape_fault(alloc, place(tree))),
+            [name, keys @ ..] => read_members(alloc, place(tree), name, keys),
+        }
+    }
 }

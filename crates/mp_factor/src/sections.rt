@@ -1,106 +1,250 @@
 //! The sections of both files.
 
-ghost use Rattle.std.specs.Prelude.{◌≡◌};
+ghost use Rattle.std.specs.Prelude.{◌≡◌, ◌∷◌, [], codes, option_map, IfOk};
+ghost use Rattle.std.specs.List.{filter, find};
 ghost use Rattle.mp_sexp.specs.Node.{node_of, nodes_in};
-ghost use Rattle.mp_factor.specs.Faults.{leftmost};
-ghost use Rattle.mp_factor.specs.Faults.Sections.{requirement_faults, requirements_faults, goal_faults, owner_faults, is_cost_metric as cost_metric_test, is_total_cost as total_cost_test, metric_faults};
+ghost use Rattle.mp_factor.specs.Parts.{place_of, is_headed as headed_test};
+ghost use Rattle.mp_factor.specs.Reading.{Reading, all_right, at_most, each, misshapen, Says};
+ghost use Rattle.mp_factor.specs.Found.{found_in, more_found};
+ghost use Rattle.mp_factor.specs.Rules.Actions.{action_rule};
+ghost use Rattle.mp_factor.specs.Rules.Sections.{in_section, requirement_rule, requirements_rule, listed_rule, named_rule, start_rule, goal_rule, is_total_cost as total_cost_test, is_cost_metric as cost_metric_test, metric_rule, actions_rule};
 
-use crate::conditions::condition_fault;
-use crate::fault::{Fault, FaultKind, with, with_unsupported};
-use crate::trees::{is_list, is_word, members, place};
-use crate::typed::{extra_fault, name_fault};
-use mp_sexp::{Place, Tree};
+use crate::counted::{Room, counted};
+use crate::fault::FaultKind;
+use crate::found::{
+    Form, Found, check_each, read_alone, second, shape_fault, with_item, word_fault,
+};
+use crate::init_values::{Start, read_start};
+use crate::literal::{ConditionForm, LiteralList};
+use crate::schema_values::{ActionForm, SchemaList};
+use crate::trees::{behind_first, is_headed, is_list, is_word, members, place};
+use crate::typed_values::{Listing, read_typed};
+use crate::word::{NameForm, Word};
+use mp_list::{List, OutOfMemory};
+use mp_sexp::Tree;
+use std::alloc::Global;
 
-/// The first fault, with that of what should be a requirement.
-#[tactic(auto, using(crate::proofs::Steps::leftmost_append), unfolding(crate::specs::Faults::Sections::requirement_faults))]
-fn requirement_fault<'t>(least: Option<Fault<'t>>, tree: &'t Tree) -> Option<Fault<'t>>
-    ensures { result ≡ leftmost least.entry (requirement_faults (node_of tree.now)) }
+/// The first section that begins with this word.
+fn section<'t>(sections: &'t [Tree], keyword: &[u8]) -> Option<&'t Tree>
+    ensures { option_map (λ t. node_of t.now) result ≡ find (headed_test keyword.now) (nodes_in sections.now) }
 {
-    if is_list(tree) {
-        with(least, place(tree), FaultKind::Shape)
-    } else if is_word(tree, b":unfactored-privacy") {
-        with_unsupported(least, tree)
-    } else {
-        least
+    for tree in sections {
+        if is_headed(tree, keyword) {
+            return Some(tree);
+        }
+    }
+    None
+}
+
+/// Whether at most one section begins with this word.
+fn check_single(alloc: Global, sections: &[Tree], keyword: &[u8]) -> Found<()>
+    ensures { result ≡ found_in (at_most 1 (headed_test keyword.now) (λ n. misshapen (place_of n)) (nodes_in sections.now)) }
+{
+    let mut room = Room {
+        found: Ok(()),
+        left: 1,
+    };
+    for tree in sections {
+        room = counted(
+            alloc,
+            room,
+            is_headed(tree, keyword),
+            place(tree),
+            FaultKind::Shape,
+        );
+    }
+    room.found
+}
+
+/// What the section that begins with this word says, by its form, or what is found where it is missing. Refuses only for
+/// want of memory.
+pub fn read_section<T: Drop, F: Form<T>>(
+    alloc: Global,
+    form: &F,
+    sections: &[Tree],
+    keyword: &[u8],
+    missing: Found<T>,
+) -> Result<Found<T>, OutOfMemory>
+    ensures { (reading : Reading T) → missing ≡ found_in reading → IfOk result (λ found. found
+        ≡ found_in (in_section keyword.now (F.rule form.now) reading (nodes_in sections.now))) }
+{
+    let single = check_single(alloc, sections, keyword);
+    match section(sections, keyword) {
+        Some(tree) => Ok(second(single, form.read(alloc, tree)?)),
+        None => Ok(second(single, missing)),
     }
 }
 
-/// The first fault, with those of requirements.
-#[tactic(auto, using(crate::proofs::Steps::leftmost_append), unfolding(crate::specs::Faults::Sections::requirements_faults))]
-pub fn requirements_fault<'t>(least: Option<Fault<'t>>, trees: &'t [Tree]) -> Option<Fault<'t>>
-    ensures { result ≡ leftmost least.entry (requirements_faults (nodes_in trees.now)) }
+/// What the section of a typed list says. Refuses only for want of memory.
+#[tactic(auto, unfolding(crate::specs::Rules::Sections::listed_rule))]
+fn read_list<X: Drop, T: Drop, L: Listing<X, T>>(
+    alloc: Global,
+    listing: &L,
+    tree: &Tree,
+) -> Result<Found<List<X>>, OutOfMemory>
+    ensures { IfOk result (λ found. found ≡ found_in (listed_rule (L.listing listing.now) (node_of tree.now))) }
 {
-    let mut first = least;
-    for tree in trees {
-        first = requirement_fault(first, tree);
-    }
-    first
+    read_typed(alloc, listing, place(tree), behind_first(members(tree)))
 }
 
-/// The first fault, with those of a goal, whose members behind its first word these are.
-#[tactic(auto, using(crate::proofs::Steps::leftmost_append), unfolding(crate::specs::Faults::Sections::goal_faults))]
-pub fn goal_fault<'t>(
-    least: Option<Fault<'t>>,
-    whole: Place,
-    trees: &'t [Tree],
-) -> Option<Fault<'t>>
-    ensures { result ≡ leftmost least.entry (goal_faults whole (nodes_in trees.now)) }
+/// What the section of a typed list that begins with this word says; nothing, where it is missing. Refuses only for want
+/// of memory.
+pub fn read_listed<X: Drop, T: Drop, L: Listing<X, T>>(
+    alloc: Global,
+    listing: &L,
+    sections: &[Tree],
+    keyword: &[u8],
+) -> Result<Found<List<X>>, OutOfMemory>
+    ensures { IfOk result (λ found. found ≡ found_in (in_section keyword.now (listed_rule (L.listing listing.now)) (Says []) (nodes_in sections.now))) }
+{
+    let single = check_single(alloc, sections, keyword);
+    match section(sections, keyword) {
+        Some(tree) => Ok(second(single, read_list(alloc, listing, tree)?)),
+        None => Ok(second(single, Ok(List::new(alloc)))),
+    }
+}
+
+/// A requirement.
+#[derive(Clone, Copy)]
+struct RequirementForm;
+
+#[tactic(auto, unfolding(crate::specs::Rules::Sections::requirement_rule))]
+impl Form<()> for RequirementForm {
+    ghost rule = { λ form node. requirement_rule node };
+
+    fn read(&self, alloc: Global, tree: &Tree) -> Result<Found<()>, OutOfMemory> {
+        if is_list(tree) {
+            Ok(shape_fault(alloc, place(tree)))
+        } else if is_word(tree, b":unfactored-privacy") {
+            word_fault(alloc, tree)
+        } else {
+            Ok(Ok(()))
+        }
+    }
+}
+
+/// The requirements.
+#[derive(Clone, Copy)]
+pub struct RequirementsForm;
+
+#[tactic(auto, unfolding(crate::specs::Rules::Sections::requirements_rule))]
+impl Form<()> for RequirementsForm {
+    ghost rule = { λ form node. requirements_rule node };
+
+    fn read(&self, alloc: Global, tree: &Tree) -> Result<Found<()>, OutOfMemory> {
+        check_each(alloc, &RequirementForm, behind_first(members(tree)))
+    }
+}
+
+/// A word and a name.
+#[derive(Clone, Copy)]
+pub struct NamedForm;
+
+#[tactic(auto, unfolding(crate::specs::Rules::Sections::named_rule))]
+impl Form<Word> for NamedForm {
+    ghost rule = { λ form node. named_rule node };
+
+    fn read(&self, alloc: Global, tree: &Tree) -> Result<Found<Word>, OutOfMemory> {
+        read_alone(alloc, &NameForm, place(tree), behind_first(members(tree)))
+    }
+}
+
+/// The facts and values at the start.
+#[derive(Clone, Copy)]
+pub struct StartForm;
+
+#[tactic(auto, unfolding(crate::specs::Rules::Sections::start_rule))]
+impl Form<Start> for StartForm {
+    ghost rule = { λ form node. start_rule node };
+
+    fn read(&self, alloc: Global, tree: &Tree) -> Result<Found<Start>, OutOfMemory> {
+        read_start(alloc, behind_first(members(tree)))
+    }
+}
+
+/// The goal.
+#[derive(Clone, Copy)]
+pub struct GoalForm;
+
+#[tactic(auto, unfolding(crate::specs::Rules::Sections::goal_rule))]
+impl Form<LiteralList> for GoalForm {
+    ghost rule = { λ form node. goal_rule node };
+
+    fn read(&self, alloc: Global, tree: &Tree) -> Result<Found<LiteralList>, OutOfMemory> {
+        read_alone(
+            alloc,
+            &ConditionForm,
+            place(tree),
+            behind_first(members(tree)),
+        )
+    }
+}
+
+/// Whether these are the total cost alone.
+fn is_total_cost(trees: &[Tree]) -> bool
+    ensures { result ≡ total_cost_test (nodes_in trees.now) }
 {
     match trees {
-        [] => with(least, whole, FaultKind::Shape),
-        [tree, extra @ ..] => extra_fault(condition_fault(least, tree), extra),
-    }
-}
-
-/// The first fault, with those of one name in the list at this place.
-#[tactic(auto, using(crate::proofs::Steps::leftmost_append), unfolding(crate::specs::Faults::Sections::owner_faults))]
-pub fn single_name_fault<'t>(
-    least: Option<Fault<'t>>,
-    whole: Place,
-    trees: &'t [Tree],
-) -> Option<Fault<'t>>
-    ensures { result ≡ leftmost least.entry (owner_faults whole (nodes_in trees.now)) }
-{
-    match trees {
-        [] => with(least, whole, FaultKind::Shape),
-        [tree, extra @ ..] => extra_fault(name_fault(least, tree), extra),
-    }
-}
-
-/// Whether these are `minimize` and `(total-cost)`.
-#[tactic(auto, using(crate::proofs::Steps::leftmost_append), unfolding(crate::specs::Faults::Sections::is_cost_metric))]
-fn is_cost_metric(trees: &[Tree]) -> bool
-    ensures { result ≡ cost_metric_test (nodes_in trees.now) }
-{
-    match trees {
-        [direction, target] => is_word(direction, b"minimize") && is_total_cost(target),
-        _ => false,
-    }
-}
-
-/// Whether a tree is `(total-cost)`.
-#[tactic(auto, using(crate::proofs::Steps::leftmost_append), unfolding(crate::specs::Faults::Sections::is_total_cost))]
-fn is_total_cost(tree: &Tree) -> bool
-    ensures { result ≡ total_cost_test (node_of tree.now) }
-{
-    match members(tree) {
         [function] => is_word(function, b"total-cost"),
         _ => false,
     }
 }
 
-/// The first fault, with that of a metric; `head` is the word `:metric`.
-#[tactic(auto, using(crate::proofs::Steps::leftmost_append), unfolding(crate::specs::Faults::Sections::metric_faults))]
-pub fn metric_fault<'t>(
-    least: Option<Fault<'t>>,
-    head: &'t Tree,
-    trees: &'t [Tree],
-) -> Option<Fault<'t>>
-    ensures { result ≡ leftmost least.entry (metric_faults (node_of head.now) (nodes_in trees.now)) }
+/// Whether these are `minimize` and `(total-cost)`.
+fn is_cost_metric(trees: &[Tree]) -> bool
+    ensures { result ≡ cost_metric_test (nodes_in trees.now) }
 {
-    if is_cost_metric(trees) {
-        least
-    } else {
-        with_unsupported(least, head)
+    match trees {
+        [direction, target] => is_word(direction, b"minimize") && is_total_cost(members(target)),
+        _ => false,
     }
+}
+
+/// The metric.
+#[derive(Clone, Copy)]
+pub struct MetricForm;
+
+#[tactic(auto, unfolding(crate::specs::Rules::Sections::metric_rule))]
+impl Form<bool> for MetricForm {
+    ghost rule = { λ form node. metric_rule node };
+
+    fn read(&self, alloc: Global, tree: &Tree) -> Result<Found<bool>, OutOfMemory> {
+        match members(tree) {
+            [] => Ok(shape_fault(alloc, place(tree))),
+            [head, metric @ ..] => {
+                if is_cost_metric(metric) {
+                    Ok(Ok(true))
+                } else {
+                    word_fault(alloc, head)
+                }
+            }
+        }
+    }
+}
+
+/// The actions so far and that of a section, if it is one. Refuses only for want of memory.
+fn with_action(
+    alloc: Global,
+    so_far: Found<SchemaList>,
+    tree: &Tree,
+) -> Result<Found<SchemaList>, OutOfMemory>
+    ensures { IfOk result (λ found. found ≡ more_found so_far
+        (found_in (each action_rule (filter (headed_test (codes ":action")) (node_of tree.now ∷ []))))) }
+{
+    if is_headed(tree, b":action") {
+        with_item(so_far, ActionForm.read(alloc, tree)?)
+    } else {
+        Ok(so_far)
+    }
+}
+
+/// The actions. Refuses only for want of memory.
+pub fn read_actions(alloc: Global, sections: &[Tree]) -> Result<Found<SchemaList>, OutOfMemory>
+    ensures { IfOk result (λ found. found ≡ found_in (actions_rule (nodes_in sections.now))) }
+{
+    let mut so_far = Ok(List::new(alloc));
+    for tree in sections {
+        so_far = with_action(alloc, so_far, tree)?;
+    }
+    Ok(so_far)
 }

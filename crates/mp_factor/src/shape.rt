@@ -1,169 +1,316 @@
 //! The two calls that read a factor's files: the first fault of a tree, or what it says.
 
-ghost use Rattle.std.specs.Prelude.{◌≡◌, ◌++◌, [], false, codes, IfOk, IfErr, OnOk};
+ghost use Rattle.std.specs.Prelude.{◌≡◌, [], false, codes, Err, IsOk, IfOk, IfErr, MatchOption};
 ghost use Rattle.mp_sexp.specs.Node.{node_of, nodes_in};
-ghost use Rattle.mp_factor.specs.Faults.Files.{domain_faults, problem_faults};
-ghost use Rattle.mp_factor.specs.Values.Files.{section_in as section_in_of, schema_in as schema_in_of, schema_values, first_condition, title_word, domain_parts, domain_value, problem_parts, problem_value, problem_with as problem_with_of};
-ghost use Rattle.mp_factor.specs.Values.Typed.{typed_values};
+ghost use Rattle.mp_factor.specs.Faults.{IsFirst};
+ghost use Rattle.mp_factor.specs.Reading.{Reading, Says, misshapen, besides, keyword};
+ghost use Rattle.mp_factor.specs.Found.{found_in, both_found, said_found};
+ghost use Rattle.mp_factor.specs.FoundForms.{domain_from, problem_from};
+ghost use Rattle.mp_factor.specs.declared.word.Word.{Word as WordOf};
 ghost use Rattle.mp_factor.specs.FromFile.{IsDomainOfFile, IsProblemOfFile};
+ghost use Rattle.mp_factor.specs.OfFile.{own_words, other_words};
+ghost use Rattle.mp_factor.specs.Rules.Typed.{objects};
+ghost use Rattle.mp_factor.specs.Rules.Signatures.{predicates, functions};
+ghost use Rattle.mp_factor.specs.Rules.Init.{empty_start};
+ghost use Rattle.mp_factor.specs.Rules.Sections.{domain_words, problem_words, in_section, sections_rule, listed_rule, named_rule, start_rule, goal_rule, metric_rule};
+ghost use Rattle.mp_factor.specs.Rules.Files.{domain_parts, problem_sections, title_rule, domain_rule, problem_rule, domain_faults, problem_faults};
 ghost use Rattle.mp_factor.specs.Shapes.{Refuses};
 
 use crate::factor::{Domain, Problem};
-use crate::files::{domain_fault, has_section, problem_fault};
-use crate::init_values::{facts_in, values_in};
-use crate::literal::{LiteralList, add_condition};
+use crate::fault::Fault;
+use crate::files::{File, check_sections, read_title};
+use crate::found::{Found, expect, pair, second, shape_fault};
+use crate::init_values::Start;
+use crate::literal::LiteralList;
 use crate::refusal::{ShapeRefusal, refusal_of};
-use crate::schema_values::{SchemaList, schema_in};
-use crate::signature_values::signatures_in;
-use crate::trees::{behind_first, is_headed, members};
-use crate::typed_values::{TypedList, add_typed, objects_in};
-use crate::word::{Word, first_word_in};
+use crate::schema_values::SchemaList;
+use crate::sections::{
+    GoalForm, MetricForm, NamedForm, RequirementsForm, StartForm, read_actions, read_listed,
+    read_section,
+};
+use crate::signature_values::{DeclaredFunction, DeclaredPredicate, SignatureList, WithBlocks};
+use crate::trees::{members, place};
+use crate::typed_values::{NAMES, Objects, TypedList};
+use crate::word::Word;
 use mp_list::{List, OutOfMemory};
-use mp_sexp::Tree;
+use mp_sexp::{Place, Tree};
 use std::alloc::Global;
 
-/// What stands behind this word in the first section that begins with it.
-#[tactic(auto, unfolding(crate::specs::Values::Files::section_in))]
-pub(crate) fn section_in<'a>(trees: &'a [Tree], keyword: &[u8]) -> &'a [Tree]
-    ensures { nodes_in result.now ≡ section_in_of keyword.now (nodes_in trees.now) }
+/// What a domain says, part by part.
+type ReadDomain = (
+    (
+        (((Word, TypedList), TypedList), SignatureList),
+        SignatureList,
+    ),
+    SchemaList,
+);
+
+/// What a problem says, part by part, as far as its objects.
+pub(crate) type ReadObjects = ((Word, Word), TypedList);
+
+/// What a problem says, part by part.
+pub(crate) type ReadProblem = (((ReadObjects, Start), LiteralList), bool);
+
+/// The predicates. Refuses only for want of memory.
+fn read_predicates(alloc: Global, sections: &[Tree]) -> Result<Found<SignatureList>, OutOfMemory>
+    ensures { IfOk result (λ found. found
+        ≡ found_in (in_section (codes ":predicates") (listed_rule predicates) (Says []) (nodes_in sections.now))) }
 {
-    for tree in trees {
-        if is_headed(tree, keyword) {
-            return behind_first(members(tree));
-        }
-    }
-    &[]
+    let predicates = WithBlocks {
+        takes_number: false,
+        name: DeclaredPredicate,
+    };
+    read_listed(alloc, &predicates, sections, b":predicates")
 }
 
-/// Adds what an action says.
-fn add_schema(alloc: Global, out: &mut SchemaList, tree: &Tree) -> Result<(), OutOfMemory>
-    ensures { OnOk result (out.new ≡ out.old ++ schema_in_of (node_of tree.now)) }
+/// The functions. Refuses only for want of memory.
+fn read_functions(alloc: Global, sections: &[Tree]) -> Result<Found<SignatureList>, OutOfMemory>
+    ensures { IfOk result (λ found. found
+        ≡ found_in (in_section (codes ":functions") (listed_rule functions) (Says []) (nodes_in sections.now))) }
 {
-    if is_headed(tree, b":action") {
-        out.push(schema_in(alloc, behind_first(members(tree)))?)
-    } else {
-        Ok(())
-    }
+    let functions = WithBlocks {
+        takes_number: true,
+        name: DeclaredFunction,
+    };
+    read_listed(alloc, &functions, sections, b":functions")
 }
 
-/// The actions among the sections.
-#[tactic(auto, using(crate::proofs::BuildSteps::append_steps), unfolding(crate::specs::Values::Files::schema_values))]
-fn schemas_in(alloc: Global, trees: &[Tree]) -> Result<SchemaList, OutOfMemory>
-    ensures { IfOk result (λ schemas. schemas ≡ schema_values (nodes_in trees.now)) }
-{
-    let mut out = List::new(alloc);
-    for tree in trees {
-        add_schema(alloc, &mut out, tree)?;
-    }
-    Ok(out)
-}
-
-/// The literals of the condition that comes first.
-fn goals_in(alloc: Global, trees: &[Tree]) -> Result<LiteralList, OutOfMemory>
-    ensures { IfOk result (λ goals. goals ≡ first_condition (nodes_in trees.now)) }
-{
-    let mut goals = List::new(alloc);
-    match trees {
-        [] => {}
-        [tree, ..] => add_condition(alloc, &mut goals, tree)?,
-    }
-    Ok(goals)
-}
-
-/// The name of a file, of whose members behind the first word these are.
-pub(crate) fn title_in(alloc: Global, trees: &[Tree]) -> Result<Word, OutOfMemory>
-    ensures { IfOk result (λ word. word ≡ title_word (nodes_in trees.now)) }
-{
-    match trees {
-        [] => first_word_in(alloc, &[]),
-        [title, ..] => first_word_in(alloc, behind_first(members(title))),
-    }
-}
-
-/// The types that a domain declares.
-fn types_in(alloc: Global, sections: &[Tree]) -> Result<TypedList, OutOfMemory>
-    ensures { IfOk result (λ types. types ≡ typed_values false (section_in_of (codes ":types") (nodes_in sections.now))) }
-{
-    let mut types = List::new(alloc);
-    add_typed(alloc, &mut types, false, section_in(sections, b":types"))?;
-    Ok(types)
-}
-
-/// The domain of these members behind the first word.
-fn domain_of(alloc: Global, trees: &[Tree]) -> Result<Domain, OutOfMemory>
-    requires { IsDomainOfFile (domain_parts (nodes_in trees.now)) }
-    ensures { IfOk result (λ domain. domain ≡ domain_parts (nodes_in trees.now)) }
-{
-    let sections = behind_first(trees);
-    Ok(Domain {
-        word: title_in(alloc, trees)?,
-        types: types_in(alloc, sections)?,
-        constants: objects_in(alloc, section_in(sections, b":constants"))?,
-        predicates: signatures_in(alloc, section_in(sections, b":predicates"))?,
-        functions: signatures_in(alloc, section_in(sections, b":functions"))?,
-        schemas: schemas_in(alloc, sections)?,
-    })
-}
-
-/// The problem of this title, these objects and these sections.
-pub(crate) fn problem_with(
+/// What a domain of this name says in its sections, part by part. Refuses only for want of memory.
+fn read_domain_parts(
     alloc: Global,
-    title: Word,
-    objects: TypedList,
+    name: Found<Word>,
     sections: &[Tree],
-) -> Result<Problem, OutOfMemory>
-    requires { IsProblemOfFile (problem_with_of title objects (nodes_in sections.now)) }
-    ensures { IfOk result (λ problem. problem ≡ problem_with_of title objects (nodes_in sections.now)) }
+) -> Result<Found<ReadDomain>, OutOfMemory>
+    ensures { (reading : Reading WordOf) → name ≡ found_in reading → IfOk result (λ found.
+        said_found domain_from found ≡ found_in (domain_parts reading (nodes_in sections.now))) }
 {
-    let start = section_in(sections, b":init");
-    Ok(Problem {
-        word: title,
-        domain: first_word_in(alloc, section_in(sections, b":domain"))?,
-        objects,
-        init: facts_in(alloc, start)?,
-        values: values_in(alloc, start)?,
-        goals: goals_in(alloc, section_in(sections, b":goal"))?,
-        metric: has_section(sections, b":metric"),
-    })
+    let types = pair(name, read_listed(alloc, &NAMES, sections, b":types")?);
+    let constants = pair(
+        types,
+        read_listed(alloc, &Objects, sections, b":constants")?,
+    );
+    let predicates = pair(constants, read_predicates(alloc, sections)?);
+    let functions = pair(predicates, read_functions(alloc, sections)?);
+    Ok(pair(functions, read_actions(alloc, sections)?))
 }
 
-/// The problem of these members behind the first word.
-fn problem_of(alloc: Global, trees: &[Tree]) -> Result<Problem, OutOfMemory>
-    requires { IsProblemOfFile (problem_parts (nodes_in trees.now)) }
-    ensures { IfOk result (λ problem. problem ≡ problem_parts (nodes_in trees.now)) }
+/// What is wrong with the sections of a file, or with its requirements. Refuses only for want of memory.
+#[tactic(auto, using(crate::proofs::FoundLemmas::found_both), unfolding(crate::specs::Rules::Sections::sections_rule))]
+pub(crate) fn check_file(
+    alloc: Global,
+    file: File,
+    sections: &[Tree],
+) -> Result<Found<()>, OutOfMemory>
+    ensures { IfOk result (λ found. found ≡ found_in (sections_rule (own_words file) (other_words file) (nodes_in sections.now))) }
 {
-    let title = title_in(alloc, trees)?;
-    let sections = behind_first(trees);
-    let objects = objects_in(alloc, section_in(sections, b":objects"))?;
-    problem_with(alloc, title, objects, sections)
+    let right = check_sections(alloc, file, sections)?;
+    let requirements = read_section(alloc, &RequirementsForm, sections, b":requirements", Ok(()))?;
+    Ok(second(right, requirements))
+}
+
+/// What a domain of this title says, part by part. Refuses only for want of memory.
+fn read_domain_members(
+    alloc: Global,
+    head: &Tree,
+    title: &Tree,
+    sections: &[Tree],
+) -> Result<Found<ReadDomain>, OutOfMemory>
+    ensures { IfOk result (λ found. said_found domain_from found ≡ found_in (besides (keyword (codes "define") (node_of head.now))
+        (besides (sections_rule domain_words problem_words (nodes_in sections.now))
+        (domain_parts (title_rule (codes "domain") (node_of title.now)) (nodes_in sections.now))))) }
+{
+    let define = expect(alloc, b"define", head);
+    let right = check_file(alloc, File::Domain, sections)?;
+    let name = read_title(alloc, File::Domain, title)?;
+    let parts = read_domain_parts(alloc, name, sections)?;
+    Ok(second(define, second(right, parts)))
+}
+
+/// What a domain's tree says, part by part. Refuses only for want of memory.
+fn read_domain(alloc: Global, tree: &Tree) -> Result<Found<ReadDomain>, OutOfMemory>
+    ensures { IfOk result (λ found. said_found domain_from found ≡ found_in (domain_rule (node_of tree.now))) }
+{
+    match members(tree) {
+        [head, title, sections @ ..] => read_domain_members(alloc, head, title, sections),
+        _ => Ok(shape_fault(alloc, place(tree))),
+    }
+}
+
+/// The domain of these parts.
+fn domain_with(parts: ReadDomain) -> Domain
+    requires { IsDomainOfFile (domain_from parts) }
+    ensures { result ≡ domain_from parts }
+{
+    let (((((word, types), constants), predicates), functions), schemas) = parts;
+    Domain {
+        word,
+        types,
+        constants,
+        predicates,
+        functions,
+        schemas,
+    }
 }
 
 /// What a domain's tree says, or its first fault by place, at one place by kind, and then by word.
 ///
 /// Refuses with `Shape`, `Unsupported`, `Parameters` or `Cost` exactly where the first fault is of that kind.
-#[tactic(auto, unfolding(crate::specs::Values::Files::domain_value))]
 pub fn domain(alloc: Global, tree: &Tree) -> Result<Domain, ShapeRefusal>
-    ensures shape { IfOk result (λ domain. domain_faults (node_of tree.now) ≡ []) }
-    ensures value { IfOk result (λ domain. domain ≡ domain_value (node_of tree.now)) }
-    ensures fault { IfErr result (Refuses domain_faults (node_of tree.now)) }
+    ensures said { IfOk result (λ domain. domain_rule (node_of tree.now) ≡ Says domain) }
+    ensures fault { IfErr result (Refuses (domain_rule (node_of tree.now))) }
 {
-    match domain_fault(alloc, tree)? {
-        Some(fault) => Err(refusal_of(alloc, fault)),
-        None => Ok(domain_of(alloc, behind_first(members(tree)))?),
+    match read_domain(alloc, tree)? {
+        Ok(parts) => Ok(domain_with(parts)),
+        Err(fault) => Err(refusal_of(fault)),
+    }
+}
+
+/// The first fault of what is found, where there is one.
+fn fault_in<T: Drop>(found: Found<T>) -> Option<Fault>
+    ensures { MatchOption result (IsOk found) (λ fault. found ≡ Err fault) }
+{
+    match found {
+        Ok(_) => None,
+        Err(fault) => Some(fault),
+    }
+}
+
+/// What a problem of this name says in its sections, part by part, as far as its objects. Refuses only for want of
+/// memory.
+pub(crate) fn read_objects(
+    alloc: Global,
+    whole: Place,
+    name: Found<Word>,
+    sections: &[Tree],
+) -> Result<Found<ReadObjects>, OutOfMemory>
+    ensures { IfOk result (λ found. found ≡ both_found (λ a b. (a, b)) (both_found (λ a b. (a, b)) name
+        (found_in (in_section (codes ":domain") named_rule (misshapen whole) (nodes_in sections.now))))
+        (found_in (in_section (codes ":objects") (listed_rule objects) (Says []) (nodes_in sections.now)))) }
+{
+    let missing = shape_fault(alloc, whole);
+    let domain = pair(
+        name,
+        read_section(alloc, &NamedForm, sections, b":domain", missing)?,
+    );
+    Ok(pair(domain, read_listed(alloc, &Objects, sections, b":objects")?))
+}
+
+/// The facts and values at the start. Refuses only for want of memory.
+fn read_init(alloc: Global, sections: &[Tree]) -> Result<Found<Start>, OutOfMemory>
+    ensures { IfOk result (λ found. found
+        ≡ found_in (in_section (codes ":init") start_rule (Says empty_start) (nodes_in sections.now))) }
+{
+    let none = Start {
+        facts: List::new(alloc),
+        values: List::new(alloc),
+    };
+    read_section(alloc, &StartForm, sections, b":init", Ok(none))
+}
+
+/// The goal. Refuses only for want of memory.
+fn read_goal(alloc: Global, sections: &[Tree]) -> Result<Found<LiteralList>, OutOfMemory>
+    ensures { IfOk result (λ found. found
+        ≡ found_in (in_section (codes ":goal") goal_rule (Says []) (nodes_in sections.now))) }
+{
+    read_section(alloc, &GoalForm, sections, b":goal", Ok(List::new(alloc)))
+}
+
+/// What a problem says in its sections, part by part, where it is known as far as its objects. Refuses only for want of
+/// memory.
+pub(crate) fn read_behind_objects(
+    alloc: Global,
+    known: Found<ReadObjects>,
+    sections: &[Tree],
+) -> Result<Found<ReadProblem>, OutOfMemory>
+    ensures { IfOk result (λ found. found ≡ both_found (λ a b. (a, b)) (both_found (λ a b. (a, b)) (both_found (λ a b. (a, b)) known
+        (found_in (in_section (codes ":init") start_rule (Says empty_start) (nodes_in sections.now))))
+        (found_in (in_section (codes ":goal") goal_rule (Says []) (nodes_in sections.now))))
+        (found_in (in_section (codes ":metric") metric_rule (Says false) (nodes_in sections.now)))) }
+{
+    let start = pair(known, read_init(alloc, sections)?);
+    let goals = pair(start, read_goal(alloc, sections)?);
+    Ok(pair(
+        goals,
+        read_section(alloc, &MetricForm, sections, b":metric", Ok(false))?,
+    ))
+}
+
+/// What a problem of this title says, part by part. Refuses only for want of memory.
+fn read_problem_members(
+    alloc: Global,
+    whole: Place,
+    head: &Tree,
+    title: &Tree,
+    sections: &[Tree],
+) -> Result<Found<ReadProblem>, OutOfMemory>
+    ensures { IfOk result (λ found. said_found problem_from found ≡ found_in (besides (keyword (codes "define") (node_of head.now))
+        (problem_sections whole (title_rule (codes "problem") (node_of title.now)) (nodes_in sections.now)))) }
+{
+    let define = expect(alloc, b"define", head);
+    let right = check_file(alloc, File::Problem, sections)?;
+    let name = read_title(alloc, File::Problem, title)?;
+    let known = read_objects(alloc, whole, name, sections)?;
+    let parts = read_behind_objects(alloc, known, sections)?;
+    Ok(second(define, second(right, parts)))
+}
+
+/// What a problem's tree says, part by part. Refuses only for want of memory.
+fn read_problem(alloc: Global, tree: &Tree) -> Result<Found<ReadProblem>, OutOfMemory>
+    ensures { IfOk result (λ found. said_found problem_from found ≡ found_in (problem_rule (node_of tree.now))) }
+{
+    match members(tree) {
+        [head, title, sections @ ..] => {
+            read_problem_members(alloc, place(tree), head, title, sections)
+        }
+        _ => Ok(shape_fault(alloc, place(tree))),
+    }
+}
+
+/// The problem of these parts.
+pub(crate) fn problem_with(parts: ReadProblem) -> Problem
+    requires { IsProblemOfFile (problem_from parts) }
+    ensures { result ≡ problem_from parts }
+{
+    let (((((word, domain), objects), start), goals), metric) = parts;
+    let Start { facts, values } = start;
+    Problem {
+        word,
+        domain,
+        objects,
+        init: facts,
+        values,
+        goals,
+        metric,
     }
 }
 
 /// What a problem's tree says, or its first fault by place, at one place by kind, and then by word.
 ///
 /// Refuses with `Shape`, `Unsupported` or `Cost` exactly where the first fault is of that kind.
-#[tactic(auto, unfolding(crate::specs::Values::Files::problem_value))]
 pub fn problem(alloc: Global, tree: &Tree) -> Result<Problem, ShapeRefusal>
-    ensures shape { IfOk result (λ problem. problem_faults (node_of tree.now) ≡ []) }
-    ensures value { IfOk result (λ problem. problem ≡ problem_value (node_of tree.now)) }
-    ensures fault { IfErr result (Refuses problem_faults (node_of tree.now)) }
+    ensures said { IfOk result (λ problem. problem_rule (node_of tree.now) ≡ Says problem) }
+    ensures fault { IfErr result (Refuses (problem_rule (node_of tree.now))) }
 {
-    match problem_fault(alloc, tree)? {
-        Some(fault) => Err(refusal_of(alloc, fault)),
-        None => Ok(problem_of(alloc, behind_first(members(tree)))?),
+    match read_problem(alloc, tree)? {
+        Ok(parts) => Ok(problem_with(parts)),
+        Err(fault) => Err(refusal_of(fault)),
     }
+}
+
+/// The first fault of a domain's tree, by its place, its kind and its word: none exactly where the tree
+/// has the shape of a factor's domain. Refuses only for want of memory.
+pub fn domain_fault(alloc: Global, tree: &Tree) -> Result<Option<Fault>, OutOfMemory>
+    ensures { IfOk result (λ first. MatchOption first (domain_faults (node_of tree.now) ≡ [])
+        (λ fault. IsFirst (domain_faults (node_of tree.now)) fault)) }
+{
+    Ok(fault_in(read_domain(alloc, tree)?))
+}
+
+/// The first fault of a problem's tree, by its place, its kind and its word: none exactly where the tree
+/// has the shape of a factor's problem. Refuses only for want of memory.
+pub fn problem_fault(alloc: Global, tree: &Tree) -> Result<Option<Fault>, OutOfMemory>
+    ensures { IfOk result (λ first. MatchOption first (problem_faults (node_of tree.now) ≡ [])
+        (λ fault. IsFirst (problem_faults (node_of tree.now)) fault)) }
+{
+    Ok(fault_in(read_problem(alloc, tree)?))
 }

@@ -1,6 +1,6 @@
 //! Words and lists of a tree.
 
-ghost use Rattle.std.specs.Prelude.{◌≡◌};
+ghost use Rattle.std.specs.Prelude.{◌≡◌, ◌≤◌, take, drop, length};
 ghost use Rattle.std.specs.Str.{bytes_eq};
 ghost use Rattle.mp_sexp.specs.Node.{node_of, nodes_in};
 ghost use Rattle.mp_factor.specs.Parts.{is_word as word_test, place_of, word_of, parts, is_list as list_test, is_headed as headed_test, is_name_word, is_variable_word, is_term as term_test, is_fixed_word, rest_of};
@@ -104,4 +104,13 @@ pub fn is_fixed(tree: &Tree) -> bool
     ensures { result ≡ is_fixed_word (node_of tree.now) }
 {
     words::is_fixed(word(tree))
+}
+
+/// The first so many of some trees and the others, or all where there are fewer.
+pub fn split(trees: &[Tree], count: usize) -> (&[Tree], &[Tree])
+    ensures front { nodes_in result.0.now ≡ take count (nodes_in trees.now) }
+    ensures back { nodes_in result.1.now ≡ drop count (nodes_in trees.now) }
+    ensures fewer { length result.1.now ≤ length trees.now }
+{
+    trees.split_at(count.min(trees.len()))
 }

@@ -1,9 +1,12 @@
 //! Words as a factor keeps them: a name and where it stands.
 
 ghost use Rattle.std.specs.Prelude.{◌≡◌, IfOk};
-ghost use Rattle.mp_sexp.specs.Node.{node_of, nodes_in};
-ghost use Rattle.mp_factor.specs.Values.Words.{word_value, word_values, first_word};
+ghost use Rattle.mp_sexp.specs.Node.{node_of};
+ghost use Rattle.mp_factor.specs.Found.{found_in};
+ghost use Rattle.mp_factor.specs.Rules.Words.{word_at, name_rule, variable_rule};
 
+use crate::found::{Form, Found, shape_fault};
+use crate::trees::{is_name, is_variable, place};
 use mp_list::{Copied, OutOfMemory, SmallList};
 use mp_sexp::{Name, Place, Tree};
 use std::alloc::Global;
@@ -29,9 +32,8 @@ impl Copied for Word {
 }
 
 /// The word that a tree is; of a list, the empty word at its bracket.
-#[tactic(auto, unfolding(crate::specs::Values::Words::word_value))]
 pub fn word_in(alloc: Global, tree: &Tree) -> Result<Word, OutOfMemory>
-    ensures { IfOk result (λ word. word ≡ word_value (node_of tree.now)) }
+    ensures { IfOk result (λ word. word ≡ word_at (node_of tree.now)) }
 {
     match tree {
         Tree::Word(name, at) => Ok(Word {
@@ -45,27 +47,36 @@ pub fn word_in(alloc: Global, tree: &Tree) -> Result<Word, OutOfMemory>
     }
 }
 
-/// The words that some trees are.
-#[tactic(auto, using(crate::proofs::BuildSteps::append_steps), unfolding(crate::specs::Values::Words::word_values))]
-pub fn words_in(alloc: Global, trees: &[Tree]) -> Result<WordList, OutOfMemory>
-    ensures { IfOk result (λ words. words ≡ word_values (nodes_in trees.now)) }
-{
-    let mut words = SmallList::new(alloc);
-    for tree in trees {
-        words.push(word_in(alloc, tree)?)?;
+/// A name.
+#[derive(Clone, Copy)]
+pub struct NameForm;
+
+#[tactic(auto, unfolding(crate::specs::Rules::Words::name_rule))]
+impl Form<Word> for NameForm {
+    ghost rule = { λ form node. name_rule node };
+
+    fn read(&self, alloc: Global, tree: &Tree) -> Result<Found<Word>, OutOfMemory> {
+        if is_name(tree) {
+            Ok(Ok(word_in(alloc, tree)?))
+        } else {
+            Ok(shape_fault(alloc, place(tree)))
+        }
     }
-    Ok(words)
 }
 
-/// The word that comes first; where there is none, an empty one.
-pub fn first_word_in(alloc: Global, trees: &[Tree]) -> Result<Word, OutOfMemory>
-    ensures { IfOk result (λ word. word ≡ first_word (nodes_in trees.now)) }
-{
-    match trees {
-        [] => Ok(Word {
-            name: Name::new(alloc),
-            at: Place { line: 0, column: 0 },
-        }),
-        [tree, ..] => word_in(alloc, tree),
+/// A variable.
+#[derive(Clone, Copy)]
+pub struct VariableForm;
+
+#[tactic(auto, unfolding(crate::specs::Rules::Words::variable_rule))]
+impl Form<Word> for VariableForm {
+    ghost rule = { λ form node. variable_rule node };
+
+    fn read(&self, alloc: Global, tree: &Tree) -> Result<Found<Word>, OutOfMemory> {
+        if is_variable(tree) {
+            Ok(Ok(word_in(alloc, tree)?))
+        } else {
+            Ok(shape_fault(alloc, place(tree)))
+        }
     }
 }

@@ -1,9 +1,8 @@
 //! Two files of the right shape, checked together.
 
-ghost use Rattle.std.specs.Prelude.{◌≡◌, [], true, IfOk};
+ghost use Rattle.std.specs.Prelude.{◌≡◌, true, IfOk};
 ghost use Rattle.mp_sexp.specs.Node.{node_of};
-ghost use Rattle.mp_factor.specs.Values.Files.{domain_value, problem_value};
-ghost use Rattle.mp_typing.specs.CheckFaults.{check_faults};
+ghost use Rattle.mp_file_hints.specs.Accepted.{HaveNames};
 
 use mp_check_hints::{Pair, tell_check};
 use mp_factor::{Domain, ShapeRefusal, domain, problem};
@@ -23,8 +22,8 @@ fn has_increases(domain: &Domain) -> bool {
 
 /// Why two files are no factor; where they are one, whether actions increase a total cost that is not to be least.
 fn checked(alloc: Global, pair: &Pair<'_>) -> Result<Result<bool, CheckRefusal>, ShapeRefusal>
-    ensures { IfOk result (λ found. IfOk found (λ _. check_faults
-        (domain_value (node_of pair.now.domain_tree.now)) (problem_value (node_of pair.now.problem_tree.now)) ≡ [])) }
+    ensures { IfOk result (λ found. IfOk found (λ _.
+        HaveNames (node_of pair.now.domain_tree.now) (node_of pair.now.problem_tree.now))) }
 {
     let first = domain(alloc, pair.domain_tree)?;
     let second = problem(alloc, pair.problem_tree)?;
@@ -64,8 +63,8 @@ pub(crate) fn is_factor(
     out: &mut String,
     pair: &Pair<'_>,
 ) -> Result<bool, OutOfMemory>
-    ensures { IfOk result (λ fine. fine ≡ true → check_faults
-        (domain_value (node_of pair.now.domain_tree.now)) (problem_value (node_of pair.now.problem_tree.now)) ≡ []) }
+    ensures { IfOk result (λ fine. fine ≡ true →
+        HaveNames (node_of pair.now.domain_tree.now) (node_of pair.now.problem_tree.now)) }
 {
     match checked(alloc, pair) {
         Ok(Ok(lacks_metric)) => {

@@ -50,19 +50,19 @@ fn tell_fault(
     file: FileText<'_>,
     which: File,
     tree: &Tree,
-    fault: &Fault<'_>,
+    fault: &Fault,
 ) -> Result<(), AllocError> {
-    match (fault.kind, fault.word) {
-        (FaultKind::Unsupported, Some(name)) => {
-            let word = text_of(name.as_slice());
+    match fault.kind {
+        FaultKind::Unsupported => {
+            let word = text_of(fault.word.as_slice());
             tell_unsupported_word(alloc, out, file, which, tree, word, fault.place)
         }
-        (kind, _) => tell_shape(out, file, which, tree, kind, fault.place),
+        kind => tell_shape(out, file, which, tree, kind, fault.place),
     }
 }
 
 /// The first fault of a file's tree. Refuses only for want of memory.
-fn fault_of(alloc: Global, which: File, tree: &Tree) -> Result<Option<Fault<'_>>, OutOfMemory>
+fn fault_of(alloc: Global, which: File, tree: &Tree) -> Result<Option<Fault>, OutOfMemory>
     ensures { IfOk result (λ fault. IfNone fault (shape_faults which (node_of tree.now) ≡ [])) }
 {
     match which {

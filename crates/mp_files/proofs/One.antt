@@ -1,10 +1,10 @@
 -- What the files of a team lead to is one thing alone.
 use Rattle.std.proofs.Common.{◌≡◌, ◌<◌, ◌≤◌, ◌⊎◌, inl, inr, ℕ, zero, suc, List, [], length, map, Option, Some, None, Result, Ok, Err, refl, sym, ap, ◌∙◌, subst, arith}
 use Rattle.std.specs.Prelude.{Contains}
-use Rattle.mp_factor.specs.Values.Files.{domain_value, problem_value}
-use Rattle.mp_factor.specs.Faults.Files.{domain_faults, problem_faults}
-use Rattle.mp_factor.specs.Faults.First.{IsFirst as IsFirstOf}
-use Rattle.mp_factor.specs.Fault.{Fault as ShapeFault}
+use Rattle.mp_factor.specs.Faults.{IsFirst as IsFirstOf}
+use Rattle.mp_factor.specs.Reading.{Reading as ShapeReading, faults_in}
+use Rattle.mp_factor.specs.Rules.Files.{domain_rule, problem_rule}
+use Rattle.mp_factor.specs.declared.fault.Fault.{Fault as ShapeFault}
 use Rattle.mp_factor.specs.declared.factor.Factor.{Factor}
 use Rattle.mp_factor.specs.declared.files.File.TheVariants as file
 use Rattle.mp_joint.specs.Fact.{Text}
@@ -88,20 +88,20 @@ none_first faults first none is =
     let among : Contains [] first = subst (λ fs. Contains fs first) none is.among in
     absurd (omega (arith, among.1))
 
-one_shape : {X : Type 0} → Laws → (at : FileOf) (faults : List ShapeFault) (value : X) → IsOne (HasShape at faults value)
-one_shape laws at faults value (Ok m) (Ok n) h k = ap Ok (h.0 ∙ sym k.0)
-one_shape laws at faults value (Ok m) (Err r) h k = absurd (none_first faults k.0 h.1 k.1)
-one_shape laws at faults value (Err r) (Ok n) h k = absurd (none_first faults h.0 k.1 h.1)
-one_shape laws at faults value (Err r) (Err s) h k =
-    ap Err (h.2 ∙ ap (shape_refusal at) (laws.one_first faults h.0 k.0 h.1 k.1) ∙ sym k.2)
+one_shape : {X : Type 0} → Laws → (at : FileOf) (read : ShapeReading X) → IsOne (HasShape at read)
+one_shape laws at read (Ok m) (Ok n) h k = ap Ok (let same : m ≡ n = cc in same)
+one_shape {X} laws at read (Ok m) (Err r) h k = absurd (none_first (faults_in read) k.0 (ap (λ (s : ShapeReading X). faults_in s) h) k.1)
+one_shape {X} laws at read (Err r) (Ok n) h k = absurd (none_first (faults_in read) h.0 (ap (λ (s : ShapeReading X). faults_in s) k) h.1)
+one_shape laws at read (Err r) (Err s) h k =
+    ap Err (h.2 ∙ ap (shape_refusal at) (laws.one_first (faults_in read) h.0 k.0 h.1 k.1) ∙ sym k.2)
 
 one_domain : Laws → (at : FileOf) (text : Text) → IsOne (SaysDomain at text)
 one_domain laws at text =
-    one_then (Spells at text) _ (one_spelled laws at text) (λ node. one_shape laws at (domain_faults node) (domain_value node))
+    one_then (Spells at text) _ (one_spelled laws at text) (λ node. one_shape laws at (domain_rule node))
 
 one_problem : Laws → (at : FileOf) (text : Text) → IsOne (SaysProblem at text)
 one_problem laws at text =
-    one_then (Spells at text) _ (one_spelled laws at text) (λ node. one_shape laws at (problem_faults node) (problem_value node))
+    one_then (Spells at text) _ (one_spelled laws at text) (λ node. one_shape laws at (problem_rule node))
 
 none_checked : (faults : List CheckFault) (first : CheckFault) → faults ≡ [] → IsFirstCheck faults first → ⊥
 none_checked faults first none is =

@@ -1,13 +1,13 @@
 -- What a file leads to: its text, where it is there and not too long; what its text says, where that is well
 -- formed; and the factor of two files, where nothing is wrong with its names.
-use Rattle.std.specs.Prelude.{◌≡◌, ◌<◌, ◌≤◌, ℕ, List, [], length, Option, Some, None, Ok, Err, IsSomeAnd}
-use Rattle.mp_factor.specs.Faults.Files.{domain_faults, problem_faults}
-use Rattle.mp_factor.specs.Faults.First.{IsFirst as IsFirstOf}
-use Rattle.mp_factor.specs.Fault.{Fault as ShapeFault}
+use Rattle.std.specs.Prelude.{◌≡◌, ◌<◌, ◌≤◌, ℕ, [], length, Option, Some, None, Ok, Err, IsSomeAnd}
+use Rattle.mp_factor.specs.Faults.{IsFirst as IsFirstOf}
+use Rattle.mp_factor.specs.Reading.{Reading as ShapeReading, Says as ShapeSays, faults_in}
+use Rattle.mp_factor.specs.Rules.Files.{domain_rule, problem_rule}
+use Rattle.mp_factor.specs.declared.fault.Fault.{Fault as ShapeFault}
 use Rattle.mp_factor.specs.declared.fault.FaultKind.{FaultKind}
 use Rattle.mp_factor.specs.declared.fault.FaultKind.TheVariants as shape
 use Rattle.mp_factor.specs.FactorParts.{DomainParts, ProblemParts}
-use Rattle.mp_factor.specs.Values.Files.{domain_value, problem_value}
 use Rattle.mp_factor.specs.declared.factor.Factor.{Factor}
 use Rattle.mp_factor.specs.declared.refusal.ShapeRefusal.{ShapeRefusal}
 use Rattle.mp_factor.specs.declared.refusal.ShapeRefusal.TheVariants as shapes
@@ -85,19 +85,19 @@ told_shape at (shapes.Parameters place) = why.Fault at fault.Parameters place
 told_shape at (shapes.Cost place) = why.Fault at fault.Cost place
 told_shape at shapes.OutOfMemory = why.OutOfMemory
 
--- a tree without faults of shape leads to what it says
-abbrev pub HasShape : {X : Type 0} → FileOf → List ShapeFault → X → Reading X
-HasShape at faults value (Ok said) = (said ≡ value) × (faults ≡ [])
-HasShape at faults value (Err r) =
-    (first : ShapeFault) × IsFirstOf faults first × (r ≡ shape_refusal at first)
+-- a tree leads to what it says, where nothing is wrong with its shape
+abbrev pub HasShape : {X : Type 0} → FileOf → ShapeReading X → Reading X
+HasShape at read (Ok said) = read ≡ ShapeSays said
+HasShape at read (Err r) =
+    (first : ShapeFault) × IsFirstOf (faults_in read) first × (r ≡ shape_refusal at first)
 
 -- a text leads to the domain that it says
 abbrev pub SaysDomain : FileOf → Text → Reading DomainParts
-SaysDomain at text = Then (Spells at text) (λ node. HasShape at (domain_faults node) (domain_value node))
+SaysDomain at text = Then (Spells at text) (λ node. HasShape at (domain_rule node))
 
 -- and to the problem
 abbrev pub SaysProblem : FileOf → Text → Reading ProblemParts
-SaysProblem at text = Then (Spells at text) (λ node. HasShape at (problem_faults node) (problem_value node))
+SaysProblem at text = Then (Spells at text) (λ node. HasShape at (problem_rule node))
 
 -- what a fault that the checks find is here, by its kind
 abbrev pub check_fault : Text → CheckKind → Fault

@@ -1,8 +1,7 @@
 //! What the text of a file says, and the factor of two files.
 
 ghost use Rattle.std.specs.Prelude.{◌≡◌, ◌≤◌, Ok, IfOk, IfErr, vec_len};
-ghost use Rattle.mp_factor.specs.Values.Files.{domain_value, problem_value};
-ghost use Rattle.mp_factor.specs.Faults.Files.{domain_faults, problem_faults};
+ghost use Rattle.mp_factor.specs.Rules.Files.{domain_rule, problem_rule};
 ghost use Rattle.mp_sexp.specs.Node.{node_of};
 ghost use Rattle.mp_sexp.specs.Spelling.{HasTree};
 ghost use Rattle.mp_files.specs.File.{Checks, HasShape, SaysDomain, SaysProblem, Spells, longest_file};
@@ -76,10 +75,8 @@ fn refusal_of_check(agent: usize, refusal: CheckRefusal) -> Refusal
 
 /// What a domain's tree says.
 fn said_domain(alloc: Global, tree: &Tree, file: FileOf) -> Result<Domain, Refusal>
-    ensures said { IfOk result (λ said. HasShape file
-        (domain_faults (node_of tree.now)) (domain_value (node_of tree.now)) (Ok said)) }
-    ensures cause { IfErr result (Refuses (HasShape file
-        (domain_faults (node_of tree.now)) (domain_value (node_of tree.now)))) }
+    ensures said { IfOk result (λ said. HasShape file (domain_rule (node_of tree.now)) (Ok said)) }
+    ensures cause { IfErr result (Refuses (HasShape file (domain_rule (node_of tree.now)))) }
 {
     match domain(alloc, tree) {
         Ok(said) => Ok(said),
@@ -89,10 +86,8 @@ fn said_domain(alloc: Global, tree: &Tree, file: FileOf) -> Result<Domain, Refus
 
 /// What a problem's tree says, which is let go.
 fn said_problem(alloc: Global, tree: Tree, file: FileOf) -> Result<Problem, Refusal>
-    ensures said { IfOk result (λ said. HasShape file
-        (problem_faults (node_of tree)) (problem_value (node_of tree)) (Ok said)) }
-    ensures cause { IfErr result (Refuses (HasShape file
-        (problem_faults (node_of tree)) (problem_value (node_of tree)))) }
+    ensures said { IfOk result (λ said. HasShape file (problem_rule (node_of tree)) (Ok said)) }
+    ensures cause { IfErr result (Refuses (HasShape file (problem_rule (node_of tree)))) }
 {
     match into_problem(alloc, tree) {
         Ok(said) => Ok(said),

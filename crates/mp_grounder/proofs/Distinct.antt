@@ -5,7 +5,7 @@ use Rattle.std.proofs.lemmas.List.Folds.{list_any-append}
 use Rattle.std.proofs.lemmas.Slice.Eq.{bytes_eq-Decides}
 use Rattle.std.specs.Str.{bytes_eq}
 use Rattle.mp_list.specs.Repeats.{repeats_behind, if_repeated, is_among_keys}
-use Rattle.mp_factor.proofs.NoFaults.{not_empty}
+use Rattle.mp_grounder.proofs.NoFaults.{not_empty}
 use Rattle.mp_factor.specs.declared.files.File.{File}
 use Rattle.mp_factor.specs.declared.word.Word.{Word}
 use Rattle.mp_factor.specs.declared.typed_values.Typed.{Typed}

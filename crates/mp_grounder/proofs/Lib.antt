@@ -1,7 +1,8 @@
--- in reading order: lists of names of which none comes twice; names by their numbers; what a checked factor is known
--- for; facts and their atoms; small costs; lists that are mapped and filtered; atoms in numbers and facts by names;
--- what instances need, add and delete; the texts of facts; the start; costs; static preconditions; lists of member
--- objects; all instances; what is in range; the counted facts; their listing by names; what is tried
+-- in reading order: lists of faults that are empty; lists of names of which none comes twice; names by their numbers; what a
+-- checked factor is known for; facts and their atoms; small costs; lists that are mapped and filtered; atoms in numbers and
+-- facts by names; what instances need, add and delete; the texts of facts; the start; costs; static preconditions; lists of
+-- member objects; all instances; what is in range; the counted facts; their listing by names; what is tried
+pub mod NoFaults
 pub mod Distinct
 pub mod Numbered
 pub mod Parts

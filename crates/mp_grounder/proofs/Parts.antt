@@ -5,7 +5,7 @@ use Rattle.std.proofs.lemmas.List.Elements.{All-nil, All-cons, All-head, All-tai
 use Rattle.std.specs.List.{find, flat_map}
 use Rattle.std.specs.Option.{option_map, is_none}
 use Rattle.std.specs.Str.{bytes_eq}
-use Rattle.mp_factor.proofs.NoFaults.{not_empty, none_in_first, none_in_second, not_else}
+use Rattle.mp_grounder.proofs.NoFaults.{not_empty, none_in_first, none_in_second, not_else}
 use Rattle.mp_factor.specs.declared.files.File.{File}
 use Rattle.mp_factor.specs.declared.files.File.TheVariants as files
 use Rattle.mp_factor.specs.declared.word.Word.{Word}

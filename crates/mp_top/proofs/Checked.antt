@@ -7,7 +7,7 @@ use Rattle.mp_factor.specs.FactorParts.{DomainParts, ProblemParts}
 use Rattle.mp_factor.specs.FromFile.{IsDomainOfFile, IsProblemOfFile}
 use Rattle.mp_factor.specs.declared.factor.Factor.{Factor}
 use Rattle.mp_factor.specs.declared.files.File.TheVariants as file
-use Rattle.mp_factor.proofs.FileLemmas.{domain_of_file_fits, domain_of_file_is_named, problem_of_file_fits, problem_of_file_is_named}
+use Rattle.mp_factor.proofs.TakenFiles.{domain_of_file_fits, domain_of_file_is_named, problem_of_file_fits, problem_of_file_is_named}
 use Rattle.mp_files.specs.File.{Checks, Parts, SaysDomain, SaysProblem, file_of}
 use Rattle.mp_files.specs.Team.{IsReadTeam, ReadsTexts, Says, Two}
 use Rattle.mp_files.specs.declared.refusal.FileOf.{FileOf}
@@ -25,10 +25,10 @@ all_places P [] f = All-nil P
 all_places P (x ∷ xs) f = All-cons P x xs (f zero x refl) (all_places P xs (λ k y at. f (suc k) y at))
 
 domain_said : (at : FileOf) (text : Text) (domain : DomainParts) → SaysDomain at text (Ok domain) → IsDomainOfFile domain
-domain_said at text domain (node, tree, (value, none)) = record { node = node; shape = none; value = value }
+domain_said at text domain (node, tree, says) = record { node = node; says = says }
 
 problem_said : (at : FileOf) (text : Text) (problem : ProblemParts) → SaysProblem at text (Ok problem) → IsProblemOfFile problem
-problem_said at text problem (node, tree, (value, none)) = record { node = node; shape = none; value = value }
+problem_said at text problem (node, tree, says) = record { node = node; says = says }
 
 -- a factor of two files in which nothing is wrong
 of_files : (domain : DomainParts) (problem : ProblemParts) (agent : ℕ) (factor : Factor) → IsDomainOfFile domain → IsProblemOfFile problem → Checks agent (record { domain = domain; problem = problem }) (Ok factor) → IsChecked factor

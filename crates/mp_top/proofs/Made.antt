@@ -5,9 +5,8 @@ use Rattle.std.proofs.lemmas.List.FromFn.{length-map-range_with_len, length-rang
 use Rattle.std.proofs.lemmas.Fmt.{decimal_digit}
 use Rattle.std.specs.Prelude.{codes}
 use Rattle.std.specs.List.{flat_map, range_with_len}
-use Rattle.mp_factor.specs.Faults.Files.{domain_faults, problem_faults}
-use Rattle.mp_factor.specs.Fault.{Fault as ShapeFault}
-use Rattle.mp_factor.specs.Values.Files.{domain_value, problem_value}
+use Rattle.mp_factor.specs.Reading.{Reading as ShapeReading}
+use Rattle.mp_factor.specs.Rules.Files.{domain_rule, problem_rule}
 use Rattle.mp_factor.specs.FactorParts.{DomainParts, ProblemParts}
 use Rattle.mp_factor.specs.declared.factor.Factor.{Factor}
 use Rattle.mp_factor.specs.declared.files.File.TheVariants as file
@@ -91,16 +90,16 @@ module _ (at : FileOf) where
   never_spelled : (of : FileOf) (t : Text) → Never (Spells of t)
   never_spelled of t (first, fault, e) = never_text of first e
 
-  never_shaped : {X : Type 0} (of : FileOf) (faults : List ShapeFault) (value : X) → Never (HasShape of faults value)
-  never_shaped of faults value (first, is, e) = absurd (cc)
+  never_shaped : {X : Type 0} (of : FileOf) (read : ShapeReading X) → Never (HasShape of read)
+  never_shaped of read (first, is, e) = absurd (cc)
 
   never_domain : (of : FileOf) (t : Text) → Never (SaysDomain of t)
   never_domain of t =
-      never_then {Y = DomainParts} (Spells of t) (λ node. HasShape of (domain_faults node) (domain_value node)) (never_spelled of t) (λ node. never_shaped of (domain_faults node) (domain_value node))
+      never_then {Y = DomainParts} (Spells of t) (λ node. HasShape of (domain_rule node)) (never_spelled of t) (λ node. never_shaped of (domain_rule node))
 
   never_problem : (of : FileOf) (t : Text) → Never (SaysProblem of t)
   never_problem of t =
-      never_then {Y = ProblemParts} (Spells of t) (λ node. HasShape of (problem_faults node) (problem_value node)) (never_spelled of t) (λ node. never_shaped of (problem_faults node) (problem_value node))
+      never_then {Y = ProblemParts} (Spells of t) (λ node. HasShape of (problem_rule node)) (never_spelled of t) (λ node. never_shaped of (problem_rule node))
 
   never_given : {X : Type 0} (x : X) → Never (Gives x)
   never_given x h = h

@@ -14,6 +14,6 @@ returns c =
     (c.cmp.ensures ∙ ap (λ (ns : List ℕ). slice_cmp nat_cmp ns c.order-2.result) c.order.ensures
     ∙ ap (λ (ns : List ℕ). slice_cmp nat_cmp (numbers_of a) ns) c.order-2.ensures)
     ∙ ap (λ (o : Ordering). is_lt (ordering_then numbers o))
-    (c.cmp-2.ensures ∙ ap (λ (ns : List ℕ). slice_cmp nat_cmp ns c.word_bytes-2.result.now) c.word_bytes.ensures
-    ∙ ap (λ (ns : List ℕ). slice_cmp nat_cmp a.word ns) c.word_bytes-2.ensures)
+    (c.cmp-2.ensures ∙ ap (λ (ns : List ℕ). slice_cmp nat_cmp ns c.as_slice-2.result.now) c.as_slice.ensures.bytes
+    ∙ ap (λ (ns : List ℕ). slice_cmp nat_cmp a.word ns) c.as_slice-2.ensures.bytes)
     ∙ sym (earlier_by a b)

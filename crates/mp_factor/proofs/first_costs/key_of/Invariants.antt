@@ -1,7 +1,7 @@
-use Rattle.std.proofs.Common.{◌≡◌, ◌++◌, drop}
-use Rattle.mp_sexp.specs.Node.{nodes_in}
-use Rattle.mp_factor.specs.Faults.FirstCosts.{key_of}
+use Rattle.std.proofs.Common.{◌≡◌, ◌++◌, drop, map}
+use Rattle.mp_factor.specs.FirstCosts.{key_of}
+use Rattle.mp_factor.specs.Limits.{name_of_term, names_of_atom}
 use Rattle.mp_factor.proofs.first_costs.key_of.Given as goal
 
-abbrev pub invariant-loop-tree : goal.invariant-loop-tree
-invariant-loop-tree l = l.key.items ++ key_of (nodes_in (drop l.tree-index l.words)) ≡ key_of (nodes_in l.words)
+abbrev pub invariant-loop-term : goal.invariant-loop-term
+invariant-loop-term l = l.key.items ++ key_of (map name_of_term (drop l.term-index l.function.terms)) ≡ key_of (names_of_atom l.function)

@@ -1,7 +1,6 @@
-use Rattle.std.proofs.Common.{◌≡◌, List, true, sym, subst, ap, ◌∙◌}
+use Rattle.std.proofs.Common.{List, sym, subst, ◌∙◌}
 use Rattle.mp_sexp.specs.declared.tree.Tree.{Tree}
-use Rattle.mp_sexp.specs.Node.{node_of, nodes_in}
-use Rattle.mp_factor.specs.Parts.{is_headed}
+use Rattle.mp_sexp.specs.Node.{nodes_in}
 use Rattle.mp_factor.specs.KeptSections.{KeepsOthers}
 use Rattle.mp_factor.proofs.SectionLemmas.{kept_with_one_more}
 use Rattle.mp_factor.proofs.let_go.let_go.Goals as goal

@@ -1,20 +1,27 @@
-use Rattle.std.proofs.Common.{◌≡◌, List, refl, ap, ◌∙◌}
-use Rattle.mp_sexp.specs.Node.{Node, node_of, nodes_in}
-use Rattle.mp_factor.specs.Parts.{parts, rest_of}
-use Rattle.mp_factor.specs.Values.Files.{domain_parts, domain_value}
-use Rattle.mp_factor.specs.FromFile.{IsDomainOfFile}
-use Rattle.mp_factor.specs.Faults.Files.{domain_faults}
-use Rattle.mp_factor.proofs.FirstLemmas.{none_there}
+use Rattle.std.proofs.Common.{Ok, inr, sym, ap, ◌∙◌}
+use Rattle.mp_sexp.specs.Node.{node_of}
+use Rattle.mp_factor.specs.Found.{said_found}
+use Rattle.mp_factor.specs.FoundForms.{domain_from}
+use Rattle.mp_factor.specs.Rules.Files.{domain_rule}
+use Rattle.mp_factor.proofs.FoundLemmas.{found_says, found_wrong}
 use Rattle.mp_factor.proofs.shape.domain.Goals as goal
 
-pub domain_of-requires : goal.domain_of-requires
-unfolding domain_value
-domain_of-requires c =
-    let read : nodes_in c.behind_first.result.now ≡ rest_of (parts (node_of c.args.tree.now)) =
-    c.behind_first.ensures ∙ ap (λ (ns : List Node). rest_of ns) c.members.ensures in
-    let said : IsDomainOfFile (domain_parts (rest_of (parts (node_of c.args.tree.now)))) = record {
-      node = node_of c.args.tree.now;
-      shape = none_there (domain_faults (node_of c.args.tree.now)) _ c.in-None.is c.in_ok-fault.ensures;
-      value = refl;
-    } in
-    rw read said
+pub domain_with-requires : goal.domain_with-requires
+domain_with-requires c = record {
+  node = node_of c.args.tree.now;
+  says = found_says (domain_rule (node_of c.args.tree.now)) (domain_from c.in-Ok.parts) (sym c.in_ok-parts.ensures ∙ ap (λ r. said_found domain_from r) c.in-Ok.is);
+}
+
+pub returns-in-Ok-clause-said : goal.returns-in-Ok-clause-said
+returns-in-Ok-clause-said c =
+    found_says (domain_rule (node_of c.args.tree.now)) _
+    (sym c.in_ok-parts.ensures ∙ ap (λ r. said_found domain_from r) c.in-Ok.is ∙ ap Ok (sym c.domain_with.ensures))
+
+pub returns-in-Err-clause-fault : goal.returns-in-Err-clause-fault
+returns-in-Err-clause-fault c =
+    inr (
+      c.in-Err.fault,
+      found_wrong (domain_rule (node_of c.args.tree.now)) c.in-Err.fault
+          (sym c.in_ok-parts.ensures ∙ ap (λ r. said_found domain_from r) c.in-Err.is),
+      c.refusal_of.ensures,
+    )

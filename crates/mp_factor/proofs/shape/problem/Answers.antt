@@ -1,20 +1,27 @@
-use Rattle.std.proofs.Common.{◌≡◌, List, refl, ap, ◌∙◌}
-use Rattle.mp_sexp.specs.Node.{Node, node_of, nodes_in}
-use Rattle.mp_factor.specs.Parts.{parts, rest_of}
-use Rattle.mp_factor.specs.Values.Files.{problem_parts, problem_value}
-use Rattle.mp_factor.specs.FromFile.{IsProblemOfFile}
-use Rattle.mp_factor.specs.Faults.Files.{problem_faults}
-use Rattle.mp_factor.proofs.FirstLemmas.{none_there}
+use Rattle.std.proofs.Common.{Ok, inr, sym, ap, ◌∙◌}
+use Rattle.mp_sexp.specs.Node.{node_of}
+use Rattle.mp_factor.specs.Found.{said_found}
+use Rattle.mp_factor.specs.FoundForms.{problem_from}
+use Rattle.mp_factor.specs.Rules.Files.{problem_rule}
+use Rattle.mp_factor.proofs.FoundLemmas.{found_says, found_wrong}
 use Rattle.mp_factor.proofs.shape.problem.Goals as goal
 
-pub problem_of-requires : goal.problem_of-requires
-unfolding problem_value
-problem_of-requires c =
-    let read : nodes_in c.behind_first.result.now ≡ rest_of (parts (node_of c.args.tree.now)) =
-    c.behind_first.ensures ∙ ap (λ (ns : List Node). rest_of ns) c.members.ensures in
-    let said : IsProblemOfFile (problem_parts (rest_of (parts (node_of c.args.tree.now)))) = record {
-      node = node_of c.args.tree.now;
-      shape = none_there (problem_faults (node_of c.args.tree.now)) _ c.in-None.is c.in_ok-fault.ensures;
-      value = refl;
-    } in
-    rw read said
+pub problem_with-requires : goal.problem_with-requires
+problem_with-requires c = record {
+  node = node_of c.args.tree.now;
+  says = found_says (problem_rule (node_of c.args.tree.now)) (problem_from c.in-Ok.parts) (sym c.in_ok-parts.ensures ∙ ap (λ r. said_found problem_from r) c.in-Ok.is);
+}
+
+pub returns-in-Ok-clause-said : goal.returns-in-Ok-clause-said
+returns-in-Ok-clause-said c =
+    found_says (problem_rule (node_of c.args.tree.now)) _
+    (sym c.in_ok-parts.ensures ∙ ap (λ r. said_found problem_from r) c.in-Ok.is ∙ ap Ok (sym c.problem_with.ensures))
+
+pub returns-in-Err-clause-fault : goal.returns-in-Err-clause-fault
+returns-in-Err-clause-fault c =
+    inr (
+      c.in-Err.fault,
+      found_wrong (problem_rule (node_of c.args.tree.now)) c.in-Err.fault
+          (sym c.in_ok-parts.ensures ∙ ap (λ r. said_found problem_from r) c.in-Err.is),
+      c.refusal_of.ensures,
+    )

@@ -1,0 +1,336 @@
+-- What actions, sections and files say is written in their tree, and keeps the limits.
+use Rattle.std.proofs.Common.{◌≡◌, ℕ, zero, suc, ◌+◌, ◌≤◌, Bool, true, false, List, [], ◌∷◌, take, Some, All, length, length-append, arith}
+use Rattle.std.specs.Prelude.{codes}
+use Rattle.std.specs.List.{filter, flat_map}
+use Rattle.std.proofs.lemmas.List.Elements.{All-nil, All-cons, All-head, All-tail, All-append, All-take, All-map, All-weaker, All-filter}
+use Rattle.mp_sexp.specs.declared.tree.Place.{Place}
+use Rattle.mp_sexp.specs.Node.{Node}
+use Rattle.mp_factor.specs.declared.fault.FaultKind.TheVariants.{Parameters}
+use Rattle.mp_factor.specs.declared.word.Word.{Word}
+use Rattle.mp_factor.specs.declared.typed_values.Typed.{Typed}
+use Rattle.mp_factor.specs.declared.literal.Literal.{Literal}
+use Rattle.mp_factor.specs.declared.effect_values.Increase.{Increase}
+use Rattle.mp_factor.specs.declared.effect_values.Increase.TheVariants.{Number, Function}
+use Rattle.mp_factor.specs.declared.effect_values.Effect.{Effect}
+use Rattle.mp_factor.specs.declared.init_values.Value.{Value}
+use Rattle.mp_factor.specs.declared.schema_values.Schema.{Schema}
+use Rattle.mp_factor.specs.FactorParts.{DomainParts, ProblemParts}
+use Rattle.mp_factor.specs.Faults.{fault_at}
+use Rattle.mp_factor.specs.Parts.{place_of, parts, rest_of, is_list, is_headed, is_word, is_variable_word}
+use Rattle.mp_factor.specs.Numbers.{cost_of, greatest_cost}
+use Rattle.mp_factor.specs.Limits.{most_parameters, IsAllowedIncrease, SchemaFits, DomainFits, ProblemFits}
+use Rattle.mp_factor.specs.Named.{IsTypedOf, IsSignatureOf, IsAtomOf, IsLiteralOf, IsIncreaseOf, IsValueOf, IsSchemaOf, IsDomainOf, IsProblemOf}
+use Rattle.mp_factor.specs.Taken.{increase_costs, schema_costs, costs_of_domain, costs_of_problem}
+use Rattle.mp_factor.specs.Reading.{Reading, Says, both, wanted, alone}
+use Rattle.mp_factor.specs.Rules.Words.{name_rule, variable_rule}
+use Rattle.mp_factor.specs.Rules.Conditions.{condition_rule}
+use Rattle.mp_factor.specs.Rules.Effects.{effect_rule, no_effect}
+use Rattle.mp_factor.specs.Rules.Typed.{Listing, type_rule, typed_of, typed_rule, variables, names, objects}
+use Rattle.mp_factor.specs.Rules.Signatures.{declared_predicate, declared_function, predicates, functions}
+use Rattle.mp_factor.specs.Rules.Actions.{Key, keyed, value_length, keys_behind, keys_of, in_key, agent_rule, parameters_rule, parameter_members, schema_of, keys_rule, action_members, action_rule}
+use Rattle.mp_factor.specs.Rules.Init.{empty_start}
+use Rattle.mp_factor.specs.Rules.Sections.{in_section, listed_rule, named_rule, start_rule, goal_rule, actions_rule}
+use Rattle.mp_factor.specs.Rules.Files.{domain_of, domain_parts, domain_sections, problem_of, problem_parts, problem_sections, title_members, title_rule, define_members, file_rule, domain_rule, problem_rule}
+use Rattle.mp_factor.proofs.GivesLemmas.{Gives, Any, To, gives_any, gives_says, gives_wrong, gives_if, gives_both, gives_besides, gives_with, gives_each, gives_alone, gives_wanted, gives_once, few}
+use Rattle.mp_factor.proofs.TreeWords.{InTree, OfName, OfVariable, in_parts, in_rest}
+use Rattle.mp_factor.proofs.FormLaws.{Listed, typed_gives, all_flat, name_gives, variable_gives, type_of_gives, condition_gives, variables_listed, names_listed, objects_listed, declared_predicate_gives, declared_function_gives, with_blocks_listed}
+use Rattle.mp_factor.proofs.CountLaws.{first_named, all_named, agents_counted, lists_counted, two_named}
+use Rattle.mp_factor.proofs.EffectLaws.{IsIncrease, IsEffect, IsValue, IsStart, effect_gives, init_gives}
+
+module _ (W : Word → Type 0) (C : ℕ → Type 0) (written : (w : Word) → W w → (cost : ℕ) → cost_of w.name ≡ Some cost → C cost) where
+  abbrev In : Node → Type 0
+  In = InTree W
+
+  abbrev Name : Word → Type 0
+  Name = OfName W
+
+  abbrev IsVar : Word → Type 0
+  IsVar = OfVariable W
+
+  abbrev IsParam : Typed → Type 0
+  IsParam = IsTypedOf IsVar Name
+
+  abbrev IsObject : Typed → Type 0
+  IsObject = IsTypedOf Name Name
+
+  abbrev Literals : List Literal → Type 0
+  Literals = All (IsLiteralOf Name IsVar)
+
+  -- ---- keys
+
+  abbrev InKey : Key → Type 0
+  InKey k = In k.key × All In k.value
+
+  keys_in : (left : ℕ) (ns : List Node) → All In ns → All InKey (keys_behind left ns)
+  unfolding keys_behind
+  keys_in left [] all = All-nil InKey
+  keys_in zero (n ∷ ns) all =
+      let others = All-tail In n ns all in
+      All-cons InKey (keyed n (take (value_length n) ns)) (keys_behind (value_length n) ns)
+      (All-head In n ns all, All-take In (value_length n) ns others) (keys_in (value_length n) ns others)
+  keys_in (suc left) (n ∷ ns) all = keys_in left ns (All-tail In n ns all)
+
+  key_gives : {X : Type 0} (P : X → Type 0) (w : List ℕ) (rule : List Node → Reading X) (missing : X) → P missing
+      → ((value : List Node) → All In value → Gives P (rule value)) → (keys : List Key) → All InKey keys → Gives P (in_key w rule missing keys)
+  key_gives P w rule missing without one keys all =
+      gives_once InKey P (λ (k : Key). rule k.value) (λ (k : Key) (of : InKey k). one k.value of.1) (λ (k : Key). is_word w k.key) (λ (k : Key). place_of k.key)
+      (Says missing) keys (gives_says P missing without) all
+
+  agent_gives : (whole : Place) (value : List Node) → All In value → Gives (All IsParam) (agent_rule whole value)
+  unfolding agent_rule
+  agent_gives whole [] all = gives_wrong (All IsParam) _ []
+  agent_gives whole (a ∷ []) all = gives_wrong (All IsParam) _ []
+  agent_gives whole (a ∷ b ∷ []) all = gives_wrong (All IsParam) _ []
+  agent_gives whole (n ∷ dash ∷ type ∷ others) all =
+      let behind = All-tail In dash (type ∷ others) (All-tail In n (dash ∷ type ∷ others) all) in
+      gives_besides (All IsParam) _ (both (λ word types. typed_of false word types ∷ []) (variable_rule n) (type_rule type))
+      (λ x e. gives_both IsVar (All Name) (All IsParam) (λ word types. typed_of false word types ∷ []) (variable_rule n) (type_rule type)
+      (λ w types of each_of. All-cons IsParam (typed_of false w types) [] record { word = of; types = each_of } (All-nil IsParam))
+      (variable_gives W n (All-head In n (dash ∷ type ∷ others) all)) (type_of_gives W type (All-head In type others behind)))
+
+  parameters_gives : (n : Node) → In n → Gives (All IsParam) (parameters_rule n)
+  unfolding parameters_rule
+  parameters_gives n all =
+      gives_if (All IsParam) (is_list n) (typed_rule variables (place_of n) (parts n)) _
+      (λ is. typed_gives In IsParam (All Name) variables (variables_listed W) (place_of n) (parts n) (in_parts W n all)) (λ other. gives_wrong (All IsParam) _ [])
+
+  -- ---- actions
+
+  abbrev pub IsAction : Schema → Type 0
+  IsAction s = IsSchemaOf Name IsVar s × All C (schema_costs s) × SchemaFits s
+
+  increase_is : (i : Increase) → IsIncrease W C written i → IsIncreaseOf Name IsVar i
+  increase_is (Number cost) of = tt
+  increase_is (Function atom) of = of
+
+  increase_written : (i : Increase) → IsIncrease W C written i → All C (increase_costs i)
+  increase_written (Number cost) of = All-cons C cost [] of.0 (All-nil C)
+  increase_written (Function atom) of = All-nil C
+
+  increase_allowed : (i : Increase) → IsIncrease W C written i → IsAllowedIncrease i
+  increase_allowed (Number cost) of = of.1
+  increase_allowed (Function atom) of = tt
+
+  abbrev Params : ℕ → List Typed → Type 0
+  Params most ts = All IsParam ts × (length ts ≤ most)
+
+  action_is : (w : Word) (agent params : List Typed) (pre : List Literal) (effect : Effect) (a p most : ℕ) → a + p ≤ most → most ≤ most_parameters
+      → Name w → Params a agent → Params p params → Literals pre → IsEffect W C written effect → IsAction (schema_of w agent params pre effect)
+  action_is w agent params pre effect a p most sum le of agent_of params_of pre_of effect_of =
+      let split = length-append agent params in
+      let fewer = agent_of.1 in
+      let few = params_of.1 in
+      let Is = IsIncrease W C written in (
+        record {
+          word = of;
+          params = All-append IsParam agent params agent_of.0 params_of.0;
+          pre = pre_of;
+          add = effect_of.add;
+          del = effect_of.del;
+          increases = All-weaker Is (IsIncreaseOf Name IsVar) increase_is effect.increases effect_of.increases;
+        },
+        all_flat C increase_costs effect.increases (All-weaker Is (λ i. All C (increase_costs i)) increase_written effect.increases effect_of.increases),
+        record {
+          params = omega (arith, sum, le, split, fewer, few);
+          increases = effect_of.few;
+          costs = All-weaker Is IsAllowedIncrease increase_allowed effect.increases effect_of.increases;
+        },
+      )
+
+  keys_gives : (whole : Place) (name : Node) (keys : List Key) → In name → All InKey keys → all_named keys ≤ most_parameters → Gives IsAction (keys_rule whole name keys)
+  unfolding keys_rule
+  keys_gives whole name keys in_name all le =
+      let Agent = Params (first_named (codes ":agent") keys) in
+      let Listed = Params (first_named (codes ":parameters") keys) in
+      let E = IsEffect W C written in
+      let Fifth = To E IsAction in
+      let Fourth = To Literals Fifth in
+      let Third = To Listed Fourth in
+      let Second = To Agent Third in
+      gives_with E IsAction _ _
+      (gives_with Literals Fifth _ _
+      (gives_with Listed Fourth _ _
+      (gives_with Agent Third _ _
+      (gives_with Name Second _ _
+      (gives_says (To Name Second) schema_of (λ w of a aof p pof l lof e eof.
+      action_is w a p l e (first_named (codes ":agent") keys) (first_named (codes ":parameters") keys) (all_named keys) (two_named keys) le of aof pof lof eof))
+      (name_gives W name in_name))
+      (λ ts says. (
+        key_gives (All IsParam) (codes ":agent") (agent_rule whole) [] (All-nil IsParam) (agent_gives whole) keys all ts says,
+        agents_counted whole keys ts says,
+      )))
+      (λ ts says. (
+        key_gives (All IsParam) (codes ":parameters") (wanted parameters_rule whole) [] (All-nil IsParam)
+            (gives_wanted In (All IsParam) parameters_rule parameters_gives whole) keys all ts says,
+        lists_counted whole keys ts says,
+      )))
+      (key_gives Literals (codes ":precondition") (wanted condition_rule whole) [] (All-nil (IsLiteralOf Name IsVar))
+      (gives_wanted In Literals condition_rule (condition_gives W) whole) keys all))
+      (key_gives E (codes ":effect") (wanted effect_rule whole) no_effect record {
+        add = All-nil (IsAtomOf Name IsVar);
+        del = All-nil (IsAtomOf Name IsVar);
+        increases = All-nil (IsIncrease W C written);
+        few = omega arith;
+      }
+      (gives_wanted In E effect_rule (effect_gives W C written) whole) keys all)
+
+  action_by : (whole : Place) (ns : List Node) → All In ns → Gives IsAction (action_members whole ns)
+  action_by whole [] all = gives_wrong IsAction _ []
+  action_by whole (name ∷ members) all =
+      let keys = keys_of members in
+      gives_besides IsAction _ _ (λ x e. gives_besides IsAction _ (keys_rule whole name keys) (λ y few_say.
+      keys_gives whole name keys (All-head In name members all) (keys_in 0 members (All-tail In name members all))
+      (few most_parameters is_variable_word (λ (n : Node). fault_at (place_of n) Parameters) (flat_map parameter_members keys) y few_say)))
+
+  -- what stands behind the word of a form
+  rest_in : (n : Node) → In n → All In (rest_of (parts n))
+  rest_in n all = in_rest W (parts n) (in_parts W n all)
+
+  action_gives : (n : Node) → In n → Gives IsAction (action_rule n)
+  unfolding action_rule
+  action_gives n all = action_by (place_of n) (rest_of (parts n)) (rest_in n all)
+
+  -- ---- sections
+
+  section_gives : {X : Type 0} (P : X → Type 0) (w : List ℕ) (rule : Node → Reading X) (missing : Reading X) → Gives P missing
+      → ((n : Node) → In n → Gives P (rule n)) → (sections : List Node) → All In sections → Gives P (in_section w rule missing sections)
+  section_gives P w rule missing without one sections all = gives_once In P rule one (is_headed w) place_of missing sections without all
+
+  -- a section that is a typed list, or is not there
+  list_gives : {X T : Type 0} (P : X → Type 0) (Q : T → Type 0) (listing : Listing X T) → Listed In P Q listing → (w : List ℕ) (sections : List Node) → All In sections
+      → Gives (All P) (in_section w (listed_rule listing) (Says []) sections)
+  unfolding listed_rule
+  list_gives P Q listing listed w sections all =
+      section_gives (All P) w (listed_rule listing) (Says []) (gives_says (All P) [] (All-nil P))
+      (λ n in_n. typed_gives In P Q listing listed (place_of n) (rest_of (parts n)) (rest_in n in_n)) sections all
+
+  named_gives : (n : Node) → In n → Gives Name (named_rule n)
+  unfolding named_rule
+  named_gives n all = gives_alone In Name name_rule (name_gives W) (place_of n) (rest_of (parts n)) (rest_in n all)
+
+  start_gives : (n : Node) → In n → Gives (IsStart W C written) (start_rule n)
+  unfolding start_rule
+  start_gives n all = init_gives W C written (rest_of (parts n)) (rest_in n all)
+
+  goal_gives : (n : Node) → In n → Gives Literals (goal_rule n)
+  unfolding goal_rule
+  goal_gives n all = gives_alone In Literals condition_rule (condition_gives W) (place_of n) (rest_of (parts n)) (rest_in n all)
+
+  actions_gives : (sections : List Node) → All In sections → Gives (All IsAction) (actions_rule sections)
+  actions_gives sections all =
+      gives_each In IsAction action_rule action_gives (filter (is_headed (codes ":action")) sections) (All-filter (is_headed (codes ":action")) In sections all)
+
+  -- ---- files
+
+  title_by : (kind : List ℕ) (whole : Place) (ns : List Node) → All In ns → Gives Name (title_members kind whole ns)
+  title_by kind whole [] all = gives_wrong Name _ []
+  title_by kind whole (n ∷ ns) all =
+      gives_besides Name _ (alone name_rule whole ns) (λ x e. gives_alone In Name name_rule (name_gives W) whole ns (All-tail In n ns all))
+
+  title_gives : (kind : List ℕ) (n : Node) → In n → Gives Name (title_rule kind n)
+  unfolding title_rule
+  title_gives kind n all = title_by kind (place_of n) (parts n) (in_parts W n all)
+
+  module _ {X : Type 0} (P : X → Type 0) (kind : List ℕ) (inside : Place → Reading Word → List Node → Reading X)
+      (inside_gives : (whole : Place) (name : Reading Word) (sections : List Node) → Gives Name name → All In sections → Gives P (inside whole name sections)) where
+    define_by : (whole : Place) (ns : List Node) → All In ns → Gives P (define_members kind inside whole ns)
+    define_by whole [] all = gives_wrong P _ []
+    define_by whole (a ∷ []) all = gives_wrong P _ []
+    define_by whole (head ∷ title ∷ sections) all =
+        let others = All-tail In head (title ∷ sections) all in
+        gives_besides P _ (inside whole (title_rule kind title) sections)
+        (λ x e. inside_gives whole (title_rule kind title) sections (title_gives kind title (All-head In title sections others)) (All-tail In title sections others))
+
+    file_gives : (n : Node) → In n → Gives P (file_rule kind inside n)
+    unfolding file_rule
+    file_gives n all =
+        gives_if P (is_list n) (define_members kind inside (place_of n) (parts n)) _
+        (λ is. define_by (place_of n) (parts n) (in_parts W n all)) (λ other. gives_wrong P _ [])
+
+  abbrev pub IsDomain : DomainParts → Type 0
+  IsDomain d = IsDomainOf Name IsVar d × All C (costs_of_domain d) × DomainFits d
+
+  domain_by : (whole : Place) (name : Reading Word) (sections : List Node) → Gives Name name → All In sections → Gives IsDomain (domain_sections whole name sections)
+  unfolding domain_parts
+  domain_by whole name sections named all =
+      let Objects = All IsObject in
+      let Signatures = All (IsSignatureOf Name IsVar) in
+      let Actions = All IsAction in
+      let Sixth = To Actions IsDomain in
+      let Fifth = To Signatures Sixth in
+      let Fourth = To Signatures Fifth in
+      let Third = To Objects Fourth in
+      let Second = To Objects Third in
+      gives_besides IsDomain _ _ (λ x e. gives_with Actions IsDomain _ _
+      (gives_with Signatures Sixth _ _
+      (gives_with Signatures Fifth _ _
+      (gives_with Objects Fourth _ _
+      (gives_with Objects Third _ _
+      (gives_with Name Second _ _
+      (gives_says (To Name Second) domain_of (λ w of types types_of constants constants_of ps ps_of fs fs_of actions actions_of. (
+        record {
+          word = of;
+          types = types_of;
+          constants = constants_of;
+          predicates = ps_of;
+          functions = fs_of;
+          schemas = All-weaker IsAction (IsSchemaOf Name IsVar) (λ s is. is.0) actions actions_of;
+        },
+        all_flat C schema_costs actions (All-weaker IsAction (λ s. All C (schema_costs s)) (λ s is. is.1) actions actions_of),
+        All-weaker IsAction SchemaFits (λ s is. is.2) actions actions_of,
+      )))
+      named)
+      (list_gives IsObject (All Name) (names false) (names_listed W false) (codes ":types") sections all))
+      (list_gives IsObject (All Name) objects (objects_listed W) (codes ":constants") sections all))
+      (list_gives (IsSignatureOf Name IsVar) Any predicates (with_blocks_listed W declared_predicate (declared_predicate_gives W) false) (codes ":predicates") sections all))
+      (list_gives (IsSignatureOf Name IsVar) Any functions (with_blocks_listed W declared_function (declared_function_gives W) true) (codes ":functions") sections all))
+      (actions_gives sections all))
+
+  pub domain_gives : (n : Node) → In n → Gives IsDomain (domain_rule n)
+  domain_gives n all = file_gives IsDomain (codes "domain") domain_sections domain_by n all
+
+  abbrev pub IsProblem : ProblemParts → Type 0
+  IsProblem p = IsProblemOf Name IsVar p × All C (costs_of_problem p) × ProblemFits p
+
+  problem_by : (whole : Place) (name : Reading Word) (sections : List Node) → Gives Name name → All In sections → Gives IsProblem (problem_sections whole name sections)
+  unfolding problem_parts
+  problem_by whole name sections named all =
+      let Objects = All IsObject in
+      let S = IsStart W C written in
+      let V = IsValue W C written in
+      let Sixth : (Bool → ProblemParts) → Type 0 = To Any IsProblem in
+      let Fifth = To Literals Sixth in
+      let Fourth = To S Fifth in
+      let Third = To Objects Fourth in
+      let Second = To Name Third in
+      gives_besides IsProblem _ _ (λ x e. gives_with Any IsProblem _ _
+      (gives_with Literals Sixth _ _
+      (gives_with S Fifth _ _
+      (gives_with Objects Fourth _ _
+      (gives_with Name Third _ _
+      (gives_with Name Second _ _
+      (gives_says (To Name Second) problem_of (λ w of domain domain_of objects objects_of start start_of goals goals_of metric any. (
+        record {
+          word = of;
+          domain = domain_of;
+          objects = objects_of;
+          init = start_of.facts;
+          values = All-weaker V (IsValueOf Name IsVar) (λ v is. is.0) start.values start_of.values;
+          goals = goals_of;
+        },
+        All-map C (λ (v : Value). v.cost) start.values (All-weaker V (λ v. C v.cost) (λ v is. is.1.0) start.values start_of.values),
+        record {
+          costs = All-weaker V (λ v. v.cost ≤ greatest_cost) (λ v is. is.1.1) start.values start_of.values;
+          one_each = start_of.one_each;
+        },
+      )))
+      named)
+      (section_gives Name (codes ":domain") named_rule _ (gives_wrong Name _ []) named_gives sections all))
+      (list_gives IsObject (All Name) objects (objects_listed W) (codes ":objects") sections all))
+      (section_gives S (codes ":init") start_rule (Says empty_start) (gives_says S empty_start
+      record { facts = All-nil (IsAtomOf Name IsVar); values = All-nil V; one_each = tt }) start_gives sections all))
+      (section_gives Literals (codes ":goal") goal_rule (Says []) (gives_says Literals [] (All-nil (IsLiteralOf Name IsVar))) goal_gives sections all))
+      (gives_any _))
+
+  pub problem_gives : (n : Node) → In n → Gives IsProblem (problem_rule n)
+  problem_gives n all = file_gives IsProblem (codes "problem") problem_sections problem_by n all

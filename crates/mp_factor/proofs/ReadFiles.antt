@@ -1,0 +1,95 @@
+-- A file that is read part after part.
+use Rattle.std.proofs.Common.{◌≡◌, ◌<◌, false, List, [], ◌∷◌, length, Option, Some, None, Result, Ok, Err, refl, sym, ap, ◌∙◌, true≢false, arith}
+use Rattle.std.specs.Prelude.{ℕ, Bool, codes, IsOk, MatchOption}
+use Rattle.mp_sexp.specs.declared.tree.Place.{Place}
+use Rattle.mp_sexp.specs.declared.tree.Tree.{Tree}
+use Rattle.mp_sexp.specs.Node.{Node, word, list, nodes_in}
+use Rattle.mp_factor.specs.declared.fault.Fault.{Fault}
+use Rattle.mp_factor.specs.declared.word.Word.{Word}
+use Rattle.mp_factor.specs.declared.typed_values.Typed.{Typed}
+use Rattle.mp_factor.specs.declared.literal.Literal.{Literal}
+use Rattle.mp_factor.specs.declared.init_values.Start.{Start}
+use Rattle.mp_factor.specs.Parts.{place_of, parts}
+use Rattle.mp_factor.specs.Faults.{IsFirst}
+use Rattle.mp_factor.specs.Reading.{Reading, Says, faults_in, misshapen, besides}
+use Rattle.mp_factor.specs.Found.{found_in, said_found, second_found}
+use Rattle.mp_factor.specs.FoundForms.{problem_from}
+use Rattle.mp_factor.specs.KeptSections.{KeepsOthers}
+use Rattle.mp_factor.specs.Rules.Typed.{objects}
+use Rattle.mp_factor.specs.Rules.Init.{empty_start}
+use Rattle.mp_factor.specs.Rules.Sections.{in_section, listed_rule, named_rule, start_rule, goal_rule, metric_rule}
+use Rattle.mp_factor.specs.Rules.Files.{define_members, file_rule, problem_of, problem_parts}
+use Rattle.mp_factor.proofs.FoundLemmas.{found_both, found_says, found_wrong, said_second}
+use Rattle.mp_factor.proofs.PartLemmas.{paired, with_six}
+use Rattle.mp_factor.proofs.SectionLemmas.{same_section}
+
+-- a file by the members of its list; a word has none
+pub file_members : {X : Type 0} → (kind : List ℕ) (inside : Place → Reading Word → List Node → Reading X) (node : Node)
+    → file_rule kind inside node ≡ define_members kind inside (place_of node) (parts node)
+unfolding file_rule
+file_members kind inside (word name place) = refl
+file_members kind inside (list nodes place) = refl
+
+pub by_members : {X : Type 0} → (kind : List ℕ) (inside : Place → Reading Word → List Node → Reading X) (node : Node) (place : Place) (ns : List Node)
+    → place ≡ place_of node → ns ≡ parts node → file_rule kind inside node ≡ define_members kind inside place ns
+by_members kind inside node place ns at is = rw (at, is) (file_members kind inside node)
+
+pub too_few : {X : Type 0} → (kind : List ℕ) (inside : Place → Reading Word → List Node → Reading X) (whole : Place) (trees : List Tree)
+    → length trees < 2 → define_members kind inside whole (nodes_in trees) ≡ misshapen whole
+too_few kind inside whole [] lt = refl
+too_few kind inside whole (t ∷ []) lt = refl
+too_few kind inside whole (t ∷ u ∷ ts) lt = absurd (omega (arith, lt))
+
+pub besides_found : {X Y : Type 0} → (a : Reading X) (b : Reading Y) (first : Result X Fault) (second out : Result Y Fault)
+    → first ≡ found_in a → second ≡ found_in b → out ≡ second_found first second → out ≡ found_in (besides a b)
+besides_found {X} {Y} a b first second out is_first is_second is =
+    is
+    ∙ ap (λ (o : Result X Fault). second_found o second) is_first
+    ∙ ap (λ (o : Result Y Fault). second_found (found_in a) o) is_second
+    ∙ sym (found_both (λ x y. y) a b)
+
+-- what is said behind two readings that say nothing
+pub behind_two : {P X : Type 0} → (of : P → X) (a b : Reading (Unit {0})) (r : Reading X) (first second : Result (Unit {0}) Fault) (p inner out : Result P Fault)
+    → first ≡ found_in a → second ≡ found_in b → said_found of p ≡ found_in r → inner ≡ second_found second p → out ≡ second_found first inner
+    → said_found of out ≡ found_in (besides a (besides b r))
+behind_two {P} {X} of a b r first second p inner out is_first is_second is_p is_inner is =
+    ap (λ (o : Result P Fault). said_found of o) (is ∙ ap (λ (o : Result P Fault). second_found first o) is_inner)
+    ∙ said_second of first (second_found second p)
+    ∙ ap (λ (o : Result X Fault). second_found first o) (said_second of second p ∙ ap (λ (o : Result X Fault). second_found second o) is_p)
+    ∙ ap (λ (o : Result (Unit {0}) Fault). second_found o (second_found second (found_in r))) is_first
+    ∙ ap (λ (o : Result (Unit {0}) Fault). second_found (found_in a) (second_found o (found_in r))) is_second
+    ∙ sym (found_both (λ x y. y) a (besides b r) ∙ ap (λ (o : Result X Fault). second_found (found_in a) o) (found_both (λ x y. y) b r))
+
+-- a problem of which the objects may be gone once they are read
+pub problem_read : (whole : Place) (title : Reading Word) (sections after : List Node) → KeepsOthers (codes ":objects") sections after
+    → (name : Result Word Fault) (known : Result ((Word × Word) × List Typed) Fault)
+    (found : Result (((((Word × Word) × List Typed) × Start) × List Literal) × Bool) Fault)
+    → name ≡ found_in title
+    → known ≡ paired (paired name (found_in (in_section (codes ":domain") named_rule (misshapen whole) sections)))
+    (found_in (in_section (codes ":objects") (listed_rule objects) (Says []) sections))
+    → found ≡ paired (paired (paired known (found_in (in_section (codes ":init") start_rule (Says empty_start) after)))
+    (found_in (in_section (codes ":goal") goal_rule (Says []) after)))
+    (found_in (in_section (codes ":metric") metric_rule (Says false) after))
+    → said_found problem_from found ≡ found_in (problem_parts whole title sections)
+unfolding problem_parts
+problem_read whole title sections after kept name known found is_name is_known is =
+    let domain = in_section (codes ":domain") named_rule (misshapen whole) sections in
+    let declared = in_section (codes ":objects") (listed_rule objects) (Says []) sections in
+    let init = in_section (codes ":init") start_rule (Says empty_start) in
+    let goals = in_section (codes ":goal") goal_rule (Says []) in
+    let metric = in_section (codes ":metric") metric_rule (Says false) in
+    let same_init : init after ≡ init sections = same_section _ _ _ sections after (kept (codes ":init") refl) in
+    let same_goals : goals after ≡ goals sections = same_section _ _ _ sections after (kept (codes ":goal") refl) in
+    let same_metric : metric after ≡ metric sections = same_section _ _ _ sections after (kept (codes ":metric") refl) in
+    let read : found ≡ paired (paired (paired (paired (paired (found_in title) (found_in domain)) (found_in declared)) (found_in (init sections))) (found_in (goals sections)))
+    (found_in (metric sections)) = cc in
+    ap (λ r. said_found problem_from r) read
+    ∙ sym (with_six problem_of title domain declared (init sections) (goals sections) (metric sections))
+
+-- the first of what is wrong, where there is something
+pub first_fault : {P X : Type 0} → (of : P → X) (found : Result P Fault) (reading : Reading X) (o : Option Fault)
+    → said_found of found ≡ found_in reading → MatchOption o (IsOk found) (λ fault. found ≡ Err fault)
+    → MatchOption o (faults_in reading ≡ []) (λ fault. IsFirst (faults_in reading) fault)
+first_fault {P} {X} of (Ok p) reading None is right = ap (λ (r : Reading X). faults_in r) (found_says reading (of p) (sym is))
+first_fault of (Err f) reading None is right = absurd (true≢false (sym right))
+first_fault {P} of found reading (Some f) is wrong = found_wrong reading f (sym is ∙ ap (λ (o : Result P Fault). said_found of o) wrong)

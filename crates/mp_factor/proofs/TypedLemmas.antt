@@ -1,0 +1,322 @@
+-- Typed lists, as a loop reads them: group by group, where the items of a group have one type.
+use Rattle.std.proofs.Common.{◌≡◌, ℕ, suc, ◌+◌, ◌<◌, ◌≤◌, Bool, true, false, ◌&&◌, ◌||◌, List, [], ◌∷◌, ◌++◌, map, length, get_or, take, drop, Result, Ok, Err, refl, sym, ap, ◌∙◌, drop-cons, true≢false, arith}
+use Rattle.std.proofs.Math.ListN.{drop_of_length-le}
+use Rattle.std.specs.Prelude.{◌==◌, if◌then◌else◌, IfOk}
+use Rattle.std.proofs.lemmas.Bool.{eqb-true}
+use Rattle.std.proofs.lemmas.List.{append_assoc}
+use Rattle.mp_sexp.specs.declared.tree.Place.{Place}
+use Rattle.mp_sexp.specs.declared.tree.Tree.{Tree}
+use Rattle.mp_sexp.specs.Node.{Node, node_of, nodes_in}
+use Rattle.mp_factor.specs.declared.fault.Fault.{Fault}
+use Rattle.mp_factor.specs.declared.word.Word.{Word}
+use Rattle.mp_factor.specs.declared.typed_values.Typed.{Typed}
+use Rattle.mp_factor.specs.Reading.{Reading, Says, Wrong, misshapen, said, each}
+use Rattle.mp_factor.specs.Found.{earlier_of, found_in, both_found, said_found, more_found, second_found}
+use Rattle.mp_factor.specs.FoundForms.{ends, group_size, items_found, group_found, AreBehindItems}
+use Rattle.mp_factor.specs.Rules.Typed.{Listing, Declared, typed_of, is_dash, with_type, with_item, with_block, typed_from, type_first, typed_rule}
+use Rattle.mp_factor.proofs.FirstLemmas.{earlier_assoc}
+use Rattle.mp_factor.proofs.FoundLemmas.{found_both, found_said, found_each, lists, none_more, begins}
+
+-- ---- one member
+
+item_from : {X T : Type 0} → (l : Listing X T) (whole : Place) (b : Bool) (n : Node) (ns : List Node)
+    → (b && is_dash n) ≡ false → l.is_block n ≡ false
+    → found_in (typed_from l whole b (n ∷ ns)) ≡ both_found with_item (found_in (l.item n)) (found_in (typed_from l whole l.takes_type ns))
+unfolding typed_from
+item_from l whole b n ns no_dash no_block = rw (no_dash, no_block) (found_both with_item (l.item n) (typed_from l whole l.takes_type ns))
+
+pub block_from : {X T : Type 0} → (l : Listing X T) (whole : Place) (n : Node) (ns : List Node) → l.is_block n ≡ true
+    → found_in (typed_from l whole false (n ∷ ns)) ≡ both_found (with_block l.untyped) (found_in (l.block n)) (found_in (typed_from l whole false ns))
+unfolding typed_from
+block_from l whole n ns block = rw block (found_both (with_block l.untyped) (l.block n) (typed_from l whole false ns))
+
+pub type_from : {X T : Type 0} → (l : Listing X T) (whole : Place) (n : Node) (ns : List Node)
+    → found_in (type_first l whole (n ∷ ns)) ≡ both_found with_type (found_in (l.type n)) (found_in (typed_from l whole false ns))
+unfolding type_first
+type_from l whole n ns = found_both with_type (l.type n) (typed_from l whole false ns)
+
+pub dash_from : {X T : Type 0} → (l : Listing X T) (whole : Place) (n : Node) (ns : List Node) → (l.takes_type && is_dash n) ≡ true
+    → found_in (typed_from l whole l.takes_type (n ∷ ns)) ≡ found_in (type_first l whole ns)
+unfolding typed_from
+dash_from l whole n ns dash = rw dash refl
+
+block_behind : {X T : Type 0} → (l : Listing X T) (whole : Place) (n : Node) (ns : List Node) → (l.takes_type && is_dash n) ≡ false → l.is_block n ≡ true
+    → found_in (typed_from l whole l.takes_type (n ∷ ns)) ≡ both_found (with_block l.untyped) (found_in (l.block n)) (found_in (typed_from l whole false ns))
+unfolding typed_from
+block_behind l whole n ns no_dash block = rw (no_dash, block) (found_both (with_block l.untyped) (l.block n) (typed_from l whole false ns))
+
+untyped_block : {X T : Type 0} → (u : T) (b : Result (List X) Fault) (r : Result (Declared X T) Fault)
+    → both_found with_type (Ok u) (both_found (with_block u) b r) ≡ both_found (with_block u) b r
+untyped_block u (Ok b) (Ok d) = refl
+untyped_block u (Ok b) (Err h) = refl
+untyped_block u (Err g) (Ok d) = refl
+untyped_block u (Err g) (Err h) = refl
+
+or_right : (a b : Bool) → a ≡ false → (a || b) ≡ true → b ≡ true
+or_right true b e or = absurd (true≢false e)
+or_right false b e or = or
+
+-- the items before a block, and before the end, have no type
+pub none_from : {X T : Type 0} → (l : Listing X T) (whole : Place) (n : Node) (ns : List Node) → (l.takes_type && is_dash n) ≡ false → ends l n ≡ true
+    → both_found with_type (Ok l.untyped) (found_in (typed_from l whole false (n ∷ ns))) ≡ found_in (typed_from l whole l.takes_type (n ∷ ns))
+none_from {X} {T} l whole n ns no_dash ended =
+    let block : l.is_block n ≡ true = or_right (l.takes_type && is_dash n) (l.is_block n) no_dash ended in
+    ap (λ (r : Result (Declared X T) Fault). both_found with_type (Ok l.untyped) r) (block_from l whole n ns block)
+    ∙ untyped_block l.untyped (found_in (l.block n)) (found_in (typed_from l whole false ns))
+    ∙ sym (block_behind l whole n ns no_dash block)
+
+pub end_from : {X T : Type 0} → (l : Listing X T) (whole : Place)
+    → both_found with_type (Ok l.untyped) (found_in (typed_from l whole false [])) ≡ found_in (typed_from l whole l.takes_type [])
+unfolding typed_from
+end_from l whole = refl
+
+pub missing_from : {X T : Type 0} → (l : Listing X T) (whole : Place)
+    → both_found with_type (found_in {X = T} (misshapen whole)) (found_in (typed_from l whole false [])) ≡ found_in (type_first l whole [])
+unfolding typed_from type_first
+missing_from l whole = refl
+
+-- ---- a group
+
+-- items, and what is declared behind them
+abbrev pub items_with : {X T : Type 0} → List (T → X) → Declared X T → Declared X T
+items_with makes behind = record { type = behind.type; items = map (λ make. make behind.type) makes ++ behind.items }
+
+none_with : {X T : Type 0} → (r : Result (Declared X T) Fault) → both_found items_with (Ok []) r ≡ r
+none_with (Ok d) = refl
+none_with (Err f) = refl
+
+one_with : {X T : Type 0} → (m : Result (T → X) Fault) (ms : Result (List (T → X)) Fault) (r : Result (Declared X T) Fault)
+    → both_found with_item m (both_found items_with ms r) ≡ both_found items_with (both_found (λ x xs. x ∷ xs) m ms) r
+one_with (Ok m) (Ok ms) (Ok d) = refl
+one_with (Ok m) (Ok ms) (Err h) = refl
+one_with (Ok m) (Err g) (Ok d) = refl
+one_with (Ok m) (Err g) (Err h) = refl
+one_with (Err f) (Ok ms) (Ok d) = refl
+one_with (Err f) (Ok ms) (Err h) = refl
+one_with (Err f) (Err g) (Ok d) = refl
+one_with (Err f) (Err g) (Err h) = ap Err (sym (earlier_assoc f g h))
+
+neither : (a b : Bool) → (a || b) ≡ false → (a ≡ false) × (b ≡ false)
+neither true b e = absurd (true≢false e)
+neither false b e = (refl, e)
+
+group_by : {X T : Type 0} → (l : Listing X T) (whole : Place) (t : Node) (ts : List Node) (k : ℕ) (b : Bool) → ends l t ≡ b
+    → found_in (typed_from l whole l.takes_type ts)
+    ≡ both_found items_with (found_in (each l.item (take k ts))) (found_in (typed_from l whole l.takes_type (drop k ts)))
+    → found_in (typed_from l whole l.takes_type (t ∷ ts))
+    ≡ both_found items_with (found_in (each l.item (take (if b then 0 else suc k) (t ∷ ts))))
+    (found_in (typed_from l whole l.takes_type (drop (if b then 0 else suc k) (t ∷ ts))))
+unfolding each
+group_by l whole t ts k true e shorter = sym (none_with (found_in (typed_from l whole l.takes_type (t ∷ ts))))
+group_by {X} {T} l whole t ts k false e shorter =
+    let parts = neither (l.takes_type && is_dash t) (l.is_block t) e in
+    let rest = found_in (typed_from l whole l.takes_type (drop k ts)) in
+    item_from l whole l.takes_type t ts parts.0 parts.1
+    ∙ ap (λ (r : Result (Declared X T) Fault). both_found with_item (found_in (l.item t)) r) shorter
+    ∙ one_with (found_in (l.item t)) (found_in (each l.item (take k ts))) rest
+    ∙ ap (λ (ms : Result (List (T → X)) Fault). both_found items_with ms rest) (sym (found_each l.item t (take k ts)))
+
+-- the members of a list as far as they are items of one type
+group_from : {X T : Type 0} → (l : Listing X T) (whole : Place) (ts : List Node)
+    → found_in (typed_from l whole l.takes_type ts)
+    ≡ both_found items_with (found_in (each l.item (take (group_size l ts) ts)))
+    (found_in (typed_from l whole l.takes_type (drop (group_size l ts) ts)))
+unfolding each
+group_from l whole [] = sym (none_with (found_in (typed_from l whole l.takes_type [])))
+group_from l whole (t ∷ ts) = group_by l whole t ts (group_size l ts) (ends l t) refl (group_from l whole ts)
+
+-- an item, and the others of its group
+pub group_first : {X T : Type 0} → (l : Listing X T) (whole : Place) (n : Node) (ts : List Node) (k : ℕ) → l.is_block n ≡ false → k ≡ group_size l ts
+    → found_in (typed_from l whole false (n ∷ ts))
+    ≡ both_found items_with (found_in (each l.item (n ∷ take k ts))) (found_in (typed_from l whole l.takes_type (drop k ts)))
+group_first {X} {T} l whole n ts k no_block is =
+    let rest = found_in (typed_from l whole l.takes_type (drop (group_size l ts) ts)) in
+    let items = found_in (each l.item (take (group_size l ts) ts)) in
+    rw is
+    (item_from l whole false n ts refl no_block
+    ∙ ap (λ (r : Result (Declared X T) Fault). both_found with_item (found_in (l.item n)) r) (group_from l whole ts)
+    ∙ one_with (found_in (l.item n)) items rest
+    ∙ ap (λ (ms : Result (List (T → X)) Fault). both_found items_with ms rest) (sym (found_each l.item n (take (group_size l ts) ts))))
+
+ended_by : {X T : Type 0} → (l : Listing X T) (t : Node) (ts : List Node) (k : ℕ) (b : Bool) → ends l t ≡ b
+    → AreBehindItems l (drop k ts) → AreBehindItems l (drop (if b then 0 else suc k) (t ∷ ts))
+ended_by l t ts k true e ended = e
+ended_by l t ts k false e ended = ended
+
+-- what stands behind a group
+pub behind_group : {X T : Type 0} → (l : Listing X T) (ts : List Node) → AreBehindItems l (drop (group_size l ts) ts)
+behind_group l [] = tt
+behind_group l (t ∷ ts) = ended_by l t ts (group_size l ts) (ends l t) refl (behind_group l ts)
+
+-- ---- a group is read
+
+-- the items of a group and its type, behind others
+pub group_more : {X T : Type 0} → (s : Result (List X) Fault) (ms : Result (List (T → X)) Fault) (t : Result T Fault) (r : Result (Declared X T) Fault)
+    → more_found (more_found s (group_found ms t)) (items_found r)
+    ≡ more_found s (items_found (both_found items_with ms (both_found with_type t r)))
+group_more (Ok s) (Ok ms) (Ok t) (Ok d) = ap Ok (append_assoc s (map (λ make. make t) ms) d.items)
+group_more (Ok s) (Ok ms) (Ok t) (Err i) = refl
+group_more (Ok s) (Ok ms) (Err h) (Ok d) = refl
+group_more (Ok s) (Ok ms) (Err h) (Err i) = refl
+group_more (Ok s) (Err g) (Ok t) (Ok d) = refl
+group_more (Ok s) (Err g) (Ok t) (Err i) = refl
+group_more (Ok s) (Err g) (Err h) (Ok d) = refl
+group_more (Ok s) (Err g) (Err h) (Err i) = ap Err (earlier_assoc g h i)
+group_more (Err f) (Ok ms) (Ok t) (Ok d) = refl
+group_more (Err f) (Ok ms) (Ok t) (Err i) = refl
+group_more (Err f) (Ok ms) (Err h) (Ok d) = refl
+group_more (Err f) (Ok ms) (Err h) (Err i) = ap Err (earlier_assoc f h i)
+group_more (Err f) (Err g) (Ok t) (Ok d) = refl
+group_more (Err f) (Err g) (Ok t) (Err i) = ap Err (earlier_assoc f g i)
+group_more (Err f) (Err g) (Err h) (Ok d) = refl
+group_more (Err f) (Err g) (Err h) (Err i) =
+    ap Err (earlier_assoc f (earlier_of g h) i ∙ ap (λ (x : Fault). earlier_of f x) (earlier_assoc g h i))
+
+-- a block is read
+pub block_more : {X T : Type 0} → (untyped : T) (s : Result (List X) Fault) (b : Result (List X) Fault) (r : Result (Declared X T) Fault)
+    → more_found (more_found s b) (items_found r) ≡ more_found s (items_found (both_found (with_block untyped) b r))
+block_more untyped (Ok s) (Ok b) (Ok d) = ap Ok (append_assoc s b d.items)
+block_more untyped (Ok s) (Ok b) (Err h) = refl
+block_more untyped (Ok s) (Err g) (Ok d) = refl
+block_more untyped (Ok s) (Err g) (Err h) = refl
+block_more untyped (Err f) (Ok b) (Ok d) = refl
+block_more untyped (Err f) (Ok b) (Err h) = refl
+block_more untyped (Err f) (Err g) (Ok d) = refl
+block_more untyped (Err f) (Err g) (Err h) = ap Err (earlier_assoc f g h)
+
+typed_both : {X T : Type 0} → (t : T) (m : Result (T → X) Fault) (ms : Result (List (T → X)) Fault)
+    → both_found (λ x xs. x ∷ xs) (said_found (λ make. make t) m) (said_found (λ makes. map (λ make. make t) makes) ms)
+    ≡ said_found (λ makes. map (λ make. make t) makes) (both_found (λ x xs. x ∷ xs) m ms)
+typed_both t (Ok m) (Ok ms) = refl
+typed_both t (Ok m) (Err g) = refl
+typed_both t (Err f) (Ok ms) = refl
+typed_both t (Err f) (Err g) = refl
+
+-- an item of this type
+abbrev pub of_type : {X T : Type 0} → (Node → Reading (T → X)) → T → Node → Reading X
+of_type item t n = said (λ make. make t) (item n)
+
+-- the items of one type
+pub each_typed : {X T : Type 0} → (item : Node → Reading (T → X)) (t : T) (ns : List Node)
+    → found_in (each (λ n. said (λ make. make t) (item n)) ns) ≡ said_found (λ makes. map (λ make. make t) makes) (found_in (each item ns))
+unfolding each
+each_typed item t [] = refl
+each_typed {X} {T} item t (n ∷ ns) =
+    found_both (λ x xs. x ∷ xs) (said (λ make. make t) (item n)) (each (λ n. said (λ make. make t) (item n)) ns)
+    ∙ ap (λ (r : Result X Fault). both_found (λ x xs. x ∷ xs) r (found_in (each (λ n. said (λ make. make t) (item n)) ns))) (found_said (λ (make : T → X). make t) (item n))
+    ∙ ap (λ (r : Result (List X) Fault). both_found (λ x xs. x ∷ xs) (said_found (λ make. make t) (found_in (item n))) r) (each_typed item t ns)
+    ∙ typed_both t (found_in (item n)) (found_in (each item ns))
+    ∙ sym (ap (λ (r : Result (List (T → X)) Fault). said_found (λ makes. map (λ make. make t) makes) r) (found_both (λ x xs. x ∷ xs) (item n) (each item ns)))
+
+group_of : {X T : Type 0} → (t : T) (ms : Result (List (T → X)) Fault)
+    → said_found (λ makes. map (λ make. make t) makes) ms ≡ group_found ms (Ok t)
+group_of t (Ok ms) = refl
+group_of t (Err f) = refl
+
+-- a group of a type that is found
+pub right_group : {X T : Type 0} → (s : Result (List X) Fault) (ms : Result (List (T → X)) Fault) (t : T) (type : Result T Fault) (all : Result (List X) Fault)
+    → all ≡ more_found s (said_found (λ makes. map (λ make. make t) makes) ms) → type ≡ Ok t → all ≡ more_found s (group_found ms type)
+right_group {X} {T} s ms t type all is_all is_right =
+    is_all
+    ∙ ap (λ (r : Result (List X) Fault). more_found s r) (group_of t ms)
+    ∙ ap (λ (o : Result T Fault). more_found s (group_found ms o)) (sym is_right)
+
+wrong_type : {X T : Type 0} → (s : Result (List X) Fault) (ms : Result (List (T → X)) Fault) (u : T) (f : Fault)
+    → second_found {X = List X} {Y = List X} (more_found s (said_found (λ makes. map (λ make. make u) makes) ms)) (Err f)
+    ≡ more_found s (group_found ms (Err f))
+wrong_type (Ok s) (Ok ms) u f = refl
+wrong_type (Ok s) (Err g) u f = refl
+wrong_type (Err e) (Ok ms) u f = refl
+wrong_type (Err e) (Err g) u f = ap Err (earlier_assoc e g f)
+
+-- a group of a type that is wrong
+pub wrong_group : {X T : Type 0} → (s : Result (List X) Fault) (ms : Result (List (T → X)) Fault) (u : T) (f : Fault) (type : Result T Fault)
+    → (untyped all : Result (List X) Fault)
+    → all ≡ second_found {X = List X} {Y = List X} untyped (Err f) → untyped ≡ more_found s (said_found (λ makes. map (λ make. make u) makes) ms) → type ≡ Err f
+    → all ≡ more_found s (group_found ms type)
+wrong_group {X} {T} s ms u f type untyped all is_all is_untyped is_wrong =
+    is_all
+    ∙ ap (λ (r : Result (List X) Fault). second_found {X = List X} {Y = List X} r (Err f)) is_untyped
+    ∙ wrong_type s ms u f
+    ∙ ap (λ (t : Result T Fault). more_found s (group_found ms t)) (sym is_wrong)
+
+-- ---- how many items there are
+
+pub size_on : {X T : Type 0} → (l : Listing X T) (ts : List Tree) (i : ℕ) (t : Tree) (whole : ℕ) → i < length ts → t ≡ get_or ts i t
+    → ends l (node_of t) ≡ false
+    → i + group_size l (nodes_in (drop i ts)) ≡ whole → i + 1 + group_size l (nodes_in (drop (i + 1) ts)) ≡ whole
+size_on l ts i t whole lt is on so_far =
+    let next : suc i ≡ i + 1 = omega arith in
+    let rest = group_size l (nodes_in (drop (suc i) ts)) in
+    let split : group_size l (nodes_in (drop i ts)) ≡ suc rest =
+    rw (drop-cons ts i t, ← is) (ap (λ (b : Bool). if b then 0 else suc rest) on) in
+    let size : i + suc rest ≡ whole = ap (λ (n : ℕ). i + n) (sym split) ∙ so_far in
+    let more : i + 1 + rest ≡ whole = omega arith in
+    ap (λ (n : ℕ). i + 1 + group_size l (nodes_in (drop n ts))) (sym next) ∙ more
+
+pub size_stops : {X T : Type 0} → (l : Listing X T) (ts : List Tree) (i : ℕ) (t : Tree) (whole : ℕ) → i < length ts → t ≡ get_or ts i t
+    → ends l (node_of t) ≡ true → i + group_size l (nodes_in (drop i ts)) ≡ whole → i ≡ whole
+size_stops l ts i t whole lt is stop so_far =
+    let rest = group_size l (nodes_in (drop (suc i) ts)) in
+    let split : group_size l (nodes_in (drop i ts)) ≡ 0 =
+    rw (drop-cons ts i t, ← is) (ap (λ (b : Bool). if b then 0 else suc rest) stop) in
+    let size : i + 0 ≡ whole = ap (λ (n : ℕ). i + n) (sym split) ∙ so_far in
+    omega arith
+
+pub size_ends : {X T : Type 0} → (l : Listing X T) (ts : List Tree) (i : ℕ) (whole : ℕ) → length ts ≤ i → i ≤ length ts
+    → i + group_size l (nodes_in (drop i ts)) ≡ whole → length ts ≡ whole
+size_ends l ts i whole le within so_far =
+    let all_read : drop i ts ≡ [] = drop_of_length-le ts le in
+    let size : i + 0 ≡ whole = sym (ap (λ (xs : List Tree). i + group_size l (nodes_in xs)) all_read) ∙ so_far in
+    omega arith
+
+-- ---- the whole list
+
+pub typed_begins : {X T : Type 0} → (l : Listing X T) (whole : Place) (ns : List Node)
+    → more_found (Ok []) (items_found (found_in (typed_from l whole false ns))) ≡ found_in (typed_rule l whole ns)
+unfolding typed_rule
+typed_begins l whole ns =
+    begins (items_found (found_in (typed_from l whole false ns))) ∙ sym (found_said (λ declared. declared.items) (typed_from l whole false ns))
+
+pub typed_ends : {X T : Type 0} → (l : Listing X T) (whole : Place) (a r : Result (List X) Fault) (ns : List Node) → ns ≡ []
+    → more_found a (items_found (found_in (typed_from l whole false ns))) ≡ r → a ≡ r
+unfolding typed_from
+typed_ends {X} l whole a r ns none so_far =
+    sym (none_more (λ xs x. xs ++ x ∷ []) (λ xs ys. xs ++ ys) lists a)
+    ∙ sym (ap (λ (ms : List Node). more_found a (items_found (found_in (typed_from l whole false ms)))) none) ∙ so_far
+
+pub some_left : (ts : List Tree) (is_empty : Bool) → is_empty ≡ (length ts == 0) → is_empty ≡ false → 0 < length ts
+some_left [] is_empty is e = absurd (true≢false (sym is ∙ e))
+some_left (t ∷ ts) is_empty is e = omega arith
+
+pub none_left : (ts : List Tree) (is_empty : Bool) → is_empty ≡ (length ts == 0) → is_empty ≡ true → nodes_in ts ≡ []
+none_left [] is_empty is e = refl
+none_left (t ∷ ts) is_empty is e = let none : length (t ∷ ts) ≡ 0 = eqb-true (length (t ∷ ts)) 0 (sym is ∙ e) in absurd (omega (arith, none))
+
+-- ---- items by their types
+
+found_typed : (private : Bool) (types : List Word) (r : Reading Word)
+    → said_found (λ word. typed_of private word types) (found_in r) ≡ said_found {X = List Word → Typed} {Y = Typed} (λ make. make types) (found_in (said (typed_of private) r))
+unfolding said
+found_typed private types (Says w) = refl
+found_typed private types (Wrong f fs) = refl
+
+-- a word that is declared with these types
+pub declared_item : {E : Type 0} → (private : Bool) (types : List Word) (r : Reading Word) (word : Result Word Fault) (o : Result (Result Typed Fault) E)
+    → word ≡ found_in r → IfOk o (λ found. found ≡ said_found (λ word. typed_of private word types) word)
+    → IfOk o (λ found. found ≡ said_found {X = List Word → Typed} {Y = Typed} (λ make. make types) (found_in (said (typed_of private) r)))
+declared_item private types r word (Err e) is declared = tt
+declared_item private types r word (Ok item) is declared =
+    declared ∙ ap (λ (w : Result Word Fault). said_found (λ word. typed_of private word types) w) is ∙ found_typed private types r
+
+found_untyped : {X : Type 0} → (u : Unit {0}) (r : Reading X) → found_in r ≡ said_found {X = Unit {0} → X} {Y = X} (λ make. make u) (found_in (said (λ s type. s) r))
+unfolding said
+found_untyped u (Says x) = refl
+found_untyped u (Wrong f fs) = refl
+
+-- an item without a type
+pub untyped_item : {X E : Type 0} → (u : Unit {0}) (r : Reading X) (o : Result (Result X Fault) E)
+    → IfOk o (λ found. found ≡ found_in r)
+    → IfOk o (λ found. found ≡ said_found {X = Unit {0} → X} {Y = X} (λ make. make u) (found_in (said (λ s type. s) r)))
+untyped_item u r (Err e) read = tt
+untyped_item u r (Ok item) read = read ∙ found_untyped u r

@@ -1,0 +1,24 @@
+use Rattle.std.proofs.Common.{◌++◌, List, map, sym, ap, ◌∙◌}
+use Rattle.std.proofs.lemmas.List.{append-nil}
+use Rattle.mp_sexp.specs.Node.{Node, node_of}
+use Rattle.mp_factor.proofs.ConjunctLemmas.{of_nothing, of_and, of_other, of_word}
+use Rattle.mp_factor.proofs.conjuncts.+conjuncts.Goals as goal
+
+pub add_conjuncts-returns-in-Word : goal.add_conjuncts-returns-in-Word
+add_conjuncts-returns-in-Word t c = rw (of_word c.args.tree.now _ _ c.in-Word.is) c.add_tree.ensures
+
+pub add_conjuncts-returns-in-empty : goal.add_conjuncts-returns-in-empty
+add_conjuncts-returns-in-empty t c =
+    let before = map (λ t. node_of t.now) c.args.out.now.items in
+    sym (append-nil before) ∙ ap (λ (ns : List Node). before ++ ns)
+    (sym (of_nothing c.args.tree.now c.in-List.list.items c.in-List.field-1 c.as_slice.result.now record { is = c.in-List.is; members = c.as_slice.ensures.value } c.in-empty.len_below))
+
+pub add_conjuncts-returns-then-is_word : goal.add_conjuncts-returns-then-is_word
+add_conjuncts-returns-then-is_word t c =
+    rw (of_and c.args.tree.now c.in-List.list.items c.in-List.field-1 c.as_slice.result.now record { is = c.in-List.is; members = c.as_slice.ensures.value }
+    c.head-item.result c.in-len1-up.len_at_least c.head-item.is (sym c.is_word.ensures ∙ c.if-is_word.true)) c.add_all_conjuncts.ensures
+
+pub add_conjuncts-returns-else-is_word : goal.add_conjuncts-returns-else-is_word
+add_conjuncts-returns-else-is_word t c =
+    rw (of_other c.args.tree.now c.in-List.list.items c.in-List.field-1 c.as_slice.result.now record { is = c.in-List.is; members = c.as_slice.ensures.value }
+    c.head-item.result c.in-len1-up.len_at_least c.head-item.is (sym c.is_word.ensures ∙ c.if-is_word.false)) c.add_tree-else-is_word.ensures

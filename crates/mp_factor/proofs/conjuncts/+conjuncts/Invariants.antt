@@ -1,0 +1,9 @@
+use Rattle.std.proofs.Common.{◌≡◌, ◌++◌, drop, map, flat_map}
+use Rattle.mp_sexp.specs.Node.{node_of, nodes_in}
+use Rattle.mp_factor.specs.Conjuncts.{conjuncts}
+use Rattle.mp_factor.proofs.conjuncts.+conjuncts.Given as goal
+
+abbrev pub invariant-add_all_conjuncts-loop-tree : goal.invariant-add_all_conjuncts-loop-tree
+invariant-add_all_conjuncts-loop-tree l =
+    map (λ t. node_of t.now) l.out.items ++ flat_map conjuncts (nodes_in (drop l.tree-index l.trees))
+    ≡ map (λ t. node_of t.now) l.fn.out.items ++ flat_map conjuncts (nodes_in l.trees)

@@ -1,8 +1,0 @@
-use Rattle.std.proofs.Common.{◌≡◌, ◌++◌, drop}
-use Rattle.mp_sexp.specs.Node.{nodes_in}
-use Rattle.mp_factor.specs.Values.Init.{cost_values}
-use Rattle.mp_factor.proofs.init_values.values_in.Given as goal
-
-abbrev pub invariant-loop-tree : goal.invariant-loop-tree
-invariant-loop-tree l =
-    l.out ++ cost_values (nodes_in (drop l.tree-index l.trees)) ≡ cost_values (nodes_in l.trees)

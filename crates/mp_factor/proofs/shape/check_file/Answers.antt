@@ -1,0 +1,15 @@
+use Rattle.std.proofs.Common.{refl}
+use Rattle.std.specs.Prelude.{codes}
+use Rattle.mp_sexp.specs.Node.{nodes_in}
+use Rattle.mp_factor.specs.OfFile.{own_words, other_words}
+use Rattle.mp_factor.specs.Reading.{Says, all_right}
+use Rattle.mp_factor.specs.Rules.Sections.{in_section, requirements_rule, section_rule, sections_rule}
+use Rattle.mp_factor.proofs.ReadFiles.{besides_found}
+use Rattle.mp_factor.proofs.shape.check_file.Goals as goal
+
+pub returns : goal.returns
+unfolding sections_rule
+returns c =
+    let sections = nodes_in c.args.sections.now in
+    besides_found (all_right (section_rule (own_words c.args.file) (other_words c.args.file)) sections)
+    (in_section (codes ":requirements") requirements_rule (Says tt) sections) _ _ _ c.in_ok-right.ensures (c.in_ok-requirements.ensures (Says tt) refl) c.second.ensures

@@ -1,0 +1,8 @@
+use Rattle.mp_sexp.specs.Node.{node_of}
+use Rattle.mp_factor.specs.FoundForms.{domain_from}
+use Rattle.mp_factor.specs.Rules.Files.{domain_rule}
+use Rattle.mp_factor.proofs.ReadFiles.{first_fault}
+use Rattle.mp_factor.proofs.shape.domain_fault.Goals as goal
+
+pub returns : goal.returns
+returns c = first_fault domain_from _ (domain_rule (node_of c.args.tree.now)) _ c.in_ok-read_domain.ensures c.fault_in.ensures

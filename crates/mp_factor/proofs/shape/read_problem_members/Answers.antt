@@ -1,0 +1,18 @@
+use Rattle.std.proofs.Common.{refl}
+use Rattle.std.specs.Prelude.{codes}
+use Rattle.mp_sexp.specs.Node.{node_of, nodes_in}
+use Rattle.mp_factor.specs.FoundForms.{problem_from}
+use Rattle.mp_factor.specs.Reading.{keyword}
+use Rattle.mp_factor.specs.Rules.Sections.{domain_words, problem_words, sections_rule}
+use Rattle.mp_factor.specs.Rules.Files.{problem_parts, title_rule}
+use Rattle.mp_factor.proofs.ReadFiles.{behind_two, problem_read}
+use Rattle.mp_factor.proofs.shape.read_problem_members.Goals as goal
+
+pub returns : goal.returns
+returns c =
+    let title = title_rule (codes "problem") (node_of c.args.title.now) in
+    let sections = nodes_in c.args.sections.now in
+    behind_two problem_from (keyword (codes "define") (node_of c.args.head.now)) (sections_rule problem_words domain_words sections)
+    (problem_parts c.args.whole title sections) _ _ _ _ _ c.expect-define.ensures c.in_ok-right.ensures
+    (problem_read c.args.whole title sections sections (λ other apart. refl) _ _ _ c.in_ok-name.ensures c.in_ok-known.ensures c.in_ok-parts.ensures)
+    c.second.ensures c.second-2.ensures
