@@ -19,7 +19,7 @@ use Rattle.mp_typing.proofs.NumberingLemmas.{no_names}
 
 -- ---- rows
 
-no_row : (up : ℕ) → under [] up ≡ []
+pub no_row : (up : ℕ) → under [] up ≡ []
 no_row zero = refl
 no_row (suc up) = refl
 
@@ -36,12 +36,12 @@ row_is [] up row lt = absurd (omega (arith, lt))
 row_is (r ∷ rs) zero row lt = refl
 row_is (r ∷ rs) (suc up) row lt = row_is rs up row (omega (arith, lt))
 
-row_set : (lower : List (List ℕ)) (up : ℕ) (row : List ℕ) → up < length lower → under (set lower up row) up ≡ row
+pub row_set : (lower : List (List ℕ)) (up : ℕ) (row : List ℕ) → up < length lower → under (set lower up row) up ≡ row
 row_set [] up row lt = absurd (omega (arith, lt))
 row_set (r ∷ rs) zero row lt = refl
 row_set (r ∷ rs) (suc up) row lt = row_set rs up row (omega (arith, lt))
 
-row_kept : (lower : List (List ℕ)) (up other : ℕ) (row : List ℕ) → (other ≡ up → ⊥) → under (set lower up row) other ≡ under lower other
+pub row_kept : (lower : List (List ℕ)) (up other : ℕ) (row : List ℕ) → (other ≡ up → ⊥) → under (set lower up row) other ≡ under lower other
 row_kept [] up other row ne = refl
 row_kept (r ∷ rs) zero zero row ne = absurd (ne refl)
 row_kept (r ∷ rs) zero (suc other) row ne = refl

@@ -1,25 +1,27 @@
 -- What marked numbers say of which types lie under others, and of which objects are of a type.
-use Rattle.std.proofs.Common.{◌≡◌, ℕ, Bool, true, false, ◌||◌, ◌==◌, List, [], ◌∷◌, map, length, Option, Some, None, refl, sym, ap, subst, ◌∙◌, inl, inr}
-use Rattle.std.specs.Prelude.{suc, if◌then◌else◌}
+use Rattle.std.proofs.Common.{◌≡◌, ℕ, zero, suc, ◌<◌, Bool, true, false, ◌||◌, ◌==◌, List, [], ◌∷◌, map, length, Option, Some, None, refl, sym, ap, subst, ◌∙◌, inl, inr, arith}
+use Rattle.std.specs.Prelude.{◌↔◌, Contains, slice_get}
 use Rattle.std.specs.Bool.{Decides}
-use Rattle.std.specs.List.{list_any, flat_map}
-use Rattle.std.proofs.lemmas.Bool.{cases_Bool, false_from_ne_true, or_cases, or_left}
+use Rattle.std.specs.List.{list_any, flat_map, range_with_len}
+use Rattle.std.specs.List.Sorted.{IsStrictlyIncreasing}
+use Rattle.std.proofs.lemmas.Bool.{cases_Bool, false_from_ne_true, or_cases, or_left, or_right}
 use Rattle.mp_factor.specs.declared.word.Word.{Word}
 use Rattle.mp_factor.specs.declared.typed_values.Typed.{Typed}
 use Rattle.mp_typing.specs.Names.{is_among}
 use Rattle.mp_typing.specs.Indexed.{Entry, number_of}
 use Rattle.mp_typing.specs.IsA.{IsA, same, step, object_name}
 use Rattle.mp_typing.specs.Lower.{IsUnderOne}
-use Rattle.mp_typing.specs.Graph.{pairs_of, numbers_of, IsGraph}
+use Rattle.mp_typing.specs.Graph.{under, pairs_of, numbers_of, IsGraph}
 use Rattle.mp_typing.specs.Hierarchy.{IsOrder, IsHierarchy}
+use Rattle.mp_typing.specs.Listed.{IsListed}
 use Rattle.mp_typing.specs.Members.{Members}
-use Rattle.mp_typing.specs.Places.{numbers_where}
+use Rattle.mp_typing.specs.Numbering.{IsNumbering}
 use Rattle.mp_typing.specs.Reach.{is_marked, has_mark, IsReached, top, down}
 use Rattle.mp_list.proofs.Bools.{or_all}
-use Rattle.mp_list.proofs.Members.{contains_head, contains_one}
+use Rattle.mp_list.proofs.Members.{contains_head, contains_one, contains_cases, no_member, any_from, some_member}
 use Rattle.mp_typing.proofs.Lists.{among_from_contains, contains_from_among}
 use Rattle.mp_typing.proofs.GraphLemmas.{from_pairs, to_pairs}
-use Rattle.mp_typing.proofs.Placing.{are_members}
+use Rattle.mp_typing.proofs.ListedLemmas.{row_inside, in_range, range_rises}
 use Rattle.mp_typing.proofs.Reaching.{Reaches, reaches, reached}
 use Rattle.mp_typing.proofs.Typing.{is_reached, has_any, decides_type}
 
@@ -131,32 +133,111 @@ same_test declared names lower object asked marks t row order exact is =
     ∙ ap (λ (b : Bool). length asked == 0 || (b || list_any (is_marked marks) row)) (sym (in_by_mark names lower asked marks object_name object exact order.object_is))
     ∙ ap (λ (b : Bool). length asked == 0 || (is_in names asked marks object_name || b)) (any_mark names lower asked marks t.types row exact is)
 
-same_place : (n : ℕ) (a b : Bool) (xs ys : List ℕ) → a ≡ b → xs ≡ ys → (if a then n ∷ xs else xs) ≡ (if b then n ∷ ys else ys)
-same_place n a true xs ys e f = ap (λ (t : Bool). if t then n ∷ xs else xs) e ∙ ap (λ (ns : List ℕ). n ∷ ns) f
-same_place n a false xs ys e f = ap (λ (t : Bool). if t then n ∷ xs else xs) e ∙ f
-
-same_places : (declared : List Typed) (names : List Entry) (lower : List (List ℕ)) (object : ℕ) (asked : List (List ℕ)) (marks : List Bool) (place : ℕ)
-    (ts : List Typed) (rows : List (List ℕ))
-    → IsOrder declared names lower object → AreMarks names lower asked marks → map (λ (t : Typed). numbers_of names t.types) ts ≡ map (map Some) rows
-    → numbers_where place (row_test asked marks object) rows ≡ numbers_where place (is_reached (is_in names asked marks) asked) ts
-unfolding numbers_where
-same_places declared names lower object asked marks place [] [] order exact is = refl
-same_places declared names lower object asked marks place [] (row ∷ rows) order exact is = absurd (cc)
-same_places declared names lower object asked marks place (t ∷ ts) [] order exact is = absurd (cc)
-same_places declared names lower object asked marks place (t ∷ ts) (row ∷ rows) order exact is =
+-- an object has its types in the row at its place
+kind_there : (names : List Entry) (ts : List Typed) (rows : List (List ℕ)) → map (λ (t : Typed). numbers_of names t.types) ts ≡ map (map Some) rows → (place : ℕ) → place < length rows
+    → (t : Typed) × (slice_get ts place ≡ Some t) × (numbers_of names t.types ≡ map Some (under rows place))
+kind_there names [] [] is place lt = absurd (omega (arith, lt))
+kind_there names [] (row ∷ rows) is place lt = absurd (cc)
+kind_there names (t ∷ ts) [] is place lt = absurd (cc)
+kind_there names (t ∷ ts) (row ∷ rows) is zero lt =
     let first : numbers_of names t.types ≡ map Some row = cc in
+    (t, refl, first)
+kind_there names (t ∷ ts) (row ∷ rows) is (suc place) lt =
     let others : map (λ (u : Typed). numbers_of names u.types) ts ≡ map (map Some) rows = cc in
-    same_place place (row_test asked marks object row) (is_reached (is_in names asked marks) asked t)
-    (numbers_where (suc place) (row_test asked marks object) rows) (numbers_where (suc place) (is_reached (is_in names asked marks) asked) ts)
-    (same_test declared names lower object asked marks t row order exact first)
-    (same_places declared names lower object asked marks (suc place) ts rows order exact others)
+    kind_there names ts rows others place (omega (arith, lt))
 
-pub are_all_members : (declared objects : List Typed) (names : List Entry) (lower : List (List ℕ)) (object : ℕ) (kinds : List (List ℕ)) (asked : List (List ℕ)) (marks : List Bool) (numbers : List ℕ)
-    → IsHierarchy declared objects names lower object kinds → AreMarks names lower asked marks
-    → numbers ≡ numbers_where 0 (row_test asked marks object) kinds → Members declared objects asked numbers
-are_all_members declared objects names lower object kinds asked marks numbers h exact is =
-    let has = is_in names asked marks in
-    let r = marks_reach declared names lower asked marks h.order.graph exact in
-    subst (λ (ns : List ℕ). Members declared objects asked ns)
-    (sym (is ∙ same_places declared names lower object asked marks 0 objects kinds h.order exact h.kinds_are))
-    (are_members declared objects asked (is_reached has asked) (decides_type declared asked has r))
+-- and there is a row for each object
+kind_at : (names : List Entry) (ts : List Typed) (rows : List (List ℕ)) (place : ℕ) (t : Typed) → map (λ (u : Typed). numbers_of names u.types) ts ≡ map (map Some) rows
+    → slice_get ts place ≡ Some t → (place < length rows) × (numbers_of names t.types ≡ map Some (under rows place))
+kind_at names [] rows place t is at = absurd (cc)
+kind_at names (u ∷ us) [] place t is at = absurd (cc)
+kind_at names (u ∷ us) (row ∷ rows) zero t is at =
+    let first : numbers_of names u.types ≡ map Some row = cc in
+    let same : u ≡ t = cc in
+    (omega arith, subst (λ (v : Typed). numbers_of names v.types ≡ map Some row) same first)
+kind_at names (u ∷ us) (row ∷ rows) (suc place) t is at =
+    let others : map (λ (v : Typed). numbers_of names v.types) us ≡ map (map Some) rows = cc in
+    let rest = kind_at names us rows place t others at in
+    (omega (arith, rest.0), rest.1)
+
+-- the types of objects have numbers
+row_below : (names : List Entry) (words : List Word) (row : List ℕ) → IsNumbering names → numbers_of names words ≡ map Some row
+    → (n : ℕ) → Contains row n → n < length names
+row_below names words [] numbering is n found = absurd (no_member n found)
+row_below names [] (r ∷ rs) numbering is n found = absurd (cc)
+row_below names (w ∷ ws) (r ∷ rs) numbering is n found =
+    let first : number_of w.name names ≡ Some r = cc in
+    let others : numbers_of names ws ≡ map Some rs = cc in
+    elim (contains_cases r rs n found) [
+      | inl here ↦ subst (λ (m : ℕ). m < length names) here (numbering.below w.name r first)
+      | inr there ↦ row_below names ws rs numbering others n there
+    ]
+
+pub kinds_below : (names : List Entry) (ts : List Typed) (rows : List (List ℕ)) → IsNumbering names → map (λ (t : Typed). numbers_of names t.types) ts ≡ map (map Some) rows
+    → (place n : ℕ) → Contains (under rows place) n → n < length names
+kinds_below names ts rows numbering is place n found =
+    let (t, at, row) = kind_there names ts rows is place (row_inside rows place n found) in
+    row_below names t.types (under rows place) numbering row n found
+
+-- ---- the objects of asked types
+
+-- the places of rows that pass a test
+abbrev Passes : (List ℕ → Bool) → List (List ℕ) → ℕ → Type 0
+Passes test rows place = (place < length rows) × (test (under rows place) ≡ true)
+
+module _ (declared objects : List Typed) (names : List Entry) (lower : List (List ℕ)) (object count : ℕ) (listed : List (List ℕ)) (asked : List (List ℕ)) (marks : List Bool)
+    (numbers : List ℕ) (h : IsHierarchy declared objects names lower object count listed) (exact : AreMarks names lower asked marks) where
+  are_members : IsStrictlyIncreasing numbers → ((place : ℕ) → Contains numbers place ↔ Passes (row_test asked marks object) h.kinds place)
+      → Members declared objects asked numbers
+  are_members rising are =
+      let has = is_in names asked marks in
+      let r = marks_reach declared names lower asked marks h.order.graph exact in
+      record {
+        rising = rising;
+        exact = λ place. (
+          (λ found.
+              let passes = (are place).0 found in
+              let (t, at, row) = kind_there names objects h.kinds h.kinds_are place passes.0 in
+              record {
+                object = t;
+                at = at;
+                of_type = (decides_type declared asked has r t).0 (sym (same_test declared names lower object asked marks t (under h.kinds place) h.order exact row) ∙ passes.1);
+              }),
+          (λ m.
+              let there = kind_at names objects h.kinds place m.object h.kinds_are m.at in
+              let same = same_test declared names lower object asked marks m.object (under h.kinds place) h.order exact there.1 in
+              (are place).1 (there.0, same ∙ (decides_type declared asked has r m.object).1 m.of_type)),
+        );
+      }
+
+  -- where every object is wanted
+  pub are_all : numbers ≡ range_with_len 0 count → (length asked == 0 || is_marked marks object) ≡ true → Members declared objects asked numbers
+  are_all is all =
+      are_members (subst IsStrictlyIncreasing (sym is) (range_rises count))
+      (λ place. (
+        (λ found.
+            let lt = (in_range count place).0 (subst (λ (ns : List ℕ). Contains ns place) is found) in
+            (omega (arith, lt, h.counted), or_left (length asked == 0 || is_marked marks object) (list_any (is_marked marks) (under h.kinds place)) all)),
+        (λ passes. subst (λ (ns : List ℕ). Contains ns place) (sym is) ((in_range count place).1 (omega (arith, passes.0, h.counted)))),
+      ))
+
+  -- where those are wanted that are listed under marked numbers
+  pub are_marked : IsStrictlyIncreasing numbers × ((place : ℕ) → Contains numbers place ↔ IsListed listed marks (length listed) place)
+      → (length asked == 0 || is_marked marks object) ≡ false → Members declared objects asked numbers
+  are_marked (rising, are) some =
+      are_members rising
+      (λ place. (
+        (λ found.
+            let l = (are place).0 found in
+            let kind = (h.listed_are l.number place).0 l.found in (
+              row_inside h.kinds place l.number kind,
+              or_right (length asked == 0 || is_marked marks object) (list_any (is_marked marks) (under h.kinds place))
+                  (any_from (is_marked marks) (under h.kinds place) l.number kind l.marked),
+            )),
+        (λ passes.
+            let any : list_any (is_marked marks) (under h.kinds place) ≡ true =
+            sym (ap (λ (b : Bool). b || list_any (is_marked marks) (under h.kinds place)) some) ∙ passes.1 in
+            let (number, kind, marked) = some_member (is_marked marks) (under h.kinds place) any in
+            let there = (h.listed_are number place).1 kind in
+            (are place).1 record { number = number; below = row_inside listed number place there; marked = marked; found = there }),
+      ))

@@ -26,6 +26,8 @@ pub mod UnderLemmas
 pub mod NumberingLemmas
 pub mod GraphLemmas
 pub mod ReachLemmas
+-- the objects of each type, listed once
+pub mod ListedLemmas
 pub mod HierarchyLemmas
 -- items of a list that pass a test, and their places
 pub mod Passing

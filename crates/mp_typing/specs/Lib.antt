@@ -23,7 +23,8 @@ pub mod Under
 pub mod Indexed
 pub mod Numbering
 pub mod Graph
-pub mod Hierarchy
 pub mod Reach
+pub mod Listed
+pub mod Hierarchy
 pub mod Listing
 pub mod Places

@@ -8,7 +8,8 @@ ghost use Rattle.mp_typing.specs.IsA.{IsA};
 ghost use Rattle.mp_typing.specs.Members.{Members};
 ghost use Rattle.mp_typing.specs.ObjectList.{object_list};
 
-use crate::hierarchy::{Hierarchy, ObjectList, TypeList};
+use crate::hierarchy::{Hierarchy, TypeList};
+use crate::listed::ObjectList;
 use mp_factor::{Domain, Factor, Problem};
 use mp_list::OutOfMemory;
 use mp_sexp::Name;
@@ -46,7 +47,7 @@ impl Model for CheckedFactor {
 
     ghost invariant = { λ c. (check_faults c.factor.domain c.factor.problem ≡ [])
         × IsHierarchy c.factor.domain.types (object_list c.factor.domain c.factor.problem)
-        c.hierarchy.graph.names c.hierarchy.graph.lower.items c.hierarchy.object c.hierarchy.kinds };
+        c.hierarchy.graph.names c.hierarchy.graph.lower.items c.hierarchy.object c.hierarchy.count c.hierarchy.listed.items };
 }
 
 impl CheckedFactor {
@@ -59,7 +60,7 @@ impl CheckedFactor {
     ) -> CheckedFactor
         requires no_fault { check_faults domain problem ≡ [] }
         requires hierarchy { IsHierarchy domain.types (object_list domain problem)
-            hierarchy.graph.names hierarchy.graph.lower.items hierarchy.object hierarchy.kinds }
+            hierarchy.graph.names hierarchy.graph.lower.items hierarchy.object hierarchy.count hierarchy.listed.items }
         ensures { result ≡ record { domain = domain; problem = problem } }
     {
         CheckedFactor {
@@ -91,9 +92,9 @@ impl CheckedFactor {
     /// is asked. An object's number is its place in object order, counted from 0: constants first, then objects, each
     /// in file order, and one that is listed again counts once. Refuses only for want of memory.
     ///
-    /// The declarations and the object order were worked out by `check`. A call clears one mark for each type, and looks
-    /// once at each type that is asked for or lies under an asked one, at each declaration of one of these types, and at
-    /// each type of each object.
+    /// The declarations and the objects of each type were worked out by `check`. A call clears one mark for each type, and
+    /// looks once at each type that is asked for or lies under an asked one, and at each declaration of one of these
+    /// types; it merges the objects that are listed under these types.
     pub fn members(&self, asked: &TypeList) -> Result<ObjectList, OutOfMemory>
         ensures { IfOk result (λ numbers. Members self.now.domain.types (object_list self.now.domain self.now.problem) asked.now numbers) }
     {

@@ -174,7 +174,7 @@ fn hierarchy_of(
 ) -> Result<Hierarchy, OutOfMemory>
     requires { declared.domain ≡ domain.now }
     ensures { IfOk result (λ h. IsHierarchy domain.now.types (object_list declared.entry.domain declared.entry.problem)
-        h.graph.names h.graph.lower.items h.object h.kinds) }
+        h.graph.names h.graph.lower.items h.object h.count h.listed.items) }
 {
     let objects = declared.into_listed();
     Hierarchy::new(alloc, &domain.types, &objects)
@@ -188,7 +188,7 @@ fn hierarchy_or_fault(
 ) -> Result<Result<Hierarchy, Fault>, OutOfMemory>
     ensures { IfOk result (λ found. MatchResult found
         (λ h. (None ≡ leftmost None (check_faults domain.now problem.now)) × IsHierarchy domain.now.types (object_list domain.now problem.now)
-        h.graph.names h.graph.lower.items h.object h.kinds)
+        h.graph.names h.graph.lower.items h.object h.count h.listed.items)
         (λ fault. Some fault ≡ leftmost None (check_faults domain.now problem.now))) }
 {
     let declared = Declared::new(alloc, domain, problem)?;

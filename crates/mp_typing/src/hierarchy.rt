@@ -2,7 +2,6 @@
 
 ghost use Rattle.std.specs.Prelude.{◌≡◌, ◌==◌, ◌||◌, [], ℕ, List as ListOf, Some, map, length, IfOk, OnOk};
 ghost use Rattle.std.specs.Bool.{Decides};
-ghost use Rattle.std.specs.List.{list_any};
 ghost use Rattle.mp_factor.specs.declared.typed_values.Typed.{Typed as Declaration};
 ghost use Rattle.mp_typing.specs.Graph.{IsBounded, IsGraph, numbers_of};
 ghost use Rattle.mp_typing.specs.Hierarchy.{IsHierarchy, IsOrder};
@@ -10,10 +9,10 @@ ghost use Rattle.mp_typing.specs.Indexed.{number_of};
 ghost use Rattle.mp_typing.specs.IsA.{IsA, object_name};
 ghost use Rattle.mp_typing.specs.Members.{Members};
 ghost use Rattle.mp_typing.specs.Numbering.{KeepsNumbers};
-ghost use Rattle.mp_typing.specs.Places.{numbers_where};
 ghost use Rattle.mp_typing.specs.Reach.{is_marked as mark_of, has_mark as mark_by};
 
 use crate::graph::TypeGraph;
+use crate::listed::{ObjectList, all_below, is_marked, listed_by, listed_under};
 use crate::reach::reached;
 use mp_factor::{Typed, TypedList};
 use mp_list::{Copied, List, OutOfMemory};
@@ -23,16 +22,15 @@ use std::alloc::Global;
 /// Names of types.
 pub type TypeList = List<Name>;
 
-/// Numbers of objects: their places in object order, counted from 0.
-pub type ObjectList = List<u64>;
-
-/// The declared types as a graph, and the types of each object in it.
+/// The declared types as a graph, and the objects of each type in it.
 pub struct Hierarchy {
     pub graph: TypeGraph,
     /// The number of `object`.
     pub object: usize,
-    /// For each object in object order its types as they are written.
-    pub kinds: List<List<usize>>,
+    /// How many objects there are.
+    pub count: usize,
+    /// For each type by number the objects that have it as their types are written.
+    pub listed: Vec<ObjectList>,
 }
 
 impl Drop for Hierarchy {
@@ -40,7 +38,8 @@ impl Drop for Hierarchy {
         let Hierarchy {
             graph: _,
             object: _,
-            kinds: _,
+            count: _,
+            listed: _,
         } = self;
     }
 }
@@ -72,16 +71,6 @@ fn kinds_of(
     Ok(kinds)
 }
 
-/// Whether a number is marked.
-fn is_marked(marks: &[bool], number: usize) -> bool
-    ensures { result ≡ mark_of marks.now number }
-{
-    match marks.get(number) {
-        Some(mark) => *mark,
-        None => false,
-    }
-}
-
 /// Whether there is a number and it is marked.
 fn has_mark(marks: &[bool], number: Option<usize>) -> bool
     ensures { result ≡ mark_by marks.now number }
@@ -90,16 +79,6 @@ fn has_mark(marks: &[bool], number: Option<usize>) -> bool
         Some(number) => is_marked(marks, number),
         None => false,
     }
-}
-
-/// Whether one of these numbers is marked.
-fn has_any_mark(marks: &[bool], numbers: &List<usize>) -> bool
-    ensures { result ≡ list_any (mark_of marks.now) numbers.now }
-{
-    numbers
-        .as_slice()
-        .iter()
-        .any(|number| is_marked(marks, *number))
 }
 
 /// Whether a type is reached: its number is marked, or that of `object` is.
@@ -116,33 +95,6 @@ fn is_all(marks: &[bool], asked: &TypeList, object: usize) -> bool
     asked.len() == 0 || is_marked(marks, object)
 }
 
-/// Whether an object with these types is wanted.
-fn is_wanted(marks: &[bool], all: bool, kind: &List<usize>) -> bool
-    ensures { result ≡ (all || list_any (mark_of marks.now) kind.now) }
-{
-    all || has_any_mark(marks, kind)
-}
-
-/// The places of the objects that have a marked type, or of all.
-fn numbers_of_marked(
-    alloc: Global,
-    kinds: &[List<usize>],
-    marks: &[bool],
-    all: bool,
-) -> Result<ObjectList, OutOfMemory>
-    ensures { IfOk result (λ numbers. numbers ≡ numbers_where 0 (λ kind. all || list_any (mark_of marks.now) kind) kinds.now) }
-{
-    let mut numbers = List::new(alloc);
-    let mut number = 0;
-    for kind in kinds {
-        if is_wanted(marks, all, kind) {
-            numbers.push(number)?;
-        }
-        number += 1;
-    }
-    Ok(numbers)
-}
-
 impl Hierarchy {
     /// The order of declared types, and the types of objects in object order. Refuses only for want of memory.
     pub fn new(
@@ -150,17 +102,19 @@ impl Hierarchy {
         types: &TypedList,
         objects: &[&Typed],
     ) -> Result<Hierarchy, OutOfMemory>
-        ensures { IfOk result (λ h. IsHierarchy types.now (map (λ o. o.now) objects.now) h.graph.names h.graph.lower.items h.object h.kinds) }
+        ensures { IfOk result (λ h. IsHierarchy types.now (map (λ o. o.now) objects.now) h.graph.names h.graph.lower.items h.object h.count h.listed.items) }
     {
         let mut graph = TypeGraph::new(alloc);
         graph.add_types(alloc, types)?;
         let name = object_type(alloc)?;
         let object = graph.number(alloc, &name)?;
         let kinds = kinds_of(alloc, &mut graph, objects)?;
+        let listed = listed_by(alloc, kinds.as_slice(), graph.lower.len())?;
         Ok(Hierarchy {
             graph,
             object,
-            kinds,
+            count: kinds.len(),
+            listed,
         })
     }
 
@@ -183,11 +137,13 @@ impl Hierarchy {
     pub fn members(&self, alloc: Global, asked: &TypeList) -> Result<ObjectList, OutOfMemory>
         requires { IsBounded self.now.graph.names self.now.graph.lower.items }
         ensures { IfOk result (λ numbers. (declared objects : ListOf Declaration)
-            → IsHierarchy declared objects self.now.graph.names self.now.graph.lower.items self.now.object self.now.kinds
+            → IsHierarchy declared objects self.now.graph.names self.now.graph.lower.items self.now.object self.now.count self.now.listed.items
             → Members declared objects asked.now numbers) }
     {
         let marks = reached(alloc, &self.graph, asked)?;
-        let all = is_all(&marks, asked, self.object);
-        numbers_of_marked(alloc, self.kinds.as_slice(), &marks, all)
+        if is_all(&marks, asked, self.object) {
+            return all_below(alloc, self.count as u64);
+        }
+        listed_under(alloc, self.listed.as_slice(), &marks)
     }
 }

@@ -14,7 +14,7 @@ members-requires c = bounded _ _ _ c.self.invariant.1.order.graph
 pub returns : goal.returns
 returns c =
     let h = c.self.inside.hierarchy in
-    where_ok (λ (numbers : List ℕ). (declared objects : List Typed) → IsHierarchy declared objects h.graph.names h.graph.lower.items h.object h.kinds → Members declared objects c.args.asked.now numbers)
+    where_ok (λ (numbers : List ℕ). (declared objects : List Typed) → IsHierarchy declared objects h.graph.names h.graph.lower.items h.object h.count h.listed.items → Members declared objects c.args.asked.now numbers)
     (λ (numbers : List ℕ). Members c.args.self.now.domain.types (object_list c.args.self.now.domain c.args.self.now.problem) c.args.asked.now numbers)
     (λ numbers are. subst (λ (f : Factor). Members f.domain.types (object_list f.domain f.problem) c.args.asked.now numbers) c.self.view_is
     (are c.self.inside.factor.domain.types (object_list c.self.inside.factor.domain c.self.inside.factor.problem) c.self.invariant.1))

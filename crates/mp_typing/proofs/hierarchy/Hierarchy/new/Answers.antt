@@ -1,10 +1,24 @@
-use Rattle.std.proofs.Common.{◌≡◌, ◌∙◌, [], ℕ, List, Some, subst}
+use Rattle.std.proofs.Common.{◌≡◌, ◌∙◌, [], ℕ, List, Some, Bor, map, subst, arith}
+use Rattle.std.specs.Prelude.{Contains}
 use Rattle.std.specs.List.{flat_map}
-use Rattle.mp_typing.specs.Graph.{pairs_of}
+use Rattle.mp_factor.specs.declared.typed_values.Typed.{Typed}
+use Rattle.mp_typing.specs.Graph.{under, pairs_of}
 use Rattle.mp_typing.specs.Indexed.{number_of}
 use Rattle.mp_typing.specs.IsA.{object_name}
+use Rattle.mp_typing.specs.Listed.{AreListed}
 use Rattle.mp_typing.proofs.GraphLemmas.{kinds_of_objects}
+use Rattle.mp_typing.proofs.HierarchyLemmas.{kinds_below}
 use Rattle.mp_typing.proofs.hierarchy.Hierarchy.new.Goals as goal
+
+pub listed_by-requires : goal.listed_by-requires
+listed_by-requires c = λ place number found.
+    let names = c.kinds_of.new.graph.names in
+    let types = c.in_ok-add_types.ensures [] c.new-graph.ensures in
+    let graph = c.in_ok-kinds.ensures.graph (flat_map pairs_of c.args.types.now) (c.in_ok-object.ensures.graph (flat_map pairs_of c.args.types.now) types) in
+    let lt = kinds_below names (map (λ (o : Bor Typed). o.now) c.args.objects.now) c.in_ok-kinds.kinds graph.numbering
+    (kinds_of_objects names c.args.objects.now ∙ c.in_ok-kinds.ensures.kinds) place number
+    (subst (λ (rows : List (List ℕ)). Contains (under rows place) number) c.as_slice.ensures found) in
+    omega (arith, lt, graph.sized, c.len.ensures)
 
 pub returns : goal.returns
 returns c =
@@ -17,5 +31,8 @@ returns c =
         graph = c.in_ok-kinds.ensures.graph pairs object;
         object_is = c.in_ok-kinds.ensures.kept object_name c.in_ok-object.object named;
       };
+      kinds = c.in_ok-kinds.kinds;
       kinds_are = kinds_of_objects c.kinds_of.new.graph.names c.args.objects.now ∙ c.in_ok-kinds.ensures.kinds;
+      counted = c.len-2.ensures;
+      listed_are = subst (AreListed c.in_ok-listed.listed.items) c.as_slice.ensures c.in_ok-listed.ensures;
     }

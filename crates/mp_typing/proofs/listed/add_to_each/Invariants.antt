@@ -1,0 +1,6 @@
+use Rattle.std.proofs.Common.{take}
+use Rattle.mp_typing.specs.Listed.{HasMore}
+use Rattle.mp_typing.proofs.listed.add_to_each.Given as goal
+
+abbrev pub invariant-loop-number : goal.invariant-loop-number
+invariant-loop-number l = HasMore l.fn.listed.items l.listed.items (take l.number-index l.numbers) l.place

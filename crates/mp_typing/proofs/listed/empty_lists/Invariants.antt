@@ -1,0 +1,9 @@
+use Rattle.std.proofs.Common.{◌≡◌, [], ℕ, length}
+use Rattle.mp_typing.specs.Graph.{under}
+use Rattle.mp_typing.proofs.listed.empty_lists.Given as goal
+
+abbrev pub invariant-loop : goal.invariant-loop
+invariant-loop l = record {
+  sized : length l.lists.items ≡ l.counter;
+  empty : (number : ℕ) → under l.lists.items number ≡ [];
+}

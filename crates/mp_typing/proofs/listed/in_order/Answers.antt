@@ -1,0 +1,30 @@
+use Rattle.std.proofs.Common.{◌≡◌, ◌∙◌, ℕ, List, eqb, sym, subst}
+use Rattle.std.specs.Prelude.{◌↔◌, Contains}
+use Rattle.std.specs.List.{dedup}
+use Rattle.std.specs.List.Sorted.{IsStrictlyIncreasing}
+use Rattle.std.proofs.lemmas.List.Filters.{dedup_is}
+use Rattle.std.proofs.lemmas.List.Kept.{Contains-dedup_nat, Contains-from_dedup}
+use Rattle.std.proofs.lemmas.List.Sorted.{Contains-permutation, IsPermutation-sym}
+use Rattle.std.proofs.lemmas.Map.Keys.{IsStrictlyIncreasing-dedup}
+use Rattle.mp_typing.proofs.Typing.{where_ok}
+use Rattle.mp_typing.proofs.listed.in_order.Goals as goal
+
+pub returns : goal.returns
+returns c =
+    let old = c.args.numbers.now.items in
+    let sorted = c.sort.new.self.items in
+    let same = c.sort.ensures.permutation in
+    let is : c.as_slice.result.now ≡ dedup eqb sorted = c.as_slice.ensures.value ∙ dedup_is _ _ _ c.dedup.ensures.filtered in
+    where_ok (λ (list : List ℕ). list ≡ c.as_slice.result.now)
+    (λ (list : List ℕ). IsStrictlyIncreasing list × ((number : ℕ) → Contains list number ↔ Contains old number))
+    (λ list made.
+    let whole : list ≡ dedup eqb sorted = made ∙ is in (
+      subst IsStrictlyIncreasing (sym whole) (IsStrictlyIncreasing-dedup sorted c.in_ok-sort.ensures.sorted),
+      (λ number. (
+        (λ found.
+            Contains-permutation sorted old number (IsPermutation-sym old sorted same)
+            (Contains-from_dedup eqb sorted number (subst (λ (ns : List ℕ). Contains ns number) whole found))),
+        (λ found. subst (λ (ns : List ℕ). Contains ns number) (sym whole) (Contains-dedup_nat sorted number (Contains-permutation old sorted number same found))),
+      )),
+    ))
+    c.list_of.result c.list_of.ensures

@@ -1,0 +1,10 @@
+use Rattle.std.proofs.Common.{◌≡◌, ℕ}
+use Rattle.std.specs.Prelude.{◌↔◌, Contains}
+use Rattle.mp_typing.specs.Listed.{IsListed}
+use Rattle.mp_typing.proofs.listed.marked_places.Given as goal
+
+abbrev pub invariant-loop-one : goal.invariant-loop-one
+invariant-loop-one l = record {
+  counted : l.number ≡ l.one-index;
+  are : (place : ℕ) → Contains l.places.items place ↔ IsListed l.listed l.marks l.one-index place;
+}
