@@ -14,4 +14,4 @@ mod turning;
 pub use grounded::Ground;
 pub use grounding::ground;
 pub use refusal::GroundRefusal;
-pub use stepping::step_name;
+pub use stepping::StepNames;

@@ -5,7 +5,7 @@ ghost use Rattle.mp_grounder.specs.Named.{step_of};
 ghost use Rattle.mp_outcome.specs.Renumbered.{IsRenumbered};
 ghost use Rattle.mp_trail.specs.declared.steps.Timed.{Timed as TimedOf};
 
-use mp_ground::step_name;
+use mp_ground::StepNames;
 use mp_joint::Names;
 use mp_lifted::ActionBindingList;
 use mp_list::{List, OutOfMemory, to_u32};
@@ -39,21 +39,21 @@ impl Named {
     fn add(
         &mut self,
         alloc: Global,
-        factor: &CheckedFactor,
+        told: &StepNames<'_>,
         me: Agent,
         steps: &ActionBindingList,
         timed: Timed,
     ) -> Result<(), OutOfMemory>
         ensures { (share : ListOf TimedOf)
-            → IsRenumbered (map (step_of me factor.now) steps.now) share self.old.names self.old.share
-            → OnOk result (IsRenumbered (map (step_of me factor.now) steps.now) (share ++ timed ∷ [])
+            → IsRenumbered (map (step_of me told.now) steps.now) share self.old.names self.old.share
+            → OnOk result (IsRenumbered (map (step_of me told.now) steps.now) (share ++ timed ∷ [])
             self.new.names self.new.share) }
     {
         let Some(step) = steps.get(timed.action as usize) else {
             return Ok(());
         };
         let action = to_u32(self.names.len())?;
-        self.names.push(step_name(alloc, factor, me, step)?)?;
+        self.names.push(told.step(alloc, me, step)?)?;
         self.share.push(Timed {
             time: timed.time,
             action,
@@ -61,7 +61,7 @@ impl Named {
     }
 }
 
-/// An agent's share of a plan by names. Refuses only for want of memory.
+/// An agent's share of a plan by names. No object is looked at where the share is empty. Refuses only for want of memory.
 pub(crate) fn named_share(
     alloc: Global,
     factor: &CheckedFactor,
@@ -73,8 +73,12 @@ pub(crate) fn named_share(
         named.names named.share) }
 {
     let mut named = Named::new(alloc);
+    if share.is_empty() {
+        return Ok(named);
+    }
+    let told = StepNames::new(alloc, factor)?;
     for timed in share {
-        named.add(alloc, factor, me, steps, *timed)?;
+        named.add(alloc, &told, me, steps, *timed)?;
     }
     Ok(named)
 }
