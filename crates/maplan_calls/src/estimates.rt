@@ -6,7 +6,7 @@ ghost use Rattle.mp_task.specs.Heuristic.{SizesFit};
 use crate::calls::{Answers, Call, Out, run_lines};
 use crate::tasks::task;
 use mp_hmax::Hmax;
-use mp_list::{Copied, OutOfMemory};
+use mp_list::OutOfMemory;
 use mp_lmcut::Cut;
 use mp_pdb::Pdb;
 use mp_sets::Bits;
@@ -33,11 +33,10 @@ fn start<H: Heuristic>(alloc: Global, task: &Task, out: &mut Out) -> Result<(), 
     twice(&mut H::make(alloc, task)?, &publics, &privates, out)
 }
 
-/// Adds whether the first action of the copy of a task is public.
+/// Adds whether the first action of a task is public.
 fn first_public(task: &Task, out: &mut Out) -> Result<(), OutOfMemory> {
-    let copy = task.copy()?;
-    if copy.acts.len() > 0 {
-        out.show(&copy.is_public(0));
+    if task.acts.len() > 0 {
+        out.show(&task.is_public(0));
     }
     Ok(())
 }

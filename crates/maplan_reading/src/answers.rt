@@ -5,7 +5,7 @@ use crate::said::{show_domain, show_problem};
 use crate::texts::{Texts, checked, tree_in};
 use crate::words::{show, show_not_read, show_number, show_word};
 use mp_factor::{File, domain, domain_fault, problem, problem_fault};
-use mp_list::{Copied, List, OutOfMemory};
+use mp_list::{List, OutOfMemory};
 use mp_sexp::{Name, Tree};
 use mp_typing::{CheckedFactor, TypeList};
 use std::alloc::Global;
@@ -36,18 +36,18 @@ pub(crate) fn answer_fault(
     }
 }
 
-/// Adds what a copy of the domain of a tree says, or the refusal.
+/// Adds what the domain of a tree says, or the refusal.
 fn show_domain_of(alloc: Global, out: &mut Vec<u8>, tree: &Tree) -> Result<(), OutOfMemory> {
     match domain(alloc, tree) {
-        Ok(said) => show_domain(out, &said.copy()?),
+        Ok(said) => show_domain(out, &said),
         Err(refusal) => show_shape(out, &refusal),
     }
 }
 
-/// Adds what a copy of the problem of a tree says, or the refusal.
+/// Adds what the problem of a tree says, or the refusal.
 fn show_problem_of(alloc: Global, out: &mut Vec<u8>, tree: &Tree) -> Result<(), OutOfMemory> {
     match problem(alloc, tree) {
-        Ok(said) => show_problem(out, &said.copy()?),
+        Ok(said) => show_problem(out, &said),
         Err(refusal) => show_shape(out, &refusal),
     }
 }

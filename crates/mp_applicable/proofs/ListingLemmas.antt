@@ -68,18 +68,6 @@ module _ (number fact : ℕ) (act : Act) (old : ActionLists) where
     listed = inr (inr (under_taken old.privates new fact number taken act.pre_priv needed));
   }
 
--- under none
-pub under_none : (number : ℕ) (act : Act) (old : ActionLists) → IsListedToo number act old (record old { free = old.free ++ number ∷ [] })
-under_none number act old = record {
-  publics = refl;
-  privates = refl;
-  kept = λ k a was. elim was [
-    | inl free ↦ inl (Contains-append_left old.free (number ∷ []) k free)
-    | inr other ↦ inr other
-  ];
-  listed = inl (Contains-push old.free number);
-}
-
 -- ---- the actions below a number are listed
 
 pub record AreListedBelow (t : AgentTask) (n : ℕ) (l : ActionLists) : Type 0 where

@@ -1,7 +1,6 @@
 -- Tests of joint states in agents' searches decide whether they are one.
-use Rattle.std.proofs.Common.{◌≡◌, true, eqb, refl, eqb-true, eq-eqb, subst}
+use Rattle.std.proofs.Common.{◌≡◌, true, eqb, refl, eqb-true, eq-eqb}
 use Rattle.std.proofs.lemmas.Bool.{and_parts, and_from}
-use Rattle.std.specs.Bool.{Decides}
 use Rattle.std.specs.Cmp.Lexicographic.{pointwise, pointwise_decides}
 use Rattle.mp_sets.specs.Numbers.{same}
 use Rattle.mp_sets.proofs.SetLemmas.{Decides-same}
@@ -31,6 +30,3 @@ known_is k l h =
 
 pub known_itself : (k : Known) → same_known k k ≡ true
 known_itself k = and_from (eqb k.agent k.agent) (same_state k.state k.state) (eq-eqb k.agent k.agent refl) (state_itself k.state)
-
-pub Decides-known : (k l : Known) → Decides (same_known k l) (k ≡ l)
-Decides-known k l = (known_is k l, λ e. subst (λ x. same_known k x ≡ true) e (known_itself k))

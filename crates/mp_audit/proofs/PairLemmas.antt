@@ -5,8 +5,7 @@ use Rattle.std.specs.List.{flat_map}
 use Rattle.std.proofs.lemmas.List.Elements.{All-append, All-cons}
 use Rattle.std.proofs.lemmas.List.Kept.{AllPairs-cons}
 use Rattle.std.proofs.lemmas.Option.{none-some, same_Some}
-use Rattle.mp_list.proofs.Members.{contains_cases, contains_head, contains_tail, no_member}
-use Rattle.mp_team_states.proofs.Members.{from_flat_map, from_map}
+use Rattle.mp_list.proofs.Members.{contains_cases, contains_head, contains_tail, no_member, from_flat_map, from_map}
 
 pub all_by : {X : Type 0} (P : X → Type 0) (xs : List X) → ((x : X) → Contains xs x → P x) → All P xs
 all_by P [] each = λ k d h. absurd (omega arith)

@@ -6,7 +6,7 @@ use Rattle.std.specs.Option.{option_map_or}
 use Rattle.std.proofs.lemmas.Bool.{and_from, and_parts, false≢true, leb-false, leb-true, lt-ltb, ltb-false, ltb-true}
 use Rattle.std.proofs.lemmas.List.Kept.{AllPairs-filter}
 use Rattle.std.proofs.lemmas.Option.{none-some, slice_get-get_or}
-use Rattle.mp_list.proofs.Members.{all_at, contains_head, contains_tail}
+use Rattle.mp_list.proofs.Members.{all_at, contains_head, contains_tail, from_flat_map, from_map, to_flat_map, to_map}
 use Rattle.mp_task.specs.AgentTask.{AgentTask}
 use Rattle.mp_task.specs.Plan.{JointState}
 use Rattle.mp_task.proofs.Agreeing.{Contains-slice_get}
@@ -36,7 +36,7 @@ use Rattle.mp_team_states.specs.Expansions.{nothing_known}
 use Rattle.mp_team_states.specs.TeamFound.{found_of, seen_entry}
 use Rattle.mp_team_states.proofs.Found.{entry_found, found_entry}
 use Rattle.mp_team_states.proofs.Heuristics.{knows_nothing}
-use Rattle.mp_team_states.proofs.Members.{at_place, from_flat_map, from_map, to_flat_map, to_map}
+use Rattle.mp_team_states.proofs.Members.{at_place}
 use Rattle.mp_team_states.proofs.Runs.{IsInvariantFor, run_invariant}
 use Rattle.mp_team_states.proofs.SoundWorlds.{me_is, states_known}
 use Rattle.mp_team_snapshots.specs.Found.{findings_in}

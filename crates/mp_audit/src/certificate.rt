@@ -1,6 +1,6 @@
 //! Certificates that no plan is cheaper than a cost.
 
-use mp_list::{Copied, List, OutOfMemory};
+use mp_list::List;
 use mp_sets::{Agent, FactList};
 
 /// Lists of private facts, for each agent of a team in their order.
@@ -29,17 +29,6 @@ impl Drop for Bound {
     }
 }
 
-impl Copied for Bound {
-    fn copy(&self) -> Result<Bound, OutOfMemory> {
-        Ok(Bound {
-            agent: self.agent,
-            bound: self.bound,
-            publics: self.publics.copy()?,
-            privates: self.privates.copy()?,
-        })
-    }
-}
-
 /// Entries of a certificate in their order.
 pub type BoundList = List<Bound>;
 
@@ -51,13 +40,4 @@ pub struct Certificate {
     pub cost: u64,
     /// What is to be paid at least, by agents and joint states. From a state that is not named it may be nothing.
     pub bounds: BoundList,
-}
-
-impl Copied for Certificate {
-    fn copy(&self) -> Result<Certificate, OutOfMemory> {
-        Ok(Certificate {
-            cost: self.cost,
-            bounds: self.bounds.copy()?,
-        })
-    }
 }

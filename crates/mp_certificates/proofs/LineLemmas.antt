@@ -16,10 +16,8 @@ use Rattle.mp_text.specs.Lines.{Text}
 use Rattle.mp_text.specs.Reading.{byte_at, text_behind}
 use Rattle.mp_text.proofs.PairLemmas.{byte_again, byte_read, text_again, text_read}
 use Rattle.mp_certificates.specs.Accepted.{IsEntry}
-use Rattle.mp_certificates.specs.Reading.{Fails, all_lists_at, cost_at, entry_at, head_at, list_at, lists_at, number_at}
+use Rattle.mp_certificates.specs.Reading.{all_lists_at, cost_at, entry_at, head_at, list_at, lists_at, number_at}
 use Rattle.mp_certificates.specs.Text.{blank_facts, cost_line, entry_line, facts_text}
-use Rattle.mp_certificates.specs.declared.unread.Unread.{Unread}
-use Rattle.mp_certificates.specs.declared.unread.Unread.TheVariants.{OtherForm, OutOfMemory}
 use Rattle.mp_certificates.proofs.NumberLemmas.{number_again, number_read}
 use Rattle.mp_certificates.proofs.FactLemmas.{list_again, list_read}
 use Rattle.mp_certificates.proofs.ListLemmas.{behind_list, lists_again, lists_read}
@@ -116,13 +114,6 @@ by_lists : (tasks : List AgentTask) (text : Text) (head : ℕ × ℕ) (rest : Te
 unfolding entry_at
 by_lists tasks text head rest e =
     ap (λ (o : Option ((ℕ × ℕ) × Text)). o >>= behind_head tasks) e ∙ by_publics tasks head (list_at (publics_of tasks) rest)
-
-pub entry_no_lists : (unread : Unread) (tasks : List AgentTask) (text : Text) (head : ℕ × ℕ) (rest : Text)
-    → head_at (length tasks) text ≡ Some (head, rest) → Fails unread (all_lists_at tasks rest)
-    → Fails unread (entry_at tasks text)
-entry_no_lists OtherForm tasks text head rest e none =
-    by_lists tasks text head rest e ∙ ap (λ (o : Option (List (List ℕ) × Text)). o >>= behind_all_lists head) none
-entry_no_lists OutOfMemory tasks text head rest e none = tt
 
 -- what is read behind the lists decides
 pub entry_by_end : (tasks : List AgentTask) (text : Text) (head : ℕ × ℕ) (rest : Text) (lists : List (List ℕ)) (after : Text)
@@ -244,9 +235,3 @@ line_longer line text rest is =
 
 pub entry_shorter : (tasks : List AgentTask) (text : Text) (x : Bound × Text) → IsEntryRead tasks text x → length x.1 < length text
 entry_shorter tasks text x read = let longer = line_longer (entry_line x.0) text x.1 read.is in omega (arith, longer)
-
-pub cost_shorter : (text : Text) (x : ℕ × Text) → IsCostRead text x → length x.1 + 2 ≤ length text
-cost_shorter text x read =
-    let longer = line_longer (cost_line x.0) text x.1 read.is in
-    let label = length-append (codes "bound ") (decimal x.0) in
-    omega (arith, longer, label)

@@ -33,7 +33,3 @@ covers_at f names (y ∷ ys) zero x c at =
     let is : y ≡ x = cc in
     subst (λ z. Covers names (f z)) is (covers_left names (f y) (flat_map f ys) c)
 covers_at f names (y ∷ ys) (suc k) x c at = covers_at f names ys k x (covers_right names (f y) (flat_map f ys) c) at
-
--- names cover themselves
-pub covers_itself : (names : List Text) → Covers names names
-covers_itself names w h = h

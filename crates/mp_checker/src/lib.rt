@@ -20,7 +20,6 @@ mod mixed;
 mod numbered;
 mod objects;
 mod places;
-mod privates;
 mod room;
 mod sink;
 mod standing;

@@ -1,6 +1,6 @@
 //! What takes the actions of a plan, with numbers for their facts.
 
-ghost use Rattle.std.specs.Prelude.{◌≡◌, ◌++◌, ◌∷◌, [], List, OnOk};
+ghost use Rattle.std.specs.Prelude.{◌++◌, ◌∷◌, [], List, OnOk};
 ghost use Rattle.mp_checker.specs.Sink.{HasCome};
 ghost use Rattle.mp_checker.specs.Steps.{NumberedStep};
 

@@ -8,7 +8,7 @@ use Rattle.std.proofs.lemmas.List.Sums.{sum_by-set}
 use Rattle.std.proofs.lemmas.List.Sorted.{All-permutation, Contains-permutation, length_permutation, sum_by_pushed}
 use Rattle.std.specs.List.Sorted.{IsPermutation}
 use Rattle.mp_estimates.specs.Estimates.{AtMost, Values}
-use Rattle.mp_estimates.specs.Lowering.{unknown, known, number_at, value_at, Key, key, Waits, HaveFallen, IsProper, entries, AreBelow}
+use Rattle.mp_estimates.specs.Lowering.{unknown, known, number_at, Key, key, Waits, HaveFallen, IsProper, entries, AreBelow}
 use Rattle.mp_estimates.proofs.ProperLemmas.{mark_of, mark_same, mark_other_fact, entries_none}
 
 -- numbers that stand for costs
@@ -26,16 +26,6 @@ known-mono m n le = ⊎_elim
     (cases_lt n unknown)
 
 -- numbers that fall
-
-pub fallen_refl : (numbers : List ℕ) (queue : List Key) → HaveFallen numbers queue numbers queue
-fallen_refl numbers queue = record {
-  as_many = refl;
-  lower = λ x. omega arith;
-  quiet = λ x h. (refl, h);
-  inside = λ h. h;
-  lighter = omega arith;
-  proper = λ h. h;
-}
 
 pub fallen_trans : (a : List ℕ) (p : List Key) (b : List ℕ) (q : List Key) (c : List ℕ) (r : List Key) → HaveFallen a p b q → HaveFallen b q c r → HaveFallen a p c r
 fallen_trans a p b q c r h k = record {
@@ -119,13 +109,6 @@ module _ (numbers : List ℕ) (queue after : List Key) (x cost : ℕ) (within : 
         omega arith;
     proper = proper_at;
   }
-
--- values below those of numbers that have fallen at one place stay below where the new one is no lower
-pub below_one : (numbers : List ℕ) (x cost : ℕ) (values : Values) → x < length numbers → AtMost (values x) (known cost) → AreBelow values numbers → AreBelow values (set_at numbers x cost)
-below_one numbers x cost values within low below = λ y. ⊎_elim
-    (λ e. subst (λ z. AtMost (values z) (value_at (set_at numbers x cost) z)) (sym e) (subst (λ n. AtMost (values x) (known n)) (sym (get_or-set_same numbers x cost unknown within)) low))
-    (λ ne. subst (λ n. AtMost (values y) (known n)) (sym (get_or-set_other numbers x y cost unknown ne)) (below y))
-    (cases_eq y x)
 
 -- all stand for none
 

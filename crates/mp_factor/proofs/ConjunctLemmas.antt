@@ -1,15 +1,10 @@
 -- The conjuncts of a tree, by the members of its list, and what is said of each of them.
-use Rattle.std.proofs.Common.{◌≡◌, ◌<◌, ◌≤◌, Bool, true, false, List, [], ◌∷◌, ◌++◌, map, length, get_or, flat_map, refl, sym, ap, ◌∙◌, arith}
-use Rattle.std.specs.Prelude.{ℕ, codes, if◌then◌else◌}
-use Rattle.std.specs.Global.{Vec}
-use Rattle.std.proofs.lemmas.List.{append-nil, map-append}
-use Rattle.std.proofs.lemmas.List.Concat.{flat_map-append}
-use Rattle.mp_sexp.specs.declared.tree.Place.{Place}
-use Rattle.mp_sexp.specs.declared.tree.Tree.{Tree, Word as tree_word, List as tree_list}
-use Rattle.mp_sexp.specs.Node.{Node, list, node_of, nodes_from, nodes_in}
-use Rattle.mp_sexp.proofs.Trees.{node_of-list}
-use Rattle.mp_factor.specs.Parts.{is_word}
-use Rattle.mp_factor.specs.Conjuncts.{conjuncts, conjuncts_of_all}
+use Rattle.mp_factor.proofs.Basics.{◌≡◌, ◌<◌, ◌≤◌, Bool, true, false, List, [], ◌∷◌, ◌++◌, map, length, get_or, refl, sym, ap, ◌∙◌, arith, codes, if◌then◌else◌, Vec, append-nil, map-append, flat_map-append, Place, Tree, Node, list, node_of, nodes_in}
+use Rattle.mp_factor.proofs.Basics.{node_of-list, is_word, conjuncts, conjuncts_of_all}
+use Rattle.std.proofs.Common.{flat_map}
+use Rattle.std.specs.Prelude.{ℕ}
+use Rattle.mp_sexp.specs.declared.tree.Tree.{Word as tree_word, List as tree_list}
+use Rattle.mp_sexp.specs.Node.{nodes_from}
 use Rattle.mp_factor.proofs.Steps.{first_and_others, behind}
 
 of_all-from : (ns : List Node) → conjuncts_of_all (nodes_from ns) ≡ flat_map conjuncts ns

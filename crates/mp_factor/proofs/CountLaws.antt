@@ -1,25 +1,12 @@
 -- What an action says has few parameters and few increases.
-use Rattle.std.proofs.Common.{◌≡◌, ℕ, ◌+◌, ◌≤◌, Bool, true, false, List, [], ◌∷◌, length, take, arith, refl, sym, ap, subst, ◌∙◌, length-append, true≢false}
-use Rattle.std.specs.Prelude.{if◌then◌else◌, ◌&&◌, codes}
-use Rattle.std.specs.List.{filter, flat_map}
+use Rattle.mp_factor.proofs.Basics.{◌≡◌, ℕ, ◌+◌, ◌≤◌, Bool, true, false, List, [], ◌∷◌, length, take, arith, refl, sym, ap, subst, ◌∙◌, length-append, true≢false, if◌then◌else◌, codes, filter, flat_map, Place, Node, Shape, Word, Typed, Change, Add}
+use Rattle.mp_factor.proofs.Basics.{Delete, Grow, fault_at, is_word, place_of, parts, is_list, is_variable_word, is_negation, is_increase, Reading, Says, misshapen, said, both, each, wanted, of_first, once, word_at, variable_rule, atom_rule}
+use Rattle.mp_factor.proofs.Basics.{negated_rule, increase_rule, change_rule, increase_in, Declared, with_type, with_item, with_block, is_dash, type_rule, typed_of, typed_from, type_first, typed_rule, variables, Key, in_key, agent_rule}
+use Rattle.mp_factor.proofs.Basics.{parameters_rule, parameter_members}
+use Rattle.std.specs.Prelude.{◌&&◌}
 use Rattle.std.proofs.lemmas.List.Elements.{filter-append}
-use Rattle.mp_sexp.specs.declared.tree.Place.{Place}
-use Rattle.mp_sexp.specs.Node.{Node}
-use Rattle.mp_factor.specs.declared.fault.FaultKind.TheVariants.{Shape}
-use Rattle.mp_factor.specs.declared.word.Word.{Word}
-use Rattle.mp_factor.specs.declared.typed_values.Typed.{Typed}
-use Rattle.mp_factor.specs.declared.effect_values.Change.{Change}
-use Rattle.mp_factor.specs.declared.effect_values.Change.TheVariants.{Add, Delete, Grow}
-use Rattle.mp_factor.specs.Faults.{fault_at}
-use Rattle.mp_factor.specs.Parts.{is_word, place_of, parts, is_list, is_variable_word}
-use Rattle.mp_factor.specs.Conjuncts.{is_negation, is_increase}
-use Rattle.mp_factor.specs.Reading.{Reading, Says, misshapen, said, both, each, wanted, of_first, once}
-use Rattle.mp_factor.specs.Rules.Words.{word_at, variable_rule}
-use Rattle.mp_factor.specs.Rules.Atoms.{atom_rule}
-use Rattle.mp_factor.specs.Rules.Conditions.{negated_rule}
-use Rattle.mp_factor.specs.Rules.Effects.{increase_rule, change_rule, increase_in}
-use Rattle.mp_factor.specs.Rules.Typed.{Declared, with_type, with_item, with_block, is_dash, is_no_word, type_rule, typed_of, typed_from, type_first, typed_rule, variables}
-use Rattle.mp_factor.specs.Rules.Actions.{Key, in_key, agent_rule, parameters_rule, first_parts, parameter_members}
+use Rattle.mp_factor.specs.Rules.Typed.{is_no_word}
+use Rattle.mp_factor.specs.Rules.Actions.{first_parts}
 use Rattle.mp_factor.proofs.OneWord.{no_other_word}
 use Rattle.mp_factor.proofs.GivesLemmas.{Gives, Any, gives_any, gives_says, gives_wrong, gives_if, gives_where, gives_said, gives_both, gives_besides}
 

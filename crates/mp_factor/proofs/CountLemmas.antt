@@ -1,15 +1,7 @@
 -- What may stand at most so many times, as a loop counts it.
-use Rattle.std.proofs.Common.{◌≡◌, ℕ, zero, suc, ◌+◌, ◌-◌, ◌<◌, ◌≤◌, Bool, true, false, ◌&&◌, List, [], ◌∷◌, ◌++◌, length, get_or, drop, map, Result, Err, refl, sym, ap, ◌∙◌, drop-cons, arith}
-use Rattle.std.specs.Prelude.{◌==◌, if◌then◌else◌}
-use Rattle.std.specs.List.{filter, flat_map}
+use Rattle.mp_factor.proofs.Basics.{◌≡◌, ℕ, zero, suc, ◌+◌, ◌-◌, ◌<◌, ◌≤◌, Bool, true, false, ◌&&◌, List, [], ◌∷◌, ◌++◌, length, get_or, drop, map, Result, Err, refl, sym, ap, ◌∙◌, drop-cons, arith, ◌==◌, if◌then◌else◌, filter, flat_map}
+use Rattle.mp_factor.proofs.Basics.{drop_of_length-le, Place, Fault, FaultKind, fault_at, Reading, all_right, at_most, found_in, second_found, nothing_found}
 use Rattle.std.proofs.Math.Dec.{eqb-suc-zero}
-use Rattle.std.proofs.Math.ListN.{drop_of_length-le}
-use Rattle.mp_sexp.specs.declared.tree.Place.{Place}
-use Rattle.mp_factor.specs.declared.fault.Fault.{Fault}
-use Rattle.mp_factor.specs.declared.fault.FaultKind.{FaultKind}
-use Rattle.mp_factor.specs.Faults.{fault_at}
-use Rattle.mp_factor.specs.Reading.{Reading, all_right, at_most}
-use Rattle.mp_factor.specs.Found.{found_in, second_found, nothing_found}
 use Rattle.mp_factor.proofs.FoundLemmas.{checks_begin, found_all_right, nothing_second, second_assoc}
 
 -- what is found of one that is counted, or not

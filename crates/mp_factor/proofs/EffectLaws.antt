@@ -1,37 +1,16 @@
 -- What costs, effects and the start say is written in their tree, and no cost is too great.
-use Rattle.std.proofs.Common.{◌≡◌, ℕ, ◌≤◌, Bool, true, false, not, ◌||◌, List, [], ◌∷◌, Option, Some, None, All, length, arith, leb-true, refl, subst}
-use Rattle.std.specs.Prelude.{if◌then◌else◌, ◌==◌, nat_le, codes}
-use Rattle.std.specs.List.{filter, flat_map, list_all}
-use Rattle.std.proofs.lemmas.Bool.{cond_both}
-use Rattle.std.proofs.lemmas.List.Elements.{All-nil, All-cons, All-head, All-tail, All-weaker}
-use Rattle.mp_sexp.specs.declared.tree.Place.{Place}
-use Rattle.mp_sexp.specs.Node.{Node, word, list}
-use Rattle.mp_factor.specs.declared.word.Word.{Word}
-use Rattle.mp_factor.specs.declared.fault.FaultKind.TheVariants.{Cost}
-use Rattle.mp_factor.specs.declared.atom_values.Atom.{Atom}
-use Rattle.mp_factor.specs.declared.effect_values.Increase.{Increase}
-use Rattle.mp_factor.specs.declared.effect_values.Increase.TheVariants.{Number, Function}
-use Rattle.mp_factor.specs.declared.effect_values.Change.{Change}
-use Rattle.mp_factor.specs.declared.effect_values.Change.TheVariants.{Add, Delete, Grow}
-use Rattle.mp_factor.specs.declared.effect_values.Effect.{Effect}
-use Rattle.mp_factor.specs.declared.init_values.Value.{Value}
-use Rattle.mp_factor.specs.declared.init_values.Fact.{Fact}
+use Rattle.mp_factor.proofs.Basics.{◌≡◌, ℕ, ◌≤◌, Bool, true, false, not, ◌||◌, List, [], ◌∷◌, Option, Some, None, All, length, arith, refl, subst, if◌then◌else◌, ◌==◌, codes, filter, flat_map, cond_both, All-nil, All-cons, All-head, All-tail}
+use Rattle.mp_factor.proofs.Basics.{All-weaker, Place, Node, word, list, Word, Cost, Atom, Increase, Number, Function, Change, Add, Delete, Grow, Effect, Value, Fact, Start, fault_at, place_of, word_of, parts, is_list, is_headed, conjuncts}
+use Rattle.mp_factor.proofs.Basics.{is_negation, is_increase, greatest_cost, cost_of, words_of, most_increases, HasOneCostEach, IsAtomOf, said, both, each, name_rule, object_rule, term_rule, applied_rule, atom_rule, negated_rule, increase_rule}
+use Rattle.mp_factor.proofs.Basics.{change_rule, increase_in, effect_of, effect_rule, fact_rule, given, differing, atom_in, value_in, start_of, init_rule}
+use Rattle.std.proofs.Common.{leb-true}
+use Rattle.std.specs.Prelude.{nat_le}
+use Rattle.std.specs.List.{list_all}
 use Rattle.mp_factor.specs.declared.init_values.Fact.TheVariants as facts
-use Rattle.mp_factor.specs.declared.init_values.Start.{Start}
-use Rattle.mp_factor.specs.Faults.{fault_at}
-use Rattle.mp_factor.specs.Parts.{place_of, word_of, parts, is_list, is_headed}
-use Rattle.mp_factor.specs.Conjuncts.{conjuncts, is_negation, is_increase}
-use Rattle.mp_factor.specs.Numbers.{greatest_cost, is_number, decimals, whole_part, least_of_whole, cost_of}
-use Rattle.mp_factor.specs.Written.{words_of}
-use Rattle.mp_factor.specs.Limits.{most_increases, HasOneCostEach}
-use Rattle.mp_factor.specs.Named.{IsAtomOf}
-use Rattle.mp_factor.specs.Reading.{said, both, each}
-use Rattle.mp_factor.specs.Rules.Words.{name_rule}
+use Rattle.mp_factor.specs.Numbers.{is_number, decimals, whole_part, least_of_whole}
 use Rattle.mp_factor.specs.Rules.Costs.{allowed, cost_rule}
-use Rattle.mp_factor.specs.Rules.Atoms.{object_rule, term_rule, applied_rule, atom_rule}
-use Rattle.mp_factor.specs.Rules.Conditions.{negated_rule}
-use Rattle.mp_factor.specs.Rules.Effects.{target_rule, amount_rule, increase_members, increase_rule, change_rule, add_in, delete_in, increase_in, effect_of, effect_rule}
-use Rattle.mp_factor.specs.Rules.Init.{gives, value_members, fact_rule, given, differing, atom_in, value_in, start_of, init_rule}
+use Rattle.mp_factor.specs.Rules.Effects.{target_rule, amount_rule, increase_members, add_in, delete_in}
+use Rattle.mp_factor.specs.Rules.Init.{gives, value_members}
 use Rattle.mp_factor.proofs.GivesLemmas.{Gives, gives_says, gives_wrong, gives_if, gives_said, gives_both, gives_besides, gives_each, none_wrong, few}
 use Rattle.mp_factor.proofs.TreeWords.{InTree, OfName, OfVariable, in_parts, in_conjuncts}
 use Rattle.mp_factor.proofs.FormLaws.{all_flat, name_gives, object_gives, term_gives, applied_gives, atom_gives, negated_gives}

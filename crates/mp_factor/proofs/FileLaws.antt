@@ -1,36 +1,15 @@
 -- What actions, sections and files say is written in their tree, and keeps the limits.
-use Rattle.std.proofs.Common.{◌≡◌, ℕ, zero, suc, ◌+◌, ◌≤◌, Bool, true, false, List, [], ◌∷◌, take, Some, All, length, length-append, arith}
-use Rattle.std.specs.Prelude.{codes}
-use Rattle.std.specs.List.{filter, flat_map}
-use Rattle.std.proofs.lemmas.List.Elements.{All-nil, All-cons, All-head, All-tail, All-append, All-take, All-map, All-weaker, All-filter}
-use Rattle.mp_sexp.specs.declared.tree.Place.{Place}
-use Rattle.mp_sexp.specs.Node.{Node}
-use Rattle.mp_factor.specs.declared.fault.FaultKind.TheVariants.{Parameters}
-use Rattle.mp_factor.specs.declared.word.Word.{Word}
-use Rattle.mp_factor.specs.declared.typed_values.Typed.{Typed}
-use Rattle.mp_factor.specs.declared.literal.Literal.{Literal}
-use Rattle.mp_factor.specs.declared.effect_values.Increase.{Increase}
-use Rattle.mp_factor.specs.declared.effect_values.Increase.TheVariants.{Number, Function}
-use Rattle.mp_factor.specs.declared.effect_values.Effect.{Effect}
-use Rattle.mp_factor.specs.declared.init_values.Value.{Value}
-use Rattle.mp_factor.specs.declared.schema_values.Schema.{Schema}
-use Rattle.mp_factor.specs.FactorParts.{DomainParts, ProblemParts}
-use Rattle.mp_factor.specs.Faults.{fault_at}
-use Rattle.mp_factor.specs.Parts.{place_of, parts, rest_of, is_list, is_headed, is_word, is_variable_word}
-use Rattle.mp_factor.specs.Numbers.{cost_of, greatest_cost}
-use Rattle.mp_factor.specs.Limits.{most_parameters, IsAllowedIncrease, SchemaFits, DomainFits, ProblemFits}
-use Rattle.mp_factor.specs.Named.{IsTypedOf, IsSignatureOf, IsAtomOf, IsLiteralOf, IsIncreaseOf, IsValueOf, IsSchemaOf, IsDomainOf, IsProblemOf}
+use Rattle.mp_factor.proofs.Basics.{◌≡◌, ℕ, zero, suc, ◌+◌, ◌≤◌, Bool, true, false, List, [], ◌∷◌, take, Some, All, length, length-append, arith, codes, filter, flat_map, All-nil, All-cons, All-head, All-tail, All-append, All-map, All-weaker}
+use Rattle.mp_factor.proofs.Basics.{All-filter, Place, Node, Parameters, Word, Typed, Literal, Increase, Number, Function, Effect, Value, Schema, DomainParts, ProblemParts, fault_at, place_of, parts, rest_of, is_list, is_headed, is_word}
+use Rattle.mp_factor.proofs.Basics.{is_variable_word, cost_of, greatest_cost, most_parameters, DomainFits, ProblemFits, IsTypedOf, IsSignatureOf, IsAtomOf, IsLiteralOf, IsIncreaseOf, IsValueOf, IsSchemaOf, IsDomainOf, IsProblemOf, Reading, Says}
+use Rattle.mp_factor.proofs.Basics.{both, wanted, alone, name_rule, variable_rule, condition_rule, effect_rule, no_effect, Listing, type_rule, typed_of, typed_rule, variables, names, objects, declared_predicate, declared_function, predicates}
+use Rattle.mp_factor.proofs.Basics.{functions, Key, keyed, value_length, keys_behind, keys_of, in_key, agent_rule, parameters_rule, parameter_members, schema_of, keys_rule, action_rule, empty_start, in_section, listed_rule, named_rule, start_rule}
+use Rattle.mp_factor.proofs.Basics.{goal_rule, actions_rule, domain_of, domain_parts, domain_sections, problem_of, problem_parts, problem_sections, title_rule, define_members, file_rule, domain_rule, problem_rule}
+use Rattle.std.proofs.lemmas.List.Elements.{All-take}
+use Rattle.mp_factor.specs.Limits.{IsAllowedIncrease, SchemaFits}
 use Rattle.mp_factor.specs.Taken.{increase_costs, schema_costs, costs_of_domain, costs_of_problem}
-use Rattle.mp_factor.specs.Reading.{Reading, Says, both, wanted, alone}
-use Rattle.mp_factor.specs.Rules.Words.{name_rule, variable_rule}
-use Rattle.mp_factor.specs.Rules.Conditions.{condition_rule}
-use Rattle.mp_factor.specs.Rules.Effects.{effect_rule, no_effect}
-use Rattle.mp_factor.specs.Rules.Typed.{Listing, type_rule, typed_of, typed_rule, variables, names, objects}
-use Rattle.mp_factor.specs.Rules.Signatures.{declared_predicate, declared_function, predicates, functions}
-use Rattle.mp_factor.specs.Rules.Actions.{Key, keyed, value_length, keys_behind, keys_of, in_key, agent_rule, parameters_rule, parameter_members, schema_of, keys_rule, action_members, action_rule}
-use Rattle.mp_factor.specs.Rules.Init.{empty_start}
-use Rattle.mp_factor.specs.Rules.Sections.{in_section, listed_rule, named_rule, start_rule, goal_rule, actions_rule}
-use Rattle.mp_factor.specs.Rules.Files.{domain_of, domain_parts, domain_sections, problem_of, problem_parts, problem_sections, title_members, title_rule, define_members, file_rule, domain_rule, problem_rule}
+use Rattle.mp_factor.specs.Rules.Actions.{action_members}
+use Rattle.mp_factor.specs.Rules.Files.{title_members}
 use Rattle.mp_factor.proofs.GivesLemmas.{Gives, Any, To, gives_any, gives_says, gives_wrong, gives_if, gives_both, gives_besides, gives_with, gives_each, gives_alone, gives_wanted, gives_once, few}
 use Rattle.mp_factor.proofs.TreeWords.{InTree, OfName, OfVariable, in_parts, in_rest}
 use Rattle.mp_factor.proofs.FormLaws.{Listed, typed_gives, all_flat, name_gives, variable_gives, type_of_gives, condition_gives, variables_listed, names_listed, objects_listed, declared_predicate_gives, declared_function_gives, with_blocks_listed}

@@ -1,25 +1,13 @@
 -- A map that has the first cost of each function, while values are read.
-use Rattle.std.proofs.Common.{◌≡◌, ℕ, suc, ◌+◌, ◌<◌, ◌≤◌, Bool, true, false, not, ◌&&◌, List, [], ◌∷◌, ◌++◌, length, get_or, take, drop, Option, Some, None, Result, Ok, Err, refl, sym, ap, subst, ◌∙◌, true≢false, drop-cons, arith}
-use Rattle.std.specs.Prelude.{◌==◌, if◌then◌else◌}
-use Rattle.std.specs.Global.{Vec}
-use Rattle.std.specs.Map.{KeepsOthers, lookup}
-use Rattle.std.specs.Str.{bytes_eq}
+use Rattle.mp_factor.proofs.Basics.{◌≡◌, ℕ, suc, ◌+◌, ◌<◌, ◌≤◌, Bool, true, false, not, ◌&&◌, List, [], ◌∷◌, ◌++◌, length, get_or, take, drop, Option, Some, None, Result, refl, sym, ap, subst, ◌∙◌, drop-cons, arith, ◌==◌}
+use Rattle.mp_factor.proofs.Basics.{if◌then◌else◌, Vec, lookup, bytes_eq, drop_of_length-le, append_assoc, append-nil, map-append, flat_map-append, bytes_eq-Decides, Tree, Node, node_of, nodes_in, Fault, names_of_atom, Reading, Says, Wrong, both}
+use Rattle.mp_factor.proofs.Basics.{costly, all_right, found_in, second_found, nothing_found, key_of, key_of_given, AreFirst, Fact, Given, given_in, given, fact_rule, same_names, differs, differing}
+use Rattle.std.specs.Map.{KeepsOthers}
 use Rattle.std.proofs.lemmas.Bool.Decides.{nat_tests}
 use Rattle.std.proofs.lemmas.Cmp.{nat_list_eq_equiv}
-use Rattle.std.proofs.Math.ListN.{drop_of_length-le}
-use Rattle.std.proofs.lemmas.List.{append_assoc, append-nil, take_more, map-append}
-use Rattle.std.proofs.lemmas.List.Concat.{flat_map-append}
-use Rattle.std.proofs.lemmas.Slice.Eq.{bytes_eq-Decides}
-use Rattle.mp_sexp.specs.declared.tree.Tree.{Tree}
-use Rattle.mp_sexp.specs.Node.{Node, node_of, nodes_in}
-use Rattle.mp_factor.specs.declared.fault.Fault.{Fault}
-use Rattle.mp_factor.specs.Limits.{names_of_atom}
-use Rattle.mp_factor.specs.Reading.{Reading, Says, Wrong, both, costly, all_right}
-use Rattle.mp_factor.specs.Found.{found_in, second_found, nothing_found}
-use Rattle.mp_factor.specs.FirstCosts.{word_key, key_of, key_of_given, first_cost, AreFirst, given_by}
-use Rattle.mp_factor.specs.declared.init_values.Fact.{Fact}
+use Rattle.std.proofs.lemmas.List.{take_more}
+use Rattle.mp_factor.specs.FirstCosts.{word_key, first_cost, given_by}
 use Rattle.mp_factor.specs.declared.init_values.Fact.TheVariants.{Holds, Gives}
-use Rattle.mp_factor.specs.Rules.Init.{Given, given_in, given, fact_rule, same_names, differs, differing}
 use Rattle.mp_factor.proofs.FoundLemmas.{checks_begin, found_all_right, nothing_second, second_assoc}
 
 -- ---- keys

@@ -1,17 +1,13 @@
 -- Faults are in a strict and total order, so that the earliest of some is their first.
-use Rattle.std.proofs.Common.{◌≡◌, ℕ, zero, suc, Bool, true, false, List, [], ◌∷◌, ◌++◌, Ordering, Less, Equal, Greater, Some, refl, sym, ap, ◌∙◌, true≢false}
-use Rattle.std.specs.Prelude.{if◌then◌else◌}
-use Rattle.std.specs.Ordering.{is_lt, nat_cmp, ordering_then}
-use Rattle.std.specs.Cmp.Lexicographic.{slice_cmp}
+use Rattle.mp_factor.proofs.Basics.{◌≡◌, ℕ, zero, suc, Bool, true, false, List, [], ◌∷◌, ◌++◌, Ordering, Some, refl, sym, ap, ◌∙◌, true≢false, if◌then◌else◌, is_lt, nat_cmp, ordering_then, slice_cmp, Fault, FaultKind, Shape, Parameters, Cost}
+use Rattle.mp_factor.proofs.Basics.{IsFirst, earlier_of, earliest_of}
+use Rattle.std.proofs.Common.{Less, Equal, Greater}
 use Rattle.mp_list.specs.First.{IsStrictOrder, IsTotal, leftmost}
 use Rattle.mp_list.proofs.Orders.{is_less, strict_on, total_on, numbers_strict, numbers_total}
 use Rattle.mp_list.proofs.FirstLemmas.{found_first}
 use Rattle.mp_list.proofs.OneFirst.{first_is_one}
-use Rattle.mp_factor.specs.declared.fault.Fault.{Fault}
-use Rattle.mp_factor.specs.declared.fault.FaultKind.{FaultKind}
-use Rattle.mp_factor.specs.declared.fault.FaultKind.TheVariants.{Shape, Unsupported, Parameters, Cost}
-use Rattle.mp_factor.specs.Faults.{rank_of, order_of, is_earlier, IsFirst}
-use Rattle.mp_factor.specs.Found.{earlier_of, earliest_of}
+use Rattle.mp_factor.specs.declared.fault.FaultKind.TheVariants.{Unsupported}
+use Rattle.mp_factor.specs.Faults.{rank_of, order_of, is_earlier}
 
 abbrev kind_of : ℕ → FaultKind
 kind_of zero = Shape

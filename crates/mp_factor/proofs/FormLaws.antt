@@ -1,27 +1,16 @@
 -- What words, atoms, conditions, typed lists and signatures say is written in their tree.
-use Rattle.std.proofs.Common.{Bool, true, false, List, [], ◌∷◌, All}
-use Rattle.std.specs.Prelude.{◌&&◌, codes}
-use Rattle.std.specs.List.{flat_map}
-use Rattle.std.proofs.lemmas.List.Elements.{All-nil, All-cons, All-head, All-tail, All-append}
-use Rattle.mp_sexp.specs.declared.tree.Place.{Place}
-use Rattle.mp_sexp.specs.Node.{Node}
-use Rattle.mp_factor.specs.declared.word.Word.{Word}
-use Rattle.mp_factor.specs.declared.signature_values.Signature.{Signature}
-use Rattle.mp_factor.specs.declared.atom_values.Term.{Term}
-use Rattle.mp_factor.specs.declared.atom_values.Term.TheVariants.{Variable, Object}
-use Rattle.mp_factor.specs.declared.atom_values.Atom.{Atom}
-use Rattle.mp_factor.specs.declared.literal.Literal.{Literal}
-use Rattle.mp_factor.specs.declared.fault.FaultKind.TheVariants.{Shape}
-use Rattle.mp_factor.specs.Faults.{fault_at, unsupported_fault}
-use Rattle.mp_factor.specs.Parts.{place_of, parts, rest_of, is_list, is_name_word, is_variable_word, is_fixed_word, is_word}
-use Rattle.mp_factor.specs.Conjuncts.{conjuncts, is_negation}
-use Rattle.mp_factor.specs.Reading.{Reading, Says, misshapen, unsupported, said, each}
-use Rattle.mp_factor.specs.Named.{IsTypedOf, IsSignatureOf, IsTermOf, IsAtomOf, IsLiteralOf}
-use Rattle.mp_factor.specs.Rules.Words.{word_at, name_rule, variable_rule}
-use Rattle.mp_factor.specs.Rules.Atoms.{object_rule, term_rule, predicate_rule, applied, applied_members, applied_rule, atom_rule}
-use Rattle.mp_factor.specs.Rules.Conditions.{literal, negated_rule, literal_rule, condition_rule}
-use Rattle.mp_factor.specs.Rules.Typed.{Listing, Declared, with_type, with_item, with_block, is_dash, typed_from, type_first, typed_rule, block_members, block_rule, either_members, type_rule, typed_of, plain, variables, names, objects}
-use Rattle.mp_factor.specs.Rules.Signatures.{declared_predicate, declared_function, signature_of, signature_members, signature_rule, signatures, with_blocks}
+use Rattle.mp_factor.proofs.Basics.{Bool, true, false, List, [], ◌∷◌, All, codes, flat_map, All-nil, All-cons, All-head, All-tail, All-append, Place, Node, Word, Signature, Term, Variable, Object, Atom, Literal, Shape, fault_at, place_of, parts}
+use Rattle.mp_factor.proofs.Basics.{rest_of, is_list, is_name_word, is_variable_word, is_word, conjuncts, is_negation, Reading, Says, misshapen, said, each, IsTypedOf, IsSignatureOf, IsTermOf, IsAtomOf, IsLiteralOf, word_at, name_rule, variable_rule}
+use Rattle.mp_factor.proofs.Basics.{object_rule, term_rule, applied_rule, atom_rule, negated_rule, condition_rule, Listing, Declared, with_type, with_item, with_block, is_dash, typed_from, type_first, typed_rule, type_rule, typed_of, variables}
+use Rattle.mp_factor.proofs.Basics.{names, objects, declared_predicate, declared_function, signature_rule}
+use Rattle.std.specs.Prelude.{◌&&◌}
+use Rattle.mp_factor.specs.Faults.{unsupported_fault}
+use Rattle.mp_factor.specs.Parts.{is_fixed_word}
+use Rattle.mp_factor.specs.Reading.{unsupported}
+use Rattle.mp_factor.specs.Rules.Atoms.{predicate_rule, applied, applied_members}
+use Rattle.mp_factor.specs.Rules.Conditions.{literal, literal_rule}
+use Rattle.mp_factor.specs.Rules.Typed.{block_members, block_rule, either_members, plain}
+use Rattle.mp_factor.specs.Rules.Signatures.{signature_of, signature_members, signatures, with_blocks}
 use Rattle.mp_factor.proofs.GivesLemmas.{Gives, Any, To, gives_says, gives_wrong, gives_if, gives_where, gives_said, gives_both, gives_besides, gives_each, gives_alone}
 use Rattle.mp_factor.proofs.TreeWords.{InTree, OfName, OfVariable, in_parts, in_rest, in_conjuncts, word_in_tree, variable_in_tree}
 

@@ -1,13 +1,6 @@
 -- What is found where readings are put together.
-use Rattle.std.proofs.Common.{◌≡◌, ℕ, suc, ◌+◌, ◌<◌, ◌≤◌, Bool, true, false, List, [], ◌∷◌, ◌++◌, length, get_or, drop, map, Result, Ok, Err, refl, sym, ap, subst, ◌∙◌, drop-cons, arith}
-use Rattle.std.specs.Prelude.{if◌then◌else◌}
-use Rattle.std.proofs.Math.ListN.{drop_of_length-le}
-use Rattle.std.proofs.lemmas.List.{append_assoc, append-nil}
-use Rattle.mp_sexp.specs.Node.{Node}
-use Rattle.mp_factor.specs.declared.fault.Fault.{Fault}
-use Rattle.mp_factor.specs.Faults.{IsFirst}
-use Rattle.mp_factor.specs.Reading.{Reading, Says, Wrong, faults_in, said, both, each, all_right}
-use Rattle.mp_factor.specs.Found.{earliest_of, found_in, both_found, said_found, more_found, second_found, nothing_found}
+use Rattle.mp_factor.proofs.Basics.{◌≡◌, ℕ, suc, ◌+◌, ◌<◌, ◌≤◌, Bool, true, false, List, [], ◌∷◌, ◌++◌, length, get_or, drop, map, Result, Ok, Err, refl, sym, ap, subst, ◌∙◌, drop-cons, arith, if◌then◌else◌, drop_of_length-le, append_assoc}
+use Rattle.mp_factor.proofs.Basics.{append-nil, Node, Fault, IsFirst, Reading, Says, Wrong, faults_in, said, both, each, all_right, earliest_of, found_in, both_found, said_found, more_found, second_found, nothing_found}
 use Rattle.mp_factor.proofs.FirstLemmas.{earliest_append, earliest_first, earlier_assoc}
 
 pub found_both : {X Y Z : Type 0} → (join : X → Y → Z) (a : Reading X) (b : Reading Y)
@@ -26,14 +19,6 @@ found_said of (Wrong f fs) = refl
 pub found_if : {X : Type 0} → (b : Bool) (r s : Reading X) → found_in (if b then r else s) ≡ (if b then found_in r else found_in s)
 found_if true r s = refl
 found_if false r s = refl
-
--- both findings are said of together
-pub both_pair : {X Y Z : Type 0} → (join : X → Y → Z) (a : Result X Fault) (b : Result Y Fault)
-    → both_found join a b ≡ said_found (λ (p : X × Y). join p.0 p.1) (both_found (λ x y. (x, y)) a b)
-both_pair join (Ok x) (Ok y) = refl
-both_pair join (Ok x) (Err g) = refl
-both_pair join (Err f) (Ok y) = refl
-both_pair join (Err f) (Err g) = refl
 
 -- ---- a value that grows
 
@@ -184,8 +169,3 @@ said_second of (Ok x) (Ok y) = refl
 said_second of (Ok x) (Err g) = refl
 said_second of (Err f) (Ok y) = refl
 said_second of (Err f) (Err g) = refl
-
--- what is said of what is said
-pub said_said : {X Y Z : Type 0} → (of : Y → Z) (first : X → Y) (a : Result X Fault) → said_found of (said_found first a) ≡ said_found (λ x. of (first x)) a
-said_said of first (Ok x) = refl
-said_said of first (Err f) = refl

@@ -1,12 +1,6 @@
 -- What holds of all that a reading may say.
-use Rattle.std.proofs.Common.{◌≡◌, ℕ, ◌≤◌, zero, suc, Bool, true, false, List, [], ◌∷◌, All, length, drop, refl, ap, subst, arith}
-use Rattle.std.specs.Prelude.{if◌then◌else◌}
-use Rattle.std.specs.List.{filter}
-use Rattle.std.proofs.lemmas.List.Elements.{All-nil, All-cons, All-head, All-tail, All-filter}
-use Rattle.mp_sexp.specs.declared.tree.Place.{Place}
-use Rattle.mp_sexp.specs.Node.{Node}
-use Rattle.mp_factor.specs.declared.fault.Fault.{Fault}
-use Rattle.mp_factor.specs.Reading.{Reading, Says, Wrong, said, both, each, alone, wanted, of_first, once, all_right, at_most}
+use Rattle.mp_factor.proofs.Basics.{◌≡◌, ℕ, ◌≤◌, zero, suc, Bool, true, false, List, [], ◌∷◌, All, length, drop, refl, ap, subst, arith, if◌then◌else◌, filter, All-nil, All-cons, All-head, All-tail, All-filter, Place, Node, Fault, Reading, Says}
+use Rattle.mp_factor.proofs.Basics.{Wrong, said, both, each, alone, wanted, of_first, once, all_right, at_most}
 
 abbrev pub Gives : {X : Type 0} → (X → Type 0) → Reading X → Type 0
 Gives {X} P reading = (x : X) → reading ≡ Says x → P x

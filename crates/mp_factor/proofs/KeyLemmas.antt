@@ -1,21 +1,7 @@
 -- The keys of an action, as a loop over them finds them one after the other.
-use Rattle.std.proofs.Common.{◌≡◌, ℕ, zero, suc, List, [], ◌∷◌, ◌++◌, map, take, drop, Result, refl, sym, ap, ◌∙◌}
-use Rattle.std.specs.Prelude.{codes}
-use Rattle.std.proofs.lemmas.List.{append_assoc, append-nil, map-append}
-use Rattle.mp_sexp.specs.declared.tree.Place.{Place}
-use Rattle.mp_sexp.specs.Node.{Node}
-use Rattle.mp_factor.specs.declared.fault.Fault.{Fault}
-use Rattle.mp_factor.specs.declared.word.Word.{Word}
-use Rattle.mp_factor.specs.declared.typed_values.Typed.{Typed}
-use Rattle.mp_factor.specs.declared.literal.Literal.{Literal}
-use Rattle.mp_factor.specs.declared.effect_values.Effect.{Effect}
-use Rattle.mp_factor.specs.Reading.{wanted}
-use Rattle.mp_factor.specs.Found.{found_in, said_found}
+use Rattle.mp_factor.proofs.Basics.{◌≡◌, ℕ, zero, suc, List, [], ◌∷◌, ◌++◌, map, take, drop, Result, refl, sym, ap, ◌∙◌, codes, append_assoc, append-nil, map-append, Place, Node, Fault, Word, Typed, Literal, Effect, wanted, found_in, said_found}
+use Rattle.mp_factor.proofs.Basics.{name_rule, condition_rule, effect_rule, no_effect, Key, keyed, value_length, keys_behind, keys_of, in_key, agent_rule, parameters_rule, keys_rule, schema_of}
 use Rattle.mp_factor.specs.FoundForms.{schema_from}
-use Rattle.mp_factor.specs.Rules.Words.{name_rule}
-use Rattle.mp_factor.specs.Rules.Conditions.{condition_rule}
-use Rattle.mp_factor.specs.Rules.Effects.{effect_rule, no_effect}
-use Rattle.mp_factor.specs.Rules.Actions.{Key, keyed, value_length, keys_behind, keys_of, in_key, agent_rule, parameters_rule, keys_rule, schema_of}
 use Rattle.mp_factor.proofs.PartLemmas.{paired, with_five}
 
 -- the keys behind so many members

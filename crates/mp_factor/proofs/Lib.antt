@@ -1,4 +1,6 @@
 -- trees; what is found where readings are put together; forms that loops read; keys, values and sections
+-- what the proofs cite of other places
+mod Basics
 pub mod TreeLemmas
 pub mod Steps
 pub mod ConjunctLemmas

@@ -1,18 +1,6 @@
 -- What follows from what holds of the names and of the variables of a form.
-use Rattle.std.proofs.lemmas.List.Elements.{All-weaker}
-use Rattle.mp_factor.specs.declared.word.Word.{Word}
-use Rattle.mp_factor.specs.declared.typed_values.Typed.{Typed}
-use Rattle.mp_factor.specs.declared.signature_values.Signature.{Signature}
-use Rattle.mp_factor.specs.declared.atom_values.Term.{Term}
-use Rattle.mp_factor.specs.declared.atom_values.Term.TheVariants.{Variable, Object}
-use Rattle.mp_factor.specs.declared.atom_values.Atom.{Atom}
-use Rattle.mp_factor.specs.declared.literal.Literal.{Literal}
-use Rattle.mp_factor.specs.declared.effect_values.Increase.{Increase}
-use Rattle.mp_factor.specs.declared.effect_values.Increase.TheVariants.{Number, Function}
-use Rattle.mp_factor.specs.declared.init_values.Value.{Value}
-use Rattle.mp_factor.specs.declared.schema_values.Schema.{Schema}
-use Rattle.mp_factor.specs.FactorParts.{DomainParts, ProblemParts}
-use Rattle.mp_factor.specs.Named.{IsTypedOf, IsSignatureOf, IsTermOf, IsAtomOf, IsLiteralOf, IsIncreaseOf, IsValueOf, IsSchemaOf, IsDomainOf, IsProblemOf}
+use Rattle.mp_factor.proofs.Basics.{All-weaker, Word, Typed, Signature, Term, Variable, Object, Atom, Literal, Increase, Number, Function, Value, Schema, DomainParts, ProblemParts, IsTypedOf, IsSignatureOf, IsTermOf, IsAtomOf, IsLiteralOf}
+use Rattle.mp_factor.proofs.Basics.{IsIncreaseOf, IsValueOf, IsSchemaOf, IsDomainOf, IsProblemOf}
 
 typed_weaker : (OfDeclared OfName Declared Name : Word → Type 0) → ((w : Word) → OfDeclared w → Declared w) → ((w : Word) → OfName w → Name w)
     → (t : Typed) → IsTypedOf OfDeclared OfName t → IsTypedOf Declared Name t

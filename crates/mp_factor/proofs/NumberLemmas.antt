@@ -1,7 +1,5 @@
 -- Values of digits, as far as they are counted.
-use Rattle.std.proofs.Common.{◌≡◌, ℕ, suc, ◌+◌, ◌-◌, ◌*◌, ◌<◌, List, [], ◌∷◌, length, get_or, drop, sym, ap, ◌∙◌, drop-cons, arith}
-use Rattle.std.specs.Prelude.{min}
-use Rattle.mp_factor.specs.Numbers.{value_behind}
+use Rattle.mp_factor.proofs.Basics.{◌≡◌, ℕ, suc, ◌+◌, ◌-◌, ◌*◌, ◌<◌, List, [], ◌∷◌, length, get_or, drop, sym, ap, ◌∙◌, drop-cons, arith, min, value_behind}
 
 bounded : (a b d : ℕ) → min a 1000001 ≡ min b 1000001 → min (a * 10 + d) 1000001 ≡ min (b * 10 + d) 1000001
 bounded a b d e = omega (arith, e)

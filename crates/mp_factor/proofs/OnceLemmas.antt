@@ -1,11 +1,6 @@
 -- What stands at most once, as it is looked for and read.
-use Rattle.std.proofs.Common.{◌≡◌, Bool, true, false, List, [], ◌∷◌, Option, Some, None, Result, refl, sym, ap, ◌∙◌}
-use Rattle.std.specs.Prelude.{if◌then◌else◌, option_map}
-use Rattle.std.specs.List.{filter, find}
-use Rattle.mp_sexp.specs.declared.tree.Place.{Place}
-use Rattle.mp_factor.specs.declared.fault.Fault.{Fault}
-use Rattle.mp_factor.specs.Reading.{Reading, at_most, of_first, once, misshapen}
-use Rattle.mp_factor.specs.Found.{found_in, second_found}
+use Rattle.mp_factor.proofs.Basics.{◌≡◌, Bool, true, false, List, [], ◌∷◌, Option, Some, None, Result, refl, sym, ap, ◌∙◌, if◌then◌else◌, filter, find, Place, Fault, Reading, at_most, of_first, once, misshapen, found_in, second_found}
+use Rattle.std.specs.Prelude.{option_map}
 use Rattle.mp_factor.proofs.FoundLemmas.{found_both}
 
 -- what is read of the first, or of none

@@ -1,9 +1,5 @@
 -- A node that is one word is no other word.
-use Rattle.std.proofs.Common.{◌≡◌, ℕ, true, false, List, refl, sym, subst, true≢false}
-use Rattle.std.specs.Str.{bytes_eq}
-use Rattle.std.proofs.lemmas.Slice.Eq.{bytes_eq-Decides}
-use Rattle.mp_sexp.specs.Node.{Node, word, list}
-use Rattle.mp_factor.specs.Parts.{is_word, word_of}
+use Rattle.mp_factor.proofs.Basics.{◌≡◌, ℕ, true, false, List, refl, sym, subst, true≢false, bytes_eq, bytes_eq-Decides, Node, word, list, is_word, word_of}
 
 pub word_is : (keyword : List ℕ) (n : Node) → is_word keyword n ≡ true → word_of n ≡ keyword
 word_is keyword (list nodes place) is = absurd (true≢false (sym is))

@@ -1,24 +1,9 @@
 -- A file that is read part after part.
-use Rattle.std.proofs.Common.{◌≡◌, ◌<◌, false, List, [], ◌∷◌, length, Option, Some, None, Result, Ok, Err, refl, sym, ap, ◌∙◌, true≢false, arith}
-use Rattle.std.specs.Prelude.{ℕ, Bool, codes, IsOk, MatchOption}
-use Rattle.mp_sexp.specs.declared.tree.Place.{Place}
-use Rattle.mp_sexp.specs.declared.tree.Tree.{Tree}
-use Rattle.mp_sexp.specs.Node.{Node, word, list, nodes_in}
-use Rattle.mp_factor.specs.declared.fault.Fault.{Fault}
-use Rattle.mp_factor.specs.declared.word.Word.{Word}
-use Rattle.mp_factor.specs.declared.typed_values.Typed.{Typed}
-use Rattle.mp_factor.specs.declared.literal.Literal.{Literal}
-use Rattle.mp_factor.specs.declared.init_values.Start.{Start}
-use Rattle.mp_factor.specs.Parts.{place_of, parts}
-use Rattle.mp_factor.specs.Faults.{IsFirst}
-use Rattle.mp_factor.specs.Reading.{Reading, Says, faults_in, misshapen, besides}
-use Rattle.mp_factor.specs.Found.{found_in, said_found, second_found}
-use Rattle.mp_factor.specs.FoundForms.{problem_from}
-use Rattle.mp_factor.specs.KeptSections.{KeepsOthers}
-use Rattle.mp_factor.specs.Rules.Typed.{objects}
-use Rattle.mp_factor.specs.Rules.Init.{empty_start}
-use Rattle.mp_factor.specs.Rules.Sections.{in_section, listed_rule, named_rule, start_rule, goal_rule, metric_rule}
-use Rattle.mp_factor.specs.Rules.Files.{define_members, file_rule, problem_of, problem_parts}
+use Rattle.mp_factor.proofs.Basics.{◌≡◌, ◌<◌, false, List, [], ◌∷◌, length, Option, Some, None, Result, Ok, Err, refl, sym, ap, ◌∙◌, true≢false, arith, codes, Place, Tree, Node, word, list, nodes_in, Fault, Word, Typed, Literal, Start, place_of}
+use Rattle.mp_factor.proofs.Basics.{parts, IsFirst, Reading, Says, faults_in, misshapen, besides, found_in, said_found, second_found, problem_from, KeepsOthers, objects, empty_start, in_section, listed_rule, named_rule, start_rule, goal_rule}
+use Rattle.mp_factor.proofs.Basics.{define_members, file_rule, problem_of, problem_parts}
+use Rattle.std.specs.Prelude.{ℕ, Bool, IsOk, MatchOption}
+use Rattle.mp_factor.specs.Rules.Sections.{metric_rule}
 use Rattle.mp_factor.proofs.FoundLemmas.{found_both, found_says, found_wrong, said_second}
 use Rattle.mp_factor.proofs.PartLemmas.{paired, with_six}
 use Rattle.mp_factor.proofs.SectionLemmas.{same_section}

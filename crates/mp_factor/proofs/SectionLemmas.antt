@@ -1,18 +1,8 @@
 -- Sections: what each of some says, and which stay where one is let go.
-use Rattle.std.proofs.Common.{◌≡◌, ℕ, zero, suc, ◌+◌, ◌<◌, ◌≤◌, Bool, true, false, List, [], ◌∷◌, ◌++◌, length, drop, map, Result, Ok, Err, refl, sym, ap, ◌∙◌, get_or, set, drop-cons, arith}
-use Rattle.std.specs.Prelude.{if◌then◌else◌}
-use Rattle.std.specs.List.{filter}
-use Rattle.std.specs.Str.{bytes_eq}
-use Rattle.std.proofs.Math.ListN.{drop_of_length-le}
-use Rattle.std.proofs.lemmas.List.{append_assoc}
-use Rattle.mp_sexp.specs.declared.tree.Tree.{Tree}
-use Rattle.mp_sexp.specs.Node.{Node, node_of, nodes_in}
-use Rattle.mp_factor.specs.declared.fault.Fault.{Fault}
-use Rattle.mp_factor.specs.Parts.{begins_with, is_headed, parts, place_of}
-use Rattle.mp_factor.specs.Reading.{Reading, misshapen, besides, each, all_right, at_most, of_first, once}
-use Rattle.mp_factor.specs.Found.{found_in, both_found, more_found}
-use Rattle.mp_factor.specs.KeptSections.{KeepsOthers}
-use Rattle.mp_factor.specs.Rules.Sections.{in_section}
+use Rattle.mp_factor.proofs.Basics.{◌≡◌, ℕ, zero, suc, ◌+◌, ◌<◌, ◌≤◌, Bool, true, false, List, [], ◌∷◌, ◌++◌, length, drop, map, Result, Ok, Err, refl, sym, ap, ◌∙◌, get_or, drop-cons, arith, if◌then◌else◌, filter, bytes_eq, drop_of_length-le}
+use Rattle.mp_factor.proofs.Basics.{append_assoc, Tree, Node, node_of, nodes_in, Fault, is_headed, parts, place_of, Reading, misshapen, besides, each, all_right, at_most, of_first, once, found_in, both_found, more_found, KeepsOthers, in_section}
+use Rattle.std.proofs.Common.{set}
+use Rattle.mp_factor.specs.Parts.{begins_with}
 use Rattle.mp_factor.proofs.OneWord.{no_other_word}
 use Rattle.mp_factor.proofs.FirstLemmas.{earlier_assoc}
 use Rattle.mp_factor.proofs.FoundLemmas.{lists, begins, found_each, none_more, one_more}

@@ -1,7 +1,5 @@
 -- The first of some trees and the others, as a pattern on a slice has them.
-use Rattle.std.proofs.Common.{◌≡◌, ◌<◌, ◌≤◌, ◌-◌, ℕ, List, [], ◌∷◌, length, get_or, take, drop, refl, sym, ap, ◌∙◌, arith}
-use Rattle.mp_sexp.specs.declared.tree.Tree.{Tree}
-use Rattle.mp_sexp.specs.Node.{node_of, nodes_in}
+use Rattle.mp_factor.proofs.Basics.{◌≡◌, ◌<◌, ◌≤◌, ◌-◌, ℕ, List, [], ◌∷◌, length, get_or, take, drop, refl, sym, ap, ◌∙◌, arith, Tree, node_of, nodes_in}
 
 -- all of some trees
 take_whole : (ts : List Tree) → take (length ts) ts ≡ ts

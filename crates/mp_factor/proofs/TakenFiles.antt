@@ -1,15 +1,8 @@
 -- What a file says is taken from it, keeps the limits, and its names are names.
-use Rattle.std.proofs.Common.{◌≡◌}
+use Rattle.mp_factor.proofs.Basics.{◌≡◌, Node, DomainParts, ProblemParts, IsDomainOfFile, IsProblemOfFile, DomainFits, ProblemFits, IsName, IsVariable, DomainIsNamed, ProblemIsNamed, Says, domain_rule, problem_rule, words_of}
 use Rattle.std.specs.Prelude.{Contains}
 use Rattle.std.proofs.lemmas.List.Elements.{All-contains_itself}
-use Rattle.mp_sexp.specs.Node.{Node}
-use Rattle.mp_factor.specs.FactorParts.{DomainParts, ProblemParts}
-use Rattle.mp_factor.specs.FromFile.{IsDomainOfFile, IsProblemOfFile}
-use Rattle.mp_factor.specs.Limits.{DomainFits, ProblemFits}
-use Rattle.mp_factor.specs.Named.{IsName, IsVariable, DomainIsNamed, ProblemIsNamed}
-use Rattle.mp_factor.specs.Reading.{Says}
-use Rattle.mp_factor.specs.Rules.Files.{domain_rule, problem_rule}
-use Rattle.mp_factor.specs.Written.{words_of, IsWrittenCost}
+use Rattle.mp_factor.specs.Written.{IsWrittenCost}
 use Rattle.mp_factor.specs.Taken.{DomainIsTaken, ProblemIsTaken}
 use Rattle.mp_factor.proofs.TreeWords.{OfName, OfVariable}
 use Rattle.mp_factor.proofs.WordsOfForms.{domain_all, problem_all}

@@ -1,16 +1,8 @@
 -- What holds of all words of a tree holds of those of its members and of its conjuncts, and of the word that it is.
-use Rattle.std.proofs.Common.{◌≡◌, true, List, [], ◌∷◌, ◌++◌, All, sym, true≢false}
-use Rattle.std.specs.Prelude.{codes}
-use Rattle.std.proofs.lemmas.Bool.{cond_both}
-use Rattle.std.proofs.lemmas.List.Elements.{All-nil, All-cons, All-head, All-tail, All-append}
-use Rattle.mp_sexp.specs.Node.{Node, Nodes, word, list, none, more, node_list}
-use Rattle.mp_factor.specs.declared.word.Word.{Word}
-use Rattle.mp_factor.specs.Kinds.{is_name, is_variable}
-use Rattle.mp_factor.specs.Parts.{is_word, parts, rest_of, is_name_word, is_variable_word}
-use Rattle.mp_factor.specs.Conjuncts.{conjuncts, conjuncts_of_all}
-use Rattle.mp_factor.specs.Written.{words_of, words_of_all}
-use Rattle.mp_factor.specs.Named.{IsName, IsVariable}
-use Rattle.mp_factor.specs.Rules.Words.{word_at}
+use Rattle.mp_factor.proofs.Basics.{◌≡◌, true, List, [], ◌∷◌, ◌++◌, All, sym, true≢false, codes, cond_both, All-nil, All-cons, All-head, All-tail, All-append, Node, word, list, Word, is_name, is_variable, is_word, parts, rest_of, is_name_word}
+use Rattle.mp_factor.proofs.Basics.{is_variable_word, conjuncts, conjuncts_of_all, words_of, IsName, IsVariable, word_at}
+use Rattle.mp_sexp.specs.Node.{Nodes, none, more, node_list}
+use Rattle.mp_factor.specs.Written.{words_of_all}
 
 all_in_first : {X : Type 0} (P : X → Type 0) (xs ys : List X) → All P (xs ++ ys) → All P xs
 all_in_first P [] ys all = All-nil P

@@ -1,19 +1,8 @@
 -- Typed lists, as a loop reads them: group by group, where the items of a group have one type.
-use Rattle.std.proofs.Common.{◌≡◌, ℕ, suc, ◌+◌, ◌<◌, ◌≤◌, Bool, true, false, ◌&&◌, ◌||◌, List, [], ◌∷◌, ◌++◌, map, length, get_or, take, drop, Result, Ok, Err, refl, sym, ap, ◌∙◌, drop-cons, true≢false, arith}
-use Rattle.std.proofs.Math.ListN.{drop_of_length-le}
-use Rattle.std.specs.Prelude.{◌==◌, if◌then◌else◌, IfOk}
-use Rattle.std.proofs.lemmas.Bool.{eqb-true}
-use Rattle.std.proofs.lemmas.List.{append_assoc}
-use Rattle.mp_sexp.specs.declared.tree.Place.{Place}
-use Rattle.mp_sexp.specs.declared.tree.Tree.{Tree}
-use Rattle.mp_sexp.specs.Node.{Node, node_of, nodes_in}
-use Rattle.mp_factor.specs.declared.fault.Fault.{Fault}
-use Rattle.mp_factor.specs.declared.word.Word.{Word}
-use Rattle.mp_factor.specs.declared.typed_values.Typed.{Typed}
-use Rattle.mp_factor.specs.Reading.{Reading, Says, Wrong, misshapen, said, each}
-use Rattle.mp_factor.specs.Found.{earlier_of, found_in, both_found, said_found, more_found, second_found}
-use Rattle.mp_factor.specs.FoundForms.{ends, group_size, items_found, group_found, AreBehindItems}
-use Rattle.mp_factor.specs.Rules.Typed.{Listing, Declared, typed_of, is_dash, with_type, with_item, with_block, typed_from, type_first, typed_rule}
+use Rattle.mp_factor.proofs.Basics.{◌≡◌, ℕ, suc, ◌+◌, ◌<◌, ◌≤◌, Bool, true, false, ◌&&◌, ◌||◌, List, [], ◌∷◌, ◌++◌, map, length, get_or, take, drop, Result, Ok, Err, refl, sym, ap, ◌∙◌, drop-cons, true≢false, arith, drop_of_length-le, ◌==◌}
+use Rattle.mp_factor.proofs.Basics.{if◌then◌else◌, IfOk, eqb-true, append_assoc, Place, Tree, Node, node_of, nodes_in, Fault, Word, Typed, Reading, Says, Wrong, misshapen, said, each, earlier_of, found_in, both_found, said_found, more_found}
+use Rattle.mp_factor.proofs.Basics.{second_found, group_size, items_found, AreBehindItems, Listing, Declared, typed_of, is_dash, with_type, with_item, with_block, typed_from, type_first, typed_rule}
+use Rattle.mp_factor.specs.FoundForms.{ends, group_found}
 use Rattle.mp_factor.proofs.FirstLemmas.{earlier_assoc}
 use Rattle.mp_factor.proofs.FoundLemmas.{found_both, found_said, found_each, lists, none_more, begins}
 

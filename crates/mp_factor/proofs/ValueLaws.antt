@@ -1,19 +1,11 @@
 -- What the start says gives a function one cost.
-use Rattle.std.proofs.Common.{◌≡◌, ℕ, Bool, true, false, not, List, [], ◌∷◌, ◌++◌, map, All, refl, sym, ap, ◌∙◌, inl, inr, append_assoc, append-nil, true≢false}
-use Rattle.std.specs.Prelude.{if◌then◌else◌, ◌==◌}
-use Rattle.std.specs.List.{flat_map}
-use Rattle.std.specs.Str.{bytes_eq}
-use Rattle.std.proofs.lemmas.Bool.{and_parts, and_from, both_ways, cases_Bool, not-false, eqb-true}
-use Rattle.std.proofs.lemmas.List.{map-append}
-use Rattle.std.proofs.lemmas.List.Elements.{All-nil, All-cons, All-head, All-tail, All-push, All-weaker}
-use Rattle.std.proofs.lemmas.Slice.Eq.{bytes_eq-Decides}
-use Rattle.mp_sexp.specs.Node.{Node}
-use Rattle.mp_factor.specs.declared.init_values.Value.{Value}
-use Rattle.mp_factor.specs.declared.init_values.Fact.{Fact}
+use Rattle.mp_factor.proofs.Basics.{◌≡◌, ℕ, Bool, true, false, not, List, [], ◌∷◌, ◌++◌, map, All, refl, sym, ap, ◌∙◌, inr, true≢false, if◌then◌else◌, ◌==◌, flat_map, bytes_eq, eqb-true, map-append, All-nil, All-cons, All-head, All-tail, All-weaker}
+use Rattle.mp_factor.proofs.Basics.{bytes_eq-Decides, Node, Value, Fact, names_of_atom, HasOneCostEach, Reading, Says, each, Given, fact_rule, given_in, given, value_in, same_names, differs, differing}
+use Rattle.std.proofs.Common.{inl, append_assoc, append-nil}
+use Rattle.std.proofs.lemmas.Bool.{and_parts, and_from, both_ways, cases_Bool, not-false}
+use Rattle.std.proofs.lemmas.List.Elements.{All-push}
 use Rattle.mp_factor.specs.declared.init_values.Fact.TheVariants as facts
-use Rattle.mp_factor.specs.Limits.{names_of_atom, GivesNoOther, HasOneCostEach}
-use Rattle.mp_factor.specs.Reading.{Reading, Says, each}
-use Rattle.mp_factor.specs.Rules.Init.{Given, fact_rule, given_in, given, value_in, same_names, differs, differing}
+use Rattle.mp_factor.specs.Limits.{GivesNoOther}
 use Rattle.mp_factor.proofs.GivesLemmas.{Gives, gives_says, gives_both}
 
 -- ---- names that are the same

@@ -1,22 +1,8 @@
 -- What holds of the names and of the variables of a form holds of all its words.
-use Rattle.std.proofs.Common.{List, ◌∷◌, ◌++◌, map, All}
-use Rattle.std.specs.List.{flat_map}
+use Rattle.mp_factor.proofs.Basics.{List, ◌∷◌, ◌++◌, map, All, flat_map, All-nil, All-cons, All-append, All-map, All-weaker, Word, Typed, Signature, Term, Variable, Object, Atom, Literal, Increase, Number, Function, Value, Schema, is_name}
+use Rattle.mp_factor.proofs.Basics.{is_variable, DomainParts, ProblemParts, IsTypedOf, IsSignatureOf, IsTermOf, IsAtomOf, IsLiteralOf, IsIncreaseOf, IsValueOf, IsSchemaOf, IsDomainOf, IsProblemOf, IsName, IsVariable, DomainIsNamed, ProblemIsNamed}
 use Rattle.std.proofs.lemmas.Bool.{or_left, or_right}
-use Rattle.std.proofs.lemmas.List.Elements.{All-nil, All-cons, All-append, All-map, All-weaker}
-use Rattle.mp_factor.specs.declared.word.Word.{Word}
-use Rattle.mp_factor.specs.declared.typed_values.Typed.{Typed}
-use Rattle.mp_factor.specs.declared.signature_values.Signature.{Signature}
-use Rattle.mp_factor.specs.declared.atom_values.Term.{Term}
-use Rattle.mp_factor.specs.declared.atom_values.Term.TheVariants.{Variable, Object}
-use Rattle.mp_factor.specs.declared.atom_values.Atom.{Atom}
-use Rattle.mp_factor.specs.declared.literal.Literal.{Literal}
-use Rattle.mp_factor.specs.declared.effect_values.Increase.{Increase}
-use Rattle.mp_factor.specs.declared.effect_values.Increase.TheVariants.{Number, Function}
-use Rattle.mp_factor.specs.declared.init_values.Value.{Value}
-use Rattle.mp_factor.specs.declared.schema_values.Schema.{Schema}
-use Rattle.mp_factor.specs.Kinds.{is_name, is_variable}
-use Rattle.mp_factor.specs.FactorParts.{DomainParts, ProblemParts}
-use Rattle.mp_factor.specs.Named.{IsTypedOf, IsSignatureOf, IsTermOf, IsAtomOf, IsLiteralOf, IsIncreaseOf, IsValueOf, IsSchemaOf, IsDomainOf, IsProblemOf, IsName, IsVariable, IsNameOrVariable, DomainIsNamed, ProblemIsNamed}
+use Rattle.mp_factor.specs.Named.{IsNameOrVariable}
 use Rattle.mp_factor.specs.Taken.{typed_words, signature_words, term_word, atom_words, literal_words, increase_words, value_words, schema_words, words_of_domain, words_of_problem}
 use Rattle.mp_factor.proofs.FormLaws.{all_flat}
 

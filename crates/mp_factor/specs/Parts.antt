@@ -1,5 +1,5 @@
 -- Words and lists of a tree.
-use Rattle.std.specs.Prelude.{ℕ, ◌&&◌, ◌||◌, not, Bool, true, false, List, [], ◌∷◌}
+use Rattle.std.specs.Prelude.{ℕ, Bool, true, false, List, [], ◌∷◌}
 use Rattle.std.specs.Str.{bytes_eq}
 use Rattle.mp_sexp.specs.declared.tree.Place.{Place}
 use Rattle.mp_sexp.specs.Node.{Node, word, list, node_list}
@@ -42,17 +42,11 @@ begins_with keyword (n ∷ ns) = is_word keyword n
 abbrev pub is_headed : List ℕ → Node → Bool
 is_headed keyword node = begins_with keyword (parts node)
 
-abbrev pub is_same_word : Node → Node → Bool
-is_same_word a b = not (is_list a) && is_word (word_of a) b
-
 abbrev pub is_name_word : Node → Bool
 is_name_word node = is_name (word_of node)
 
 abbrev pub is_variable_word : Node → Bool
 is_variable_word node = is_variable (word_of node)
-
-abbrev pub is_term : Node → Bool
-is_term node = is_name_word node || is_variable_word node
 
 -- a word with a meaning of its own
 abbrev pub is_fixed_word : Node → Bool

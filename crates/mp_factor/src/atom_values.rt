@@ -10,7 +10,7 @@ ghost use Rattle.mp_factor.specs.Rules.Atoms.{object_rule, term_rule, predicate_
 use crate::found::{Form, Found, pair, read_each, shape_fault, word_fault};
 use crate::trees::{is_fixed, is_variable, members, place};
 use crate::word::{NameForm, Word, word_in};
-use mp_list::{Copied, List, OutOfMemory};
+use mp_list::{List, OutOfMemory};
 use mp_sexp::Tree;
 use std::alloc::Global;
 
@@ -40,24 +40,6 @@ impl Drop for Atom {
 
 /// Atoms in the order of the file.
 pub type AtomList = List<Atom>;
-
-impl Copied for Term {
-    fn copy(&self) -> Result<Term, OutOfMemory> {
-        match self {
-            Term::Variable(word) => Ok(Term::Variable(word.copy()?)),
-            Term::Object(word) => Ok(Term::Object(word.copy()?)),
-        }
-    }
-}
-
-impl Copied for Atom {
-    fn copy(&self) -> Result<Atom, OutOfMemory> {
-        Ok(Atom {
-            word: self.word.copy()?,
-            terms: self.terms.copy()?,
-        })
-    }
-}
 
 /// The object of this name.
 fn object(name: Found<Word>) -> Found<Term>

@@ -24,7 +24,7 @@ use crate::literal::NegatedForm;
 use crate::numbers::{cost, is_number};
 use crate::trees::{is_headed, is_list, is_word, members, place, word};
 use crate::word::NameForm;
-use mp_list::{Copied, List, OutOfMemory};
+use mp_list::{List, OutOfMemory};
 use mp_sexp::{Place, Tree};
 use std::alloc::Global;
 
@@ -39,15 +39,6 @@ pub enum Increase {
 
 /// Increases in the order of the file.
 pub type IncreaseList = List<Increase>;
-
-impl Copied for Increase {
-    fn copy(&self) -> Result<Increase, OutOfMemory> {
-        match self {
-            Increase::Number(cost) => Ok(Increase::Number(*cost)),
-            Increase::Function(atom) => Ok(Increase::Function(atom.copy()?)),
-        }
-    }
-}
 
 /// What a conjunct of an effect does.
 #[derive(Drop)]

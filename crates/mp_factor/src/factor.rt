@@ -11,7 +11,6 @@ use crate::schema_values::SchemaList;
 use crate::signature_values::SignatureList;
 use crate::typed_values::TypedList;
 use crate::word::Word;
-use mp_list::{Copied, OutOfMemory};
 use std::marker::Model;
 
 /// A domain file of factored MA-PDDL: what some tree says that has no fault. So each of its actions has at most 12
@@ -60,19 +59,6 @@ impl Domain {
         ensures names { DomainIsNamed self.now }
     {
         let _ = &self.word;
-    }
-}
-
-impl Copied for Domain {
-    fn copy(&self) -> Result<Domain, OutOfMemory> {
-        Ok(Domain {
-            word: self.word.copy()?,
-            types: self.types.copy()?,
-            constants: self.constants.copy()?,
-            predicates: self.predicates.copy()?,
-            functions: self.functions.copy()?,
-            schemas: self.schemas.copy()?,
-        })
     }
 }
 
@@ -129,20 +115,6 @@ impl Problem {
         ensures names { ProblemIsNamed self.now }
     {
         let _ = &self.word;
-    }
-}
-
-impl Copied for Problem {
-    fn copy(&self) -> Result<Problem, OutOfMemory> {
-        Ok(Problem {
-            word: self.word.copy()?,
-            domain: self.domain.copy()?,
-            objects: self.objects.copy()?,
-            init: self.init.copy()?,
-            values: self.values.copy()?,
-            goals: self.goals.copy()?,
-            metric: self.metric,
-        })
     }
 }
 

@@ -18,7 +18,7 @@ use crate::first_costs::{FirstCosts, check_given};
 use crate::found::{Form, Found, expect_end, pair, second, shape_fault};
 use crate::trees::{is_headed, members, place};
 use crate::word::NameForm;
-use mp_list::{Copied, List, OutOfMemory};
+use mp_list::{List, OutOfMemory};
 use mp_sexp::{Place, Tree};
 use std::alloc::Global;
 use std::collections::HashMap;
@@ -34,15 +34,6 @@ pub struct Value {
 
 /// Values in the order of the file.
 pub type ValueList = List<Value>;
-
-impl Copied for Value {
-    fn copy(&self) -> Result<Value, OutOfMemory> {
-        Ok(Value {
-            of: self.of.copy()?,
-            cost: self.cost,
-        })
-    }
-}
 
 /// What a member of the start says.
 #[derive(Drop)]

@@ -9,7 +9,7 @@ use crate::atom_values::{Atom, AtomForm};
 use crate::conjuncts::{conjuncts_in, read_conjuncts};
 use crate::found::{Form, Found, read_alone};
 use crate::trees::{behind_first, is_headed, members, place};
-use mp_list::{Copied, List, OutOfMemory};
+use mp_list::{List, OutOfMemory};
 use mp_sexp::Tree;
 use std::alloc::Global;
 
@@ -23,15 +23,6 @@ pub struct Literal {
 
 /// Literals in the order of the file.
 pub type LiteralList = List<Literal>;
-
-impl Copied for Literal {
-    fn copy(&self) -> Result<Literal, OutOfMemory> {
-        Ok(Literal {
-            positive: self.positive,
-            atom: self.atom.copy()?,
-        })
-    }
-}
 
 /// `(not ATOM)`.
 #[derive(Clone, Copy)]

@@ -24,7 +24,7 @@ use crate::literal::{ConditionForm, LiteralList};
 use crate::trees::{behind_first, is_list, is_variable, is_word, members, place};
 use crate::typed_values::{TypeForm, Typed, TypedList, VARIABLES, append, read_typed};
 use crate::word::{NameForm, VariableForm, Word, WordList};
-use mp_list::{Copied, List, OutOfMemory};
+use mp_list::{List, OutOfMemory};
 use mp_sexp::{Place, Tree};
 use std::alloc::Global;
 
@@ -58,19 +58,6 @@ impl Drop for Schema {
 
 /// Actions in the order of the file.
 pub type SchemaList = List<Schema>;
-
-impl Copied for Schema {
-    fn copy(&self) -> Result<Schema, OutOfMemory> {
-        Ok(Schema {
-            word: self.word.copy()?,
-            params: self.params.copy()?,
-            pre: self.pre.copy()?,
-            add: self.add.copy()?,
-            del: self.del.copy()?,
-            increases: self.increases.copy()?,
-        })
-    }
-}
 
 /// The most parameters of an action.
 const MOST_PARAMETERS: u64 = 12;
@@ -210,8 +197,11 @@ fn read_agent_key(alloc: Global, action: Action<'_>) -> Result<Found<TypedList>,
     }
 }
 
+/// What an action says, part by part, as far as its parameters.
+type ReadParameters = ((Word, TypedList), TypedList);
+
 /// What an action says, part by part.
-type Parts = ((((Word, TypedList), TypedList), LiteralList), Effect);
+type Parts = ((ReadParameters, LiteralList), Effect);
 
 /// The action of these parts. Refuses only for want of memory.
 fn schema_with(parts: Parts) -> Result<Schema, OutOfMemory>
@@ -256,6 +246,38 @@ fn nothing(alloc: Global) -> Effect
     }
 }
 
+/// What an action of this name says, part by part, as far as its parameters. Refuses only for want of memory.
+fn read_parameters(
+    alloc: Global,
+    action: Action<'_>,
+    name: Found<Word>,
+) -> Result<Found<ReadParameters>, OutOfMemory>
+    ensures { IfOk result (λ found. found ≡ both_found (λ a b. (a, b)) (both_found (λ a b. (a, b)) name
+        (found_in (in_key (codes ":agent") (agent_rule action.entry.whole) [] (map key_nodes action.entry.keys.now))))
+        (found_in (in_key (codes ":parameters") (wanted parameters_rule action.entry.whole) [] (map key_nodes action.entry.keys.now)))) }
+{
+    let agent = pair(name, read_agent_key(alloc, action)?);
+    let none = List::new(alloc);
+    Ok(pair(
+        agent,
+        read_key(alloc, &ParametersForm, action, b":parameters", none)?,
+    ))
+}
+
+/// The same with its precondition, where it is known as far as its parameters. Refuses only for want of memory.
+fn read_precondition(
+    alloc: Global,
+    action: Action<'_>,
+    known: Found<ReadParameters>,
+) -> Result<Found<(ReadParameters, LiteralList)>, OutOfMemory>
+    ensures { IfOk result (λ found. found ≡ both_found (λ a b. (a, b)) known
+        (found_in (in_key (codes ":precondition") (wanted condition_rule action.entry.whole) [] (map key_nodes action.entry.keys.now)))) }
+{
+    let none = List::new(alloc);
+    let pre = read_key(alloc, &ConditionForm, action, b":precondition", none)?;
+    Ok(pair(known, pre))
+}
+
 /// The keys of an action read, part by part. Refuses only for want of memory.
 fn read_parts(
     alloc: Global,
@@ -268,19 +290,10 @@ fn read_parts(
         (found_in (in_key (codes ":precondition") (wanted condition_rule action.entry.whole) [] (map key_nodes action.entry.keys.now))))
         (found_in (in_key (codes ":effect") (wanted effect_rule action.entry.whole) no_effect (map key_nodes action.entry.keys.now)))) }
 {
-    let agent = pair(name, read_agent_key(alloc, action)?);
-    let none = List::new(alloc);
-    let params = pair(
-        agent,
-        read_key(alloc, &ParametersForm, action, b":parameters", none)?,
-    );
-    let none = List::new(alloc);
-    let pre = pair(
-        params,
-        read_key(alloc, &ConditionForm, action, b":precondition", none)?,
-    );
-    let none = nothing(alloc);
-    Ok(pair(pre, read_key(alloc, &EffectForm, action, b":effect", none)?))
+    let params = read_parameters(alloc, action, name)?;
+    let pre = read_precondition(alloc, action, params)?;
+    let effect = read_key(alloc, &EffectForm, action, b":effect", nothing(alloc))?;
+    Ok(pair(pre, effect))
 }
 
 /// What an action of this name says by its keys. Refuses only for want of memory.

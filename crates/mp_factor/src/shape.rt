@@ -9,7 +9,7 @@ ghost use Rattle.mp_factor.specs.FoundForms.{domain_from, problem_from};
 ghost use Rattle.mp_factor.specs.declared.word.Word.{Word as WordOf};
 ghost use Rattle.mp_factor.specs.FromFile.{IsDomainOfFile, IsProblemOfFile};
 ghost use Rattle.mp_factor.specs.OfFile.{own_words, other_words};
-ghost use Rattle.mp_factor.specs.Rules.Typed.{objects};
+ghost use Rattle.mp_factor.specs.Rules.Typed.{names, objects};
 ghost use Rattle.mp_factor.specs.Rules.Signatures.{predicates, functions};
 ghost use Rattle.mp_factor.specs.Rules.Init.{empty_start};
 ghost use Rattle.mp_factor.specs.Rules.Sections.{domain_words, problem_words, in_section, sections_rule, listed_rule, named_rule, start_rule, goal_rule, metric_rule};
@@ -36,20 +36,23 @@ use mp_list::{List, OutOfMemory};
 use mp_sexp::{Place, Tree};
 use std::alloc::Global;
 
+/// What a domain says, part by part, as far as its constants.
+type ReadConstants = ((Word, TypedList), TypedList);
+
+/// What a domain says, part by part, as far as its functions.
+type ReadFunctions = ((ReadConstants, SignatureList), SignatureList);
+
 /// What a domain says, part by part.
-type ReadDomain = (
-    (
-        (((Word, TypedList), TypedList), SignatureList),
-        SignatureList,
-    ),
-    SchemaList,
-);
+type ReadDomain = (ReadFunctions, SchemaList);
 
 /// What a problem says, part by part, as far as its objects.
 pub(crate) type ReadObjects = ((Word, Word), TypedList);
 
+/// What a problem says, part by part, as far as its goal.
+type ReadGoal = ((ReadObjects, Start), LiteralList);
+
 /// What a problem says, part by part.
-pub(crate) type ReadProblem = (((ReadObjects, Start), LiteralList), bool);
+pub(crate) type ReadProblem = (ReadGoal, bool);
 
 /// The predicates. Refuses only for want of memory.
 fn read_predicates(alloc: Global, sections: &[Tree]) -> Result<Found<SignatureList>, OutOfMemory>
@@ -75,6 +78,38 @@ fn read_functions(alloc: Global, sections: &[Tree]) -> Result<Found<SignatureLis
     read_listed(alloc, &functions, sections, b":functions")
 }
 
+/// What a domain of this name says, part by part, as far as its constants. Refuses only for want of memory.
+fn read_constants(
+    alloc: Global,
+    name: Found<Word>,
+    sections: &[Tree],
+) -> Result<Found<ReadConstants>, OutOfMemory>
+    ensures { IfOk result (λ found. found ≡ both_found (λ a b. (a, b)) (both_found (λ a b. (a, b)) name
+        (found_in (in_section (codes ":types") (listed_rule (names false)) (Says []) (nodes_in sections.now))))
+        (found_in (in_section (codes ":constants") (listed_rule objects) (Says []) (nodes_in sections.now)))) }
+{
+    let types = pair(name, read_listed(alloc, &NAMES, sections, b":types")?);
+    Ok(pair(
+        types,
+        read_listed(alloc, &Objects, sections, b":constants")?,
+    ))
+}
+
+/// What a domain says, part by part, as far as its functions, where it is known as far as its constants. Refuses only for
+/// want of memory.
+fn read_signatures(
+    alloc: Global,
+    known: Found<ReadConstants>,
+    sections: &[Tree],
+) -> Result<Found<ReadFunctions>, OutOfMemory>
+    ensures { IfOk result (λ found. found ≡ both_found (λ a b. (a, b)) (both_found (λ a b. (a, b)) known
+        (found_in (in_section (codes ":predicates") (listed_rule predicates) (Says []) (nodes_in sections.now))))
+        (found_in (in_section (codes ":functions") (listed_rule functions) (Says []) (nodes_in sections.now)))) }
+{
+    let predicates = pair(known, read_predicates(alloc, sections)?);
+    Ok(pair(predicates, read_functions(alloc, sections)?))
+}
+
 /// What a domain of this name says in its sections, part by part. Refuses only for want of memory.
 fn read_domain_parts(
     alloc: Global,
@@ -84,13 +119,8 @@ fn read_domain_parts(
     ensures { (reading : Reading WordOf) → name ≡ found_in reading → IfOk result (λ found.
         said_found domain_from found ≡ found_in (domain_parts reading (nodes_in sections.now))) }
 {
-    let types = pair(name, read_listed(alloc, &NAMES, sections, b":types")?);
-    let constants = pair(
-        types,
-        read_listed(alloc, &Objects, sections, b":constants")?,
-    );
-    let predicates = pair(constants, read_predicates(alloc, sections)?);
-    let functions = pair(predicates, read_functions(alloc, sections)?);
+    let constants = read_constants(alloc, name, sections)?;
+    let functions = read_signatures(alloc, constants, sections)?;
     Ok(pair(functions, read_actions(alloc, sections)?))
 }
 
@@ -195,24 +225,36 @@ pub(crate) fn read_objects(
     Ok(pair(domain, read_listed(alloc, &Objects, sections, b":objects")?))
 }
 
-/// The facts and values at the start. Refuses only for want of memory.
-fn read_init(alloc: Global, sections: &[Tree]) -> Result<Found<Start>, OutOfMemory>
-    ensures { IfOk result (λ found. found
-        ≡ found_in (in_section (codes ":init") start_rule (Says empty_start) (nodes_in sections.now))) }
+/// What a problem says, part by part, as far as its facts and values at the start, where it is known as far as its objects.
+/// Refuses only for want of memory.
+fn read_init(
+    alloc: Global,
+    known: Found<ReadObjects>,
+    sections: &[Tree],
+) -> Result<Found<(ReadObjects, Start)>, OutOfMemory>
+    ensures { IfOk result (λ found. found ≡ both_found (λ a b. (a, b)) known
+        (found_in (in_section (codes ":init") start_rule (Says empty_start) (nodes_in sections.now)))) }
 {
     let none = Start {
         facts: List::new(alloc),
         values: List::new(alloc),
     };
-    read_section(alloc, &StartForm, sections, b":init", Ok(none))
+    let start = read_section(alloc, &StartForm, sections, b":init", Ok(none))?;
+    Ok(pair(known, start))
 }
 
-/// The goal. Refuses only for want of memory.
-fn read_goal(alloc: Global, sections: &[Tree]) -> Result<Found<LiteralList>, OutOfMemory>
-    ensures { IfOk result (λ found. found
-        ≡ found_in (in_section (codes ":goal") goal_rule (Says []) (nodes_in sections.now))) }
+/// What a problem says, part by part, as far as its goal, where it is known as far as its start. Refuses only for want of
+/// memory.
+fn read_goal(
+    alloc: Global,
+    known: Found<(ReadObjects, Start)>,
+    sections: &[Tree],
+) -> Result<Found<ReadGoal>, OutOfMemory>
+    ensures { IfOk result (λ found. found ≡ both_found (λ a b. (a, b)) known
+        (found_in (in_section (codes ":goal") goal_rule (Says []) (nodes_in sections.now)))) }
 {
-    read_section(alloc, &GoalForm, sections, b":goal", Ok(List::new(alloc)))
+    let goals = read_section(alloc, &GoalForm, sections, b":goal", Ok(List::new(alloc)))?;
+    Ok(pair(known, goals))
 }
 
 /// What a problem says in its sections, part by part, where it is known as far as its objects. Refuses only for want of
@@ -227,12 +269,10 @@ pub(crate) fn read_behind_objects(
         (found_in (in_section (codes ":goal") goal_rule (Says []) (nodes_in sections.now))))
         (found_in (in_section (codes ":metric") metric_rule (Says false) (nodes_in sections.now)))) }
 {
-    let start = pair(known, read_init(alloc, sections)?);
-    let goals = pair(start, read_goal(alloc, sections)?);
-    Ok(pair(
-        goals,
-        read_section(alloc, &MetricForm, sections, b":metric", Ok(false))?,
-    ))
+    let start = read_init(alloc, known, sections)?;
+    let goals = read_goal(alloc, start, sections)?;
+    let metric = read_section(alloc, &MetricForm, sections, b":metric", Ok(false))?;
+    Ok(pair(goals, metric))
 }
 
 /// What a problem of this title says, part by part. Refuses only for want of memory.

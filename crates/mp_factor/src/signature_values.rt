@@ -11,7 +11,7 @@ use crate::found::{Form, Found, expect, pair, shape_fault};
 use crate::trees::{is_fixed, is_headed, is_list, is_word, members, place};
 use crate::typed_values::{Listing, TypedList, VARIABLES, read_block_of, read_typed};
 use crate::word::{NameForm, Word};
-use mp_list::{Copied, List, OutOfMemory};
+use mp_list::{List, OutOfMemory};
 use mp_sexp::{Place, Tree};
 use std::alloc::Global;
 
@@ -36,16 +36,6 @@ impl Drop for Signature {
 
 /// Signatures in the order of the file.
 pub type SignatureList = List<Signature>;
-
-impl Copied for Signature {
-    fn copy(&self) -> Result<Signature, OutOfMemory> {
-        Ok(Signature {
-            word: self.word.copy()?,
-            params: self.params.copy()?,
-            private: self.private,
-        })
-    }
-}
 
 /// A name that a predicate may have.
 #[derive(Clone, Copy)]

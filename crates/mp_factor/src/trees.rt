@@ -3,7 +3,7 @@
 ghost use Rattle.std.specs.Prelude.{◌≡◌, ◌≤◌, take, drop, length};
 ghost use Rattle.std.specs.Str.{bytes_eq};
 ghost use Rattle.mp_sexp.specs.Node.{node_of, nodes_in};
-ghost use Rattle.mp_factor.specs.Parts.{is_word as word_test, place_of, word_of, parts, is_list as list_test, is_headed as headed_test, is_name_word, is_variable_word, is_term as term_test, is_fixed_word, rest_of};
+ghost use Rattle.mp_factor.specs.Parts.{is_word as word_test, place_of, word_of, parts, is_list as list_test, is_headed as headed_test, is_name_word, is_variable_word, is_fixed_word, rest_of};
 
 use crate::words;
 use mp_sexp::{Place, Tree};
@@ -90,13 +90,6 @@ pub fn is_variable(tree: &Tree) -> bool
     ensures { result ≡ is_variable_word (node_of tree.now) }
 {
     words::is_variable(word(tree))
-}
-
-/// Whether a tree is a name or a variable.
-pub fn is_term(tree: &Tree) -> bool
-    ensures { result ≡ term_test (node_of tree.now) }
-{
-    is_name(tree) || is_variable(tree)
 }
 
 /// Whether a tree is a word with a meaning of its own.

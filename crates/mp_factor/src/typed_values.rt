@@ -39,16 +39,6 @@ impl Drop for Typed {
 /// Typed names or variables in the order of the file.
 pub type TypedList = List<Typed>;
 
-impl Copied for Typed {
-    fn copy(&self) -> Result<Typed, OutOfMemory> {
-        Ok(Typed {
-            word: self.word.copy()?,
-            types: self.types.copy()?,
-            private: self.private,
-        })
-    }
-}
-
 /// What the items of a typed list are, and their types.
 pub trait Listing<X, T> {
     ghost listing: { Self → ListingOf X T };

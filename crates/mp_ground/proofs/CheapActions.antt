@@ -1,20 +1,17 @@
 -- What instances cost.
-use Rattle.std.proofs.Common.{arith, ◌≡◌, ℕ, suc, ◌+◌, ◌*◌, ◌≤◌, Bool, true, false, cond, List, [], ◌∷◌, filter, find, length, All, Option, Some, None, option_and_then, refl, sym, ap, ◌∙◌, subst}
+use Rattle.mp_ground.proofs.Basics.{arith, ◌≡◌, ℕ, suc, ◌+◌, ◌≤◌, Bool, true, false, cond, List, [], ◌∷◌, filter, length, All, Option, Some, None, refl, subst, same_Some, none-some, flat_map, option_map, LiftedAction, LiftedFactor}
+use Rattle.mp_ground.proofs.Basics.{ActionBinding, HasSmallCosts, instances}
+use Rattle.std.proofs.Common.{◌*◌, find, option_and_then}
 use Rattle.std.proofs.lemmas.List.Elements.{All-nil, All-cons, All-head, All-tail, All-append}
-use Rattle.std.proofs.lemmas.Option.{same_Some, none-some}
-use Rattle.std.specs.List.{enumerate_from, filter_map, flat_map, cons_option}
-use Rattle.std.specs.Option.{option_map}
+use Rattle.std.specs.List.{enumerate_from, filter_map, cons_option}
 use Rattle.mp_lifted.specs.declared.lifted.Amount.{Amount}
 use Rattle.mp_lifted.specs.declared.lifted.Amount.TheVariants.{Number, Value, Missing}
 use Rattle.mp_lifted.specs.declared.lifted.GroundAtom.{GroundAtom}
 use Rattle.mp_lifted.specs.declared.lifted.GroundValue.{GroundValue}
-use Rattle.mp_lifted.specs.declared.lifted.LiftedAction.{LiftedAction}
-use Rattle.mp_lifted.specs.declared.lifted.LiftedFactor.{LiftedFactor}
 use Rattle.mp_bindings.specs.Bindings.{product}
-use Rattle.mp_lifted.specs.Binding.{ActionBinding}
 use Rattle.mp_lifted.specs.Atoms.{atom_at, same_atom}
-use Rattle.mp_instances.specs.Costs.{value_of, amount_at, cost_at, IsSmall, IsCheap, HasSmallCosts}
-use Rattle.mp_instances.specs.Instances.{suits, binding_of, instances_of, instances}
+use Rattle.mp_instances.specs.Costs.{value_of, amount_at, cost_at, IsSmall, IsCheap}
+use Rattle.mp_instances.specs.Instances.{suits, binding_of, instances_of}
 
 abbrev IsLow : GroundValue → Type 0
 IsLow v = v.cost ≤ 1000000

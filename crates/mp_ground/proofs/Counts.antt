@@ -1,43 +1,20 @@
 -- The counts of what is grounded in numbers are those by names.
-use Rattle.std.proofs.Common.{◌≡◌, ◌≤◌, Bool, true, false, List, [], ◌∷◌, map, length, sym, ap, ◌∙◌, subst, inl, inr}
-use Rattle.std.specs.Prelude.{Contains, Decides}
+use Rattle.mp_ground.proofs.Basics.{◌≡◌, ◌≤◌, Bool, true, false, List, [], ◌∷◌, map, length, sym, ap, ◌∙◌, subst, inl, inr, Contains, Decides, AllByRecursion, eq_by_cmp, cases_Bool, length-map, All-contains, same_tests, contains_head, contains_tail}
+use Rattle.mp_ground.proofs.Basics.{SignedFact, LiftedFactor, lifted_factor, ActionBinding, instances, GroundFact, fact_cmp, facts_of, facts_are_counted, facts_rise, IsChecked, named_instance, signed_fact, IsOfFactor, all_counted, instances_stand}
+use Rattle.mp_ground.proofs.Basics.{counted_stand, different_signed, parts_of, Known, counted, IsRefusedBy, GroundRefusal, same_signed, IsRefusedAt}
 use Rattle.std.specs.Cmp.{IsEquivalence}
-use Rattle.std.specs.List.{AllByRecursion, IsDistinct}
-use Rattle.std.specs.Ordering.{eq_by_cmp}
+use Rattle.std.specs.List.{IsDistinct}
 use Rattle.std.specs.Set.{is_member}
-use Rattle.std.proofs.lemmas.Bool.{cases_Bool}
-use Rattle.std.proofs.lemmas.List.{length-map}
-use Rattle.std.proofs.lemmas.List.Elements.{All-contains}
 use Rattle.std.proofs.lemmas.Map.Keys.{IsDistinct-from_sorted}
 use Rattle.std.proofs.lemmas.Map.Made.{is_member-Decides, length-from_keys}
-use Rattle.mp_list.proofs.Bools.{same_tests}
-use Rattle.mp_list.proofs.Members.{contains_head, contains_tail}
-use Rattle.mp_joint.specs.declared.fact.SignedFact.{SignedFact}
-use Rattle.mp_lifted.specs.declared.lifted.LiftedFactor.{LiftedFactor}
-use Rattle.mp_lifted.specs.Factors.{lifted_factor}
-use Rattle.mp_lifted.specs.Binding.{ActionBinding}
 use Rattle.mp_instances.specs.Counts.{tries as tries_of}
-use Rattle.mp_instances.specs.Instances.{instances}
-use Rattle.mp_ground_facts.specs.declared.fact.GroundFact.{GroundFact}
-use Rattle.mp_ground_facts.specs.Facts.{fact_cmp}
-use Rattle.mp_ground_facts.specs.Ground.{facts_of}
 use Rattle.mp_ground_facts.specs.Touched.{counted as counted_at}
 use Rattle.mp_ground_facts.proofs.FactOrder.{Decides-same_fact, fact_ties}
-use Rattle.mp_ground_facts.proofs.FactsOf.{facts_are_counted, facts_rise}
-use Rattle.mp_grounder.specs.Checked.{IsChecked}
 use Rattle.mp_grounder.specs.Grounding.{grounded, grounded_instance}
-use Rattle.mp_grounder.specs.Numbered.{named_instance, signed_fact, IsOfFactor}
-use Rattle.mp_grounder.proofs.Counted.{all_counted}
-use Rattle.mp_grounder.proofs.Grounding.{instances_stand}
-use Rattle.mp_grounder.proofs.Ordered.{counted_stand, different_signed}
-use Rattle.mp_grounder.proofs.Parts.{parts_of}
 use Rattle.mp_grounder.proofs.Tried.{same_tries}
-use Rattle.mp_ground.specs.Grounded.{Known, counted, setting}
-use Rattle.mp_ground.specs.Limits.{IsRefusedBy, IsWithin, actions, facts, tries}
-use Rattle.mp_ground.specs.declared.refusal.GroundRefusal.{GroundRefusal}
-use Rattle.mp_ground.specs.Places.{same_signed}
-use Rattle.mp_ground.specs.Refusals.{IsRefusedAt}
-use Rattle.mp_ground.proofs.Members.{contains_map, from_map}
+use Rattle.mp_ground.specs.Grounded.{setting}
+use Rattle.mp_ground.specs.Limits.{IsWithin, actions, facts, tries}
+use Rattle.mp_list.proofs.Members.{to_map, from_map}
 use Rattle.mp_ground.proofs.SameFacts.{same_signed_is, signed_itself}
 
 -- ---- facts by names are told apart
@@ -118,12 +95,12 @@ module _ (k : Known) (checked : IsChecked k.factor) where
       let from = from_map name ones x found in
       subst (λ xs. Contains xs x) (counted_stand k.me k.factor k.view checked)
       (subst (Contains (map name (counted_at lifted all))) from.2
-      (contains_map name (counted_at lifted all) from.0 ((facts_are_counted lifted all from.0).0 from.1)))
+      (to_map name (counted_at lifted all) from.0 ((facts_are_counted lifted all from.0).0 from.1)))
 
   to_numbers : (x : SignedFact) → Contains (counted k) x → Contains (map name ones) x
   to_numbers x found =
       let from = from_map name (counted_at lifted all) x (subst (λ xs. Contains xs x) (sym (counted_stand k.me k.factor k.view checked)) found) in
-      subst (Contains (map name ones)) from.2 (contains_map name ones from.0 ((facts_are_counted lifted all from.0).1 from.1))
+      subst (Contains (map name ones)) from.2 (to_map name ones from.0 ((facts_are_counted lifted all from.0).1 from.1))
 
   same_members : (x : SignedFact) → is_member same_signed (map name ones) x ≡ is_member same_signed (counted k) x
   same_members x =

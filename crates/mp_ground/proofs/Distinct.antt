@@ -1,10 +1,8 @@
 -- Declarations of which each has a name of its own.
-use Rattle.std.proofs.Common.{◌≡◌, ℕ, ◌+◌, List, ◌++◌, length, map, sym, ap, arith}
-use Rattle.std.proofs.lemmas.List.{length-map, length-append}
-use Rattle.mp_factor.specs.declared.typed_values.Typed.{Typed}
+use Rattle.mp_ground.proofs.Basics.{◌≡◌, ℕ, ◌+◌, List, ◌++◌, length, map, sym, ap, arith, length-map, Typed, declared_names}
+use Rattle.std.proofs.lemmas.List.{length-append}
 use Rattle.mp_typing.specs.ObjectList.{first_declared}
 use Rattle.mp_typing.proofs.DistinctLemmas.{all_first}
-use Rattle.mp_lifted.specs.Vocabulary.{declared_names}
 
 -- where there are as many names as declarations, they are the names of the declarations, in their order
 pub all_named : (constants objects : List Typed) (count : ℕ) → count ≡ length (declared_names (constants ++ objects))

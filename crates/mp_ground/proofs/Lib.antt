@@ -2,6 +2,8 @@
 -- places; texts in order; facts that are the same; numbers of names; objects that each have a
 -- name of their own; what instances cost; what actions
 -- stand for; what is grounded in numbers by names; its counts
+-- what the proofs cite of other places
+mod Basics
 pub mod Rising
 pub mod Members
 pub mod Parted

@@ -1,33 +1,6 @@
 -- Members of mapped and joined lists; items at places of parts of a list; functions that agree on members.
-use Rattle.std.proofs.Common.{arith, ◌≡◌, Bool, cond, ℕ, zero, suc, ◌+◌, ◌<◌, List, [], ◌∷◌, map, filter, get_or, All, take, drop, Option, Some, None, slice_get, refl, sym, ap, ◌∙◌, subst, inl, inr}
-use Rattle.std.proofs.lemmas.List.Elements.{Contains-append_left, Contains-append_right, Contains-get_or}
-use Rattle.std.specs.List.{flat_map}
-use Rattle.std.specs.Prelude.{Contains}
-use Rattle.mp_list.proofs.Members.{contains_head, contains_tail, contains_cases, no_member}
-
-pub contains_map : {X Y : Type 0} (f : X → Y) (xs : List X) (x : X) → Contains xs x → Contains (map f xs) (f x)
-contains_map f [] x found = absurd (no_member x found)
-contains_map f (y ∷ ys) x found =
-    elim (contains_cases y ys x found) [
-      | inl here ↦ subst (Contains (f y ∷ map f ys)) (ap f here) (contains_head (f y) (map f ys))
-      | inr there ↦ contains_tail (f y) (map f ys) (f x) (contains_map f ys x there)
-    ]
-
-pub from_map : {X Y : Type 0} (f : X → Y) (xs : List X) (y : Y) → Contains (map f xs) y → (x : X) × Contains xs x × (f x ≡ y)
-from_map f [] y found = absurd (no_member y found)
-from_map f (x ∷ xs) y found =
-    elim (contains_cases (f x) (map f xs) y found) [
-      | inl here ↦ (x, contains_head x xs, here)
-      | inr there ↦ let rest = from_map f xs y there in (rest.0, contains_tail x xs rest.0 rest.1, rest.2)
-    ]
-
-pub contains_flat_map : {X Y : Type 0} (f : X → List Y) (xs : List X) (x : X) (y : Y) → Contains xs x → Contains (f x) y → Contains (flat_map f xs) y
-contains_flat_map f [] x y found of_it = absurd (no_member x found)
-contains_flat_map f (z ∷ zs) x y found of_it =
-    elim (contains_cases z zs x found) [
-      | inl here ↦ Contains-append_left (f z) (flat_map f zs) y (subst (λ v. Contains (f v) y) (sym here) of_it)
-      | inr there ↦ Contains-append_right (f z) (flat_map f zs) y (contains_flat_map f zs x y there of_it)
-    ]
+use Rattle.mp_ground.proofs.Basics.{arith, ◌≡◌, Bool, cond, ℕ, zero, suc, ◌+◌, ◌<◌, List, [], ◌∷◌, map, filter, get_or, All, take, drop, slice_get, refl, ap, ◌∙◌}
+use Rattle.mp_ground.proofs.Basics.{Contains-get_or, Contains, contains_head, contains_tail}
 
 -- the item at a place among the first ones
 pub get_taken : {X : Type 0} (m n : ℕ) (xs : List X) → n < m → slice_get (take m xs) n ≡ slice_get xs n

@@ -1,10 +1,6 @@
 -- The number of a name is at most the count of the names.
-use Rattle.std.proofs.Common.{arith, ◌≡◌, ℕ, ◌+◌, ◌≤◌, Bool, List, [], ◌∷◌, length, inl, inr}
+use Rattle.mp_ground.proofs.Basics.{arith, ◌≡◌, ℕ, ◌+◌, ◌≤◌, Bool, List, [], ◌∷◌, length, inl, inr, option_map_or, bytes_eq, cases_Bool, number_in}
 use Rattle.std.specs.List.{position_from}
-use Rattle.std.specs.Option.{option_map_or}
-use Rattle.std.specs.Str.{bytes_eq}
-use Rattle.std.proofs.lemmas.Bool.{cases_Bool}
-use Rattle.mp_sexp.specs.Numbers.{number_in}
 
 within_count : {X : Type 0} (test : X → Bool) (from n : ℕ) (xs : List X) → n ≡ from + length xs → option_map_or (λ place. place) (position_from test from xs) n ≤ n
 within_count test from n [] h = omega arith

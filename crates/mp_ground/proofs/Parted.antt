@@ -1,10 +1,7 @@
 -- Lists in which the items that fail a test come before those that pass it.
-use Rattle.std.proofs.Common.{arith, ◌≡◌, ℕ, zero, suc, Bool, true, false, not, nat_lt, cond, List, [], ◌∷◌, filter, length, take, drop, Some, slice_get, refl, sym, ap, ◌∙◌, subst, inl, inr, Less, Ordering}
-use Rattle.std.specs.List.{AllByRecursion}
-use Rattle.std.specs.List.Sorted.{IsStrictlySortedBy}
-use Rattle.std.proofs.lemmas.Bool.{cases_Bool, le-ltb, lt-ltb, ltb-true}
-use Rattle.std.proofs.lemmas.Option.{same_Some}
-use Rattle.mp_list.proofs.Bools.{same_tests}
+use Rattle.mp_ground.proofs.Basics.{arith, ◌≡◌, ℕ, zero, suc, Bool, true, not, nat_lt, List, [], ◌∷◌, filter, length, take, drop, Some, slice_get, refl, sym, ap, ◌∙◌, subst, inl, inr, Less, Ordering, AllByRecursion, IsStrictlySortedBy}
+use Rattle.mp_ground.proofs.Basics.{cases_Bool, lt-ltb, ltb-true, same_Some, same_tests}
+use Rattle.std.proofs.lemmas.Bool.{le-ltb}
 
 both_more : (a b : ℕ) → nat_lt a b ≡ nat_lt (suc a) (suc b)
 both_more a b = same_tests (nat_lt a b) (nat_lt (suc a) (suc b)) (λ h. lt-ltb (suc a) (suc b) (omega (arith, ltb-true a b h))) (λ h. lt-ltb a b (omega (arith, ltb-true (suc a) (suc b) h)))

@@ -1,29 +1,19 @@
 -- The numbers of some facts, as places of facts in lists: of private facts in the list of these, of public ones in the list
 -- of their texts.
-use Rattle.std.proofs.Common.{arith, ◌≡◌, ℕ, ◌+◌, ◌-◌, ◌<◌, ◌≤◌, Bool, true, false, not, nat_lt, ltb, List, [], ◌∷◌, map, filter, length, take, drop, get_or, Option, Some, None, slice_get, refl, sym, ap, ◌∙◌, subst, inl, inr, Less}
-use Rattle.std.specs.Prelude.{Contains}
-use Rattle.std.specs.Cmp.Lexicographic.{slice_cmp}
-use Rattle.std.specs.List.{list_any, AllByRecursion}
-use Rattle.std.specs.List.Sorted.{IsStrictlySortedBy}
-use Rattle.std.specs.Option.{option_map}
-use Rattle.std.specs.Ordering.{is_eq, nat_cmp}
-use Rattle.std.specs.Str.{bytes_eq}
-use Rattle.std.proofs.lemmas.Bool.{ltb-true, ltb-false, lt-ltb, not-true}
+use Rattle.mp_ground.proofs.Basics.{arith, ◌≡◌, ℕ, ◌+◌, ◌-◌, ◌<◌, ◌≤◌, Bool, true, false, not, nat_lt, List, [], ◌∷◌, map, filter, take, drop, get_or, Option, Some, None, slice_get, refl, sym, ap, ◌∙◌, subst, Less, Contains}
+use Rattle.mp_ground.proofs.Basics.{slice_cmp, list_any, AllByRecursion, IsStrictlySortedBy, option_map, nat_cmp, bytes_eq, ltb-true, lt-ltb, Contains-get_or, slice_get-map, slice_get_within, none-some, same_Some, bytes_eq-Decides, any_from}
+use Rattle.mp_ground.proofs.Basics.{some_member, number_in, sorted_by, Text, numbers_where, taken_passes, taken_from_passes}
+use Rattle.std.specs.Ordering.{is_eq}
+use Rattle.std.proofs.lemmas.Bool.{ltb-false, not-true}
 use Rattle.std.proofs.lemmas.List.{length-take}
-use Rattle.std.proofs.lemmas.List.Elements.{Contains-get_or}
 use Rattle.std.proofs.lemmas.Map.Text.{is_eq-slice_cmp}
-use Rattle.std.proofs.lemmas.Option.{slice_get-map, slice_get-get_or, slice_get_within, get_or_from_slice_get, none-some, same_Some}
-use Rattle.std.proofs.lemmas.Slice.Eq.{bytes_eq-Decides}
-use Rattle.mp_list.proofs.Members.{any_from, some_member}
-use Rattle.mp_sexp.specs.Numbers.{is_named, name_at, number_in}
+use Rattle.std.proofs.lemmas.Option.{slice_get-get_or, get_or_from_slice_get}
+use Rattle.mp_sexp.specs.Numbers.{is_named}
 use Rattle.mp_sexp.proofs.NamesAt.{name_at_number, number_below}
-use Rattle.mp_views.specs.Sorted.{sorted_by}
-use Rattle.mp_joint.specs.Fact.{Text}
-use Rattle.mp_typing.specs.Places.{numbers_where}
-use Rattle.mp_ground.proofs.Members.{contains_map, from_map, get_taken, get_dropped}
+use Rattle.mp_ground.proofs.Members.{get_taken, get_dropped}
+use Rattle.mp_list.proofs.Members.{to_map, from_map}
 use Rattle.mp_grounder.proofs.Distinct.{AreDistinct}
 use Rattle.mp_grounder.proofs.Numbered.{number_at}
-use Rattle.mp_typing.proofs.Passing.{taken_passes, taken_from_passes}
 use Rattle.mp_ground.proofs.Rising.{member_is_place, place_is_member, sorted_places}
 
 -- ---- lists at places
@@ -70,7 +60,7 @@ module _ {F S : Type 0} (facts : List F) (number : F → ℕ) (have : HaveNumber
       let at : slice_get facts n ≡ Some x = ap (slice_get facts) (sym from.2) ∙ have.numbered x (each x from.1) in (
         name x,
         mapped_at name (take m facts) n x (get_taken m n facts less ∙ at),
-        any_from (λ z. same (name x) z) (map name xs) (name x) (contains_map name xs x from.1) (told.itself x),
+        any_from (λ z. same (name x) z) (map name xs) (name x) (to_map name xs x from.1) (told.itself x),
       ))
       (λ n y at passes.
       let from = at_mapped name (take m facts) n y at in
@@ -82,7 +72,7 @@ module _ {F S : Type 0} (facts : List F) (number : F → ℕ) (have : HaveNumber
       let x = of.0 in
       let is : f ≡ x = told.apart f x (member_at facts n f there) (each x of.1) ((λ i. same (from.2 i) (of.2 i)) ∙ some.2) in
       let here : number x ≡ n = have.once x (number x) n (have.numbered x (each x of.1)) (there ∙ ap Some is) in
-      taken_from_passes (λ k. nat_lt k m) (map number xs) n (subst (Contains (map number xs)) here (contains_map number xs x of.1)) (lt-ltb n m less))
+      taken_from_passes (λ k. nat_lt k m) (map number xs) n (subst (Contains (map number xs)) here (to_map number xs x of.1)) (lt-ltb n m less))
 
 -- the places of those among the first facts that pass a test, told by their names
 pub first_passing : {F S : Type 0} (facts : List F) (m : ℕ) (name : F → S) (test : F → Bool) (told : S → Bool)
@@ -183,7 +173,7 @@ module _ {F S : Type 0} (facts : List F) (number : F → ℕ) (have : HaveNumber
         t,
         ap (slice_get publics) (sym is) ∙ text_at_number publics t named,
         any_from (λ u. bytes_eq t u) (map text chosen) t
-            (contains_map text chosen (name x) (taken_from_passes test (map name xs) (name x) (contains_map name xs x of.1) (tells x (each x of.1) ∙ later)))
+            (to_map text chosen (name x) (taken_from_passes test (map name xs) (name x) (to_map name xs x of.1) (tells x (each x of.1) ∙ later)))
             ((bytes_eq-Decides t t).1 refl),
       ))
       (λ p t at passes.
@@ -198,5 +188,5 @@ module _ {F S : Type 0} (facts : List F) (number : F → ℕ) (have : HaveNumber
       let here : place publics (number x) ≡ p =
       place_of publics x (each x of.1) le ∙ ap (number_in publics) is ∙ number_at_text publics p t (rising_differ publics h.rise) at in
       subst (Contains (map (place publics) (filter (λ n. not (nat_lt n m)) (map number xs)))) here
-      (contains_map (place publics) (filter (λ n. not (nat_lt n m)) (map number xs)) (number x)
-      (taken_from_passes (λ n. not (nat_lt n m)) (map number xs) (number x) (contains_map number xs x of.1) later)))
+      (to_map (place publics) (filter (λ n. not (nat_lt n m)) (map number xs)) (number x)
+      (taken_from_passes (λ n. not (nat_lt n m)) (map number xs) (number x) (to_map number xs x of.1) later)))

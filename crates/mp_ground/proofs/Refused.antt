@@ -1,5 +1,6 @@
 -- What is known of a refusal that is handed on.
-use Rattle.std.proofs.Common.{◌≡◌, Result, Ok, Err, sym, subst}
+use Rattle.mp_ground.proofs.Basics.{◌≡◌, sym, subst}
+use Rattle.std.proofs.Common.{Result, Ok, Err}
 use Rattle.std.specs.Prelude.{IfErr}
 use Rattle.std.specs.Result.{IsErrAnd}
 

@@ -1,21 +1,16 @@
 -- Lists in an order are told by their members; lists of places rise.
-use Rattle.std.proofs.Common.{arith, eqb, ◌≡◌, ℕ, zero, suc, ◌+◌, ◌<◌, ◌≤◌, Bool, true, false, cond, List, [], ◌∷◌, length, Some, slice_get, refl, sym, ap, ◌∙◌, subst, inl, inr, Less, Ordering}
-use Rattle.std.specs.Prelude.{Contains}
+use Rattle.mp_ground.proofs.Basics.{arith, ◌≡◌, ℕ, zero, suc, ◌+◌, ◌<◌, ◌≤◌, Bool, true, false, cond, List, [], ◌∷◌, length, Some, slice_get, refl, sym, ap, ◌∙◌, subst, inl, inr, Less, Ordering, Contains, nat_cmp-IsAntisymmetric, list_any}
+use Rattle.mp_ground.proofs.Basics.{AllByRecursion, IsStrictlyIncreasing, IsStrictlySortedBy, eq_by_cmp, nat_cmp, cases_Bool, IsStrictlyIncreasing-dedup, slice_get_within, same_tests, contains_head, contains_tail, contains_cases, no_member, any_from}
+use Rattle.mp_ground.proofs.Basics.{some_member, sorted_by, numbers_where}
+use Rattle.std.proofs.Common.{eqb}
 use Rattle.std.specs.Cmp.{IsTotalOrder, nat_cmp_is}
-use Rattle.std.specs.FinMap.{IsAntisymmetric, nat_cmp-IsAntisymmetric}
-use Rattle.std.specs.List.{list_any, AllByRecursion, dedup}
-use Rattle.std.specs.List.Sorted.{IsPermutation, IsSorted, IsStrictlyIncreasing, IsStrictlySortedBy}
-use Rattle.std.specs.Ordering.{eq_by_cmp, nat_cmp}
-use Rattle.std.proofs.lemmas.Bool.{cases_Bool}
+use Rattle.std.specs.FinMap.{IsAntisymmetric}
+use Rattle.std.specs.List.{dedup}
+use Rattle.std.specs.List.Sorted.{IsPermutation, IsSorted}
 use Rattle.std.proofs.lemmas.Cmp.{nat_cmp_total}
 use Rattle.std.proofs.lemmas.List.Kept.{Contains-dedup_nat, Contains-from_dedup}
 use Rattle.std.proofs.lemmas.List.Sorted.{Contains-permutation, IsPermutation-sym}
-use Rattle.std.proofs.lemmas.Map.Keys.{IsStrictlyIncreasing-dedup, sorted_from_strictly_increasing}
-use Rattle.std.proofs.lemmas.Option.{slice_get_within}
-use Rattle.mp_list.proofs.Bools.{same_tests}
-use Rattle.mp_list.proofs.Members.{contains_head, contains_tail, contains_cases, no_member, any_from, some_member}
-use Rattle.mp_views.specs.Sorted.{sorted_by}
-use Rattle.mp_typing.specs.Places.{numbers_where}
+use Rattle.std.proofs.lemmas.Map.Keys.{sorted_from_strictly_increasing}
 use Rattle.mp_ground_facts.proofs.Strict.{keys_are}
 
 -- ---- one list in an order has some members

@@ -1,17 +1,12 @@
 -- Texts in order: their members, and that there are no more of them.
-use Rattle.std.proofs.Common.{arith, ◌≡◌, ℕ, suc, ◌+◌, ◌≤◌, true, List, [], ◌∷◌, length, refl, sym, ap, ◌∙◌, subst, Ordering, Less, Equal, Greater}
-use Rattle.std.specs.Prelude.{Contains}
+use Rattle.mp_ground.proofs.Basics.{arith, ◌≡◌, ◌+◌, ◌≤◌, true, List, [], ◌∷◌, length, refl, sym, ◌∙◌, subst, Ordering, Less, Greater, Contains, slice_cmp, nat_cmp-IsAntisymmetric, nat_cmp, bytes_eq, bytes_eq-Decides, any_from}
+use Rattle.mp_ground.proofs.Basics.{some_member, Text, sorted_once, texts_rise, same_texts}
+use Rattle.std.proofs.Common.{Equal}
 use Rattle.std.specs.BTreeSet.{insert_key}
-use Rattle.std.specs.Cmp.Lexicographic.{slice_cmp, nat_list_cmp_total}
-use Rattle.std.specs.FinMap.{nat_cmp-IsAntisymmetric, slice_cmp-IsAntisymmetric}
-use Rattle.std.specs.Ordering.{match_ordering, nat_cmp}
-use Rattle.std.specs.Str.{bytes_eq}
-use Rattle.std.proofs.lemmas.Slice.Eq.{bytes_eq-Decides}
-use Rattle.mp_list.proofs.Members.{any_from, some_member}
-use Rattle.mp_joint.specs.Fact.{Text}
-use Rattle.mp_views.specs.Sorted.{sorted_once}
+use Rattle.std.specs.Cmp.Lexicographic.{nat_list_cmp_total}
+use Rattle.std.specs.FinMap.{slice_cmp-IsAntisymmetric}
+use Rattle.std.specs.Ordering.{match_ordering}
 use Rattle.mp_views.proofs.SortedLemmas.{with_all, texts_sorted}
-use Rattle.mp_views.proofs.SortedLaws.{texts_rise, same_texts}
 use Rattle.mp_ground.proofs.Rising.{sorted_is}
 
 -- ---- members

@@ -1,63 +1,38 @@
 -- What a factor that is grounded in numbers becomes is the grounded factor by names, and it keeps the limits.
-use Rattle.std.proofs.Common.{arith, ◌≡◌, ℕ, ◌+◌, ◌-◌, ◌≤◌, ◌<◌, Bool, true, false, not, nat_lt, List, [], ◌∷◌, ◌++◌, map, filter, length, take, drop, get_or, All, Option, Some, None, slice_get, refl, sym, ap, ◌∙◌, subst, Ordering, Less, Greater, if◌then◌else◌}
-use Rattle.std.specs.Prelude.{Contains, ◌↔◌}
-use Rattle.std.specs.List.{flat_map}
-use Rattle.std.specs.Option.{is_none, option_map_or}
-use Rattle.std.specs.Ordering.{ordering_then, bool_cmp, nat_cmp}
-use Rattle.std.specs.Cmp.Lexicographic.{slice_cmp}
-use Rattle.std.proofs.lemmas.List.{length-drop, length-map}
-use Rattle.std.proofs.lemmas.List.Elements.{All-contains, All-map, Contains-append_left, Contains-append_right}
+use Rattle.mp_ground.proofs.Basics.{arith, ◌≡◌, ℕ, ◌+◌, ◌-◌, ◌≤◌, ◌<◌, Bool, true, false, not, nat_lt, List, [], ◌++◌, map, filter, length, take, drop, get_or, All, Option, Some, None, slice_get, refl, sym, ap, ◌∙◌, subst, Ordering, Less}
+use Rattle.mp_ground.proofs.Basics.{Greater, if◌then◌else◌, Contains, flat_map, option_map_or, nat_cmp, slice_cmp, length-drop, length-map, All-contains, Contains-append_left, Contains-append_right, no_member, Factor, numbers_where}
+use Rattle.mp_ground.proofs.Basics.{taken_passes, taken_from_passes, SignedFact, Text, LiftedAction, LiftedFactor, OpenView, lifted_factor, ActionBinding, instances, GroundFact, fact_cmp, facts_of, ground_action, facts_are_counted, facts_rise}
+use Rattle.mp_ground.proofs.Basics.{sorted_once, texts_rise, same_texts, IsChecked, named_instance, signed_fact, IsOfFactor, all_counted, instances_stand, counted_stand, different_signed, parts_of, small_costs, Known, IsGrounded, counted}
+use Rattle.mp_ground.proofs.Basics.{KeepsLimits, fact_names, text_at, count_private, rising, private_numbers, public_numbers, act_at, binding_at, ground_at, same_signed}
+use Rattle.std.specs.Ordering.{ordering_then, bool_cmp}
+use Rattle.std.proofs.lemmas.List.Elements.{All-map}
 use Rattle.std.proofs.lemmas.List.Filters.{length-filter_both}
-use Rattle.std.proofs.lemmas.Option.{same_Some}
 use Rattle.std.proofs.lemmas.Simd.{map-map}
-use Rattle.mp_list.proofs.Members.{no_member}
-use Rattle.mp_factor.specs.declared.factor.Factor.{Factor}
-use Rattle.mp_typing.specs.Places.{numbers_where}
-use Rattle.mp_typing.proofs.Passing.{taken_passes, taken_from_passes}
-use Rattle.mp_joint.specs.declared.fact.SignedFact.{SignedFact}
-use Rattle.mp_joint.specs.Fact.{Text}
-use Rattle.mp_joint.specs.Grounded.{Setting}
 use Rattle.mp_joint.specs.Instance.{holds}
-use Rattle.mp_task.specs.declared.act.Act.{Act}
 use Rattle.mp_task.specs.Limits.{ActFits, AllLess}
-use Rattle.mp_lifted.specs.declared.lifted.LiftedAction.{LiftedAction}
-use Rattle.mp_lifted.specs.declared.lifted.LiftedFactor.{LiftedFactor}
-use Rattle.mp_lifted.specs.declared.view.OpenView.{OpenView}
-use Rattle.mp_lifted.specs.Factors.{lifted_factor}
 use Rattle.mp_lifted.specs.Texts.{signed_text}
 use Rattle.mp_lifted.specs.Views.{setting_of}
-use Rattle.mp_lifted.specs.Binding.{ActionBinding}
-use Rattle.mp_instances.specs.Instances.{instances}
-use Rattle.mp_ground_facts.specs.declared.fact.GroundFact.{GroundFact}
-use Rattle.mp_ground_facts.specs.Facts.{atom_of, fact_cmp, is_initial}
-use Rattle.mp_ground_facts.specs.Ground.{facts_of, number_of, numbers_of, ground_action, ground_factor}
+use Rattle.mp_ground_facts.specs.Facts.{atom_of, is_initial}
+use Rattle.mp_ground_facts.specs.Ground.{number_of, numbers_of, ground_factor}
 use Rattle.mp_ground_facts.specs.Touched.{needed, added, deleted, touched, of_action, goal_facts, counted as counted_at}
-use Rattle.mp_ground_facts.proofs.FactsOf.{facts_are_counted, facts_rise, facts_stand, one_place}
+use Rattle.mp_ground_facts.proofs.FactsOf.{facts_stand, one_place}
 use Rattle.mp_views.specs.Public.{is_public, public_texts}
-use Rattle.mp_views.specs.Sorted.{sorted_once}
-use Rattle.mp_views.proofs.SortedLaws.{texts_rise, same_texts}
-use Rattle.mp_grounder.specs.Checked.{IsChecked}
-use Rattle.mp_grounder.specs.Counted.{counted_facts, named_goals, signed_cmp}
+use Rattle.mp_grounder.specs.Counted.{named_goals, signed_cmp}
 use Rattle.mp_grounder.specs.Grounding.{GroundedInstance}
 use Rattle.mp_grounder.specs.Listing.{IsListing}
 use Rattle.mp_grounder.specs.Named.{step_of}
-use Rattle.mp_grounder.specs.Numbered.{named_instance, AreNumbered, signed_fact, IsOfFactor}
-use Rattle.mp_grounder.proofs.Counted.{all_counted}
-use Rattle.mp_grounder.proofs.Grounding.{instances_stand}
+use Rattle.mp_grounder.specs.Numbered.{AreNumbered}
 use Rattle.mp_grounder.proofs.Listed.{listed}
 use Rattle.mp_grounder.proofs.Lists.{filter_of_map}
 use Rattle.mp_grounder.proofs.Needed.{goals_stand}
-use Rattle.mp_grounder.proofs.Ordered.{counted_stand, different_signed}
-use Rattle.mp_grounder.proofs.Parts.{parts_of}
-use Rattle.mp_grounder.proofs.SmallCosts.{small_costs}
 use Rattle.mp_grounder.proofs.Starts.{public_is, same_start}
 use Rattle.mp_ground.specs.declared.grounded.Ground.{Ground}
-use Rattle.mp_ground.specs.Grounded.{Known, IsGrounded, act_of, counted, instances_by_name}
-use Rattle.mp_ground.specs.Limits.{KeepsLimits}
-use Rattle.mp_ground.specs.Numbered.{fact_names, text_at, count_private, public_texts_at, places_of, rising, private_numbers, public_numbers, act_at, binding_at, ground_at}
-use Rattle.mp_ground.specs.Places.{same_signed, places_in, public_places_in, is_private}
-use Rattle.mp_ground.proofs.CheapActions.{CostsLittle, instances_cost_little}
-use Rattle.mp_ground.proofs.Members.{contains_map, from_map, contains_flat_map, map_on, filter_on, all_members}
+use Rattle.mp_ground.specs.Grounded.{act_of, instances_by_name}
+use Rattle.mp_ground.specs.Numbered.{public_texts_at, places_of}
+use Rattle.mp_ground.specs.Places.{places_in, public_places_in, is_private}
+use Rattle.mp_ground.proofs.CheapActions.{instances_cost_little}
+use Rattle.mp_ground.proofs.Members.{map_on, filter_on, all_members}
+use Rattle.mp_list.proofs.Members.{to_map, from_map, to_flat_map}
 use Rattle.mp_ground.proofs.Parted.{failing_first, passing_behind, told_by_place}
 use Rattle.mp_ground.proofs.Placed.{HaveNumbers, AreTold, HaveTexts, first_places, first_passing, later_places}
 use Rattle.mp_ground.proofs.Rising.{places_below}
@@ -170,9 +145,9 @@ module _ (me : ℕ) (factor : Factor) (view : OpenView) (checked : IsChecked fac
       let taken = taken_passes is_public_fact facts f (subst (λ fs. Contains fs f) (sym behind) from.1) in
       let here : Contains (counted k) (name f) =
       subst (λ xs. Contains xs (name f)) (counted_stand me factor view checked)
-      (contains_map name (counted_at lifted all) f ((facts_are_counted lifted all f).0 taken.0)) in
+      (to_map name (counted_at lifted all) f ((facts_are_counted lifted all f).0 taken.0)) in
       subst (Contains (map signed_text public_ones)) from.2
-      (contains_map signed_text public_ones (name f) (taken_from_passes is_public (counted k) (name f) here (public_told f taken.0 ∙ taken.1))))
+      (to_map signed_text public_ones (name f) (taken_from_passes is_public (counted k) (name f) here (public_told f taken.0 ∙ taken.1))))
       (λ t found.
       let from = from_map signed_text public_ones t found in
       let taken = taken_passes is_public (counted k) from.0 from.1 in
@@ -181,7 +156,7 @@ module _ (me : ℕ) (factor : Factor) (view : OpenView) (checked : IsChecked fac
       let here = (facts_are_counted lifted all f).1 of.1 in
       let passes : f.is_public ≡ true = sym (public_told f here) ∙ ap is_public of.2 ∙ taken.1 in
       let there : Contains (drop first facts) f = subst (λ fs. Contains fs f) behind (taken_from_passes is_public_fact facts f here passes) in
-      subst (Contains named) (ap signed_text of.2 ∙ from.2) (contains_map (λ (g : GroundFact). signed_text (name g)) (drop first facts) f there))
+      subst (Contains named) (ap signed_text of.2 ∙ from.2) (to_map (λ (g : GroundFact). signed_text (name g)) (drop first facts) f there))
 
   -- ---- some of its facts
 
@@ -215,7 +190,7 @@ module _ (me : ℕ) (factor : Factor) (view : OpenView) (checked : IsChecked fac
   touched_counted : (b : ActionBinding) → Contains all b → (x : GroundFact) → Contains (of_action lifted touched b) x → Contains facts x
   touched_counted b there x found =
       (facts_are_counted lifted all x).1
-      (Contains-append_left (flat_map (of_action lifted touched) all) (goal_facts lifted) x (contains_flat_map (of_action lifted touched) all b x there found))
+      (Contains-append_left (flat_map (of_action lifted touched) all) (goal_facts lifted) x (to_flat_map (of_action lifted touched) all b x there found))
 
   part_touched : (part : LiftedFactor → LiftedAction → List ℕ → List GroundFact)
       → ((a : LiftedAction) (objects : List ℕ) (x : GroundFact) → Contains (part lifted a objects) x → Contains (touched lifted a objects) x)

@@ -1,10 +1,5 @@
 -- What ground actions stand for.
-use Rattle.std.proofs.Common.{◌≡◌, List, [], ◌∷◌, map, refl, ap}
-use Rattle.mp_lifted.specs.declared.lifted.LiftedFactor.{LiftedFactor}
-use Rattle.mp_lifted.specs.Binding.{ActionBinding}
-use Rattle.mp_ground_facts.specs.declared.fact.GroundFact.{GroundFact}
-use Rattle.mp_ground_facts.specs.Ground.{ground_action}
-use Rattle.mp_ground.specs.Numbered.{binding_at}
+use Rattle.mp_ground.proofs.Basics.{◌≡◌, List, [], ◌∷◌, map, refl, ap, LiftedFactor, ActionBinding, GroundFact, ground_action, binding_at}
 
 -- the ground actions of instances stand for the instances
 pub instances_stay : (lifted : LiftedFactor) (facts : List GroundFact) (instances : List ActionBinding) → map binding_at (map (ground_action lifted facts) instances) ≡ instances

@@ -1,6 +1,6 @@
 -- What a factor that is grounded in numbers becomes. Its private facts, which come first, keep their numbers, and its public
 -- facts have the places of their texts.
-use Rattle.std.specs.Prelude.{ℕ, ◌-◌, nat_lt, Bool, not, List, map, filter, length, drop, None, slice_index_or}
+use Rattle.std.specs.Prelude.{ℕ, ◌-◌, nat_lt, not, List, map, filter, length, drop, None, slice_index_or}
 use Rattle.std.specs.Ordering.{nat_cmp}
 use Rattle.mp_factor.specs.declared.factor.Factor.{Factor}
 use Rattle.mp_sexp.specs.Numbers.{name_at, number_in}

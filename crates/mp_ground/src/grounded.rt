@@ -1,5 +1,7 @@
 //! The grounded factor of one agent.
 
+ghost use Rattle.std.specs.Prelude.{◌≡◌};
+
 use mp_lifted::{ActionBindingList, FactTexts};
 use mp_sets::{Agent, FactList};
 use mp_task::ActList;
@@ -7,7 +9,6 @@ use mp_task::ActList;
 /// The factor of an agent, grounded. Private facts are numbered from 0: facts before complements, then by predicate in
 /// the order of the file, then by arguments in object order. Public facts have the places of their texts as numbers,
 /// which are the agent's own until the team's are known.
-#[derive(Drop)]
 pub struct Ground {
     /// The agent.
     pub me: Agent,
@@ -27,4 +28,38 @@ pub struct Ground {
     pub acts: ActList,
     /// For each own action, the action of the file and the objects that it stands for.
     pub steps: ActionBindingList,
+}
+
+impl Ground {
+    /// For each own action, the action of the file and the objects that it stands for; the rest is let go.
+    pub fn into_steps(self) -> ActionBindingList
+        ensures { result ≡ self.steps }
+    {
+        let Ground {
+            me: _,
+            publics: _,
+            privates: _,
+            start: _,
+            goal_pub: _,
+            goal_priv: _,
+            acts: _,
+            steps,
+        } = self;
+        steps
+    }
+}
+
+impl Drop for Ground {
+    fn drop(self) {
+        let Ground {
+            me: _,
+            publics: _,
+            privates: _,
+            start: _,
+            goal_pub: _,
+            goal_priv: _,
+            acts: _,
+            steps: _,
+        } = self;
+    }
 }

@@ -1,15 +1,14 @@
 //! Names by their numbers.
 
-ghost use Rattle.std.specs.Prelude.{◌≡◌, ◌++◌, ◌∷◌, [], List as ListOf, map, length, slice_get, IfOk, OnOk};
+ghost use Rattle.std.specs.Prelude.{◌≡◌, ◌++◌, map, length, slice_get, IfOk, OnOk};
 ghost use Rattle.std.specs.Option.{option_map};
-ghost use Rattle.mp_factor.specs.declared.typed_values.Typed.{Typed as Declaration};
 ghost use Rattle.mp_lifted.specs.Vocabulary.{declared_names};
 ghost use Rattle.mp_sexp.specs.Numbers.{name_at};
 ghost use Rattle.mp_ground.specs.Numbered.{fact_names as names_of_facts};
 
-use mp_factor::{Factor, SignatureList, Typed, TypedList};
+use mp_factor::{Factor, SignatureList, TypedList};
 use mp_list::{Copied, List, OutOfMemory};
-use mp_sexp::{Name, NameList, NameTable};
+use mp_sexp::{Name, NameList};
 use std::alloc::Global;
 use std::marker::Model;
 
@@ -68,29 +67,6 @@ fn all_names<'a>(
     Ok(Names { names })
 }
 
-/// Adds the name of an object, where it is not there yet.
-fn add_object<'a>(table: &mut NameTable<'a>, object: &'a Typed) -> Result<(), OutOfMemory>
-    ensures { OnOk result ((declared : ListOf Declaration) → table.old ≡ declared_names declared
-        → table.new ≡ declared_names (declared ++ object.now ∷ [])) }
-{
-    if table.contains(&object.word.name) {
-        return Ok(());
-    }
-    table.push(&object.word.name)?;
-    Ok(())
-}
-
-/// Adds the names of objects that are not there yet.
-fn add_objects<'a>(table: &mut NameTable<'a>, objects: &'a TypedList) -> Result<(), OutOfMemory>
-    ensures { OnOk result ((before : ListOf Declaration) → table.old ≡ declared_names before
-        → table.new ≡ declared_names (before ++ objects.now)) }
-{
-    for object in objects.as_slice() {
-        add_object(table, object)?;
-    }
-    Ok(())
-}
-
 /// The names of objects in object order.
 fn names_in_order<'a>(
     alloc: Global,
@@ -99,9 +75,7 @@ fn names_in_order<'a>(
 ) -> Result<Names<'a>, OutOfMemory>
     ensures { IfOk result (λ names. names ≡ declared_names (constants.now ++ objects.now)) }
 {
-    let mut table = NameTable::new(alloc);
-    add_objects(&mut table, constants)?;
-    add_objects(&mut table, objects)?;
+    let table = mp_lifted::object_names(alloc, constants, objects)?;
     Ok(Names {
         names: Vec::from_slice(alloc, table.as_slice())?,
     })

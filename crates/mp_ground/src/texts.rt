@@ -1,6 +1,6 @@
 //! The texts of public facts, and the places of facts by them.
 
-ghost use Rattle.std.specs.Prelude.{◌≡◌, ◌≤◌, ◌++◌, ◌∷◌, codes, length, map, not, filter, IfOk, OnOk};
+ghost use Rattle.std.specs.Prelude.{◌≡◌, ◌≤◌, ◌++◌, ◌∷◌, codes, length, map, not, IfOk, OnOk};
 ghost use Rattle.mp_sexp.specs.Numbers.{name_at, number_in};
 ghost use Rattle.mp_sexp.specs.Bytes.{folded};
 ghost use Rattle.mp_lifted.specs.Texts.{bracketed};

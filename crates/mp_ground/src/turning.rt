@@ -1,18 +1,18 @@
 //! What a factor that is grounded in numbers becomes.
 
-ghost use Rattle.std.specs.Prelude.{◌≡◌, ◌≤◌, length, map, IfOk};
+ghost use Rattle.std.specs.Prelude.{◌≡◌, ◌≤◌, [], length, map, IfOk};
 ghost use Rattle.mp_ground_facts.specs.Ground.{ground_action, ground_with};
-ghost use Rattle.mp_ground.specs.Numbered.{act_at, act_with, ground_at};
+ghost use Rattle.mp_ground.specs.Numbered.{act_at, act_with, ground_at, private_numbers, public_numbers, rising};
 
 use crate::grounded::Ground;
 use crate::names::FactNames;
 use crate::places::{Places, private_places, public_places};
 use crate::texts::publics_of;
 use indexmap::IndexSet;
-use mp_ground_facts::{ActionNumbers, GroundFact, goal_numbers, number_action, start_numbers};
+use mp_ground_facts::{ActionNumbers, Binding, GroundFact, goal_numbers, start_numbers};
 use mp_lifted::{ActionBindingList, BoundAction, LiftedFactor};
 use mp_list::{List, OutOfMemory};
-use mp_sets::Agent;
+use mp_sets::{Agent, FactList};
 use mp_task::{Act, ActList};
 use std::alloc::Global;
 
@@ -21,11 +21,11 @@ fn act_of(
     alloc: Global,
     scratch: &mut Vec<u32>,
     places: &Places,
-    numbers: &ActionNumbers,
+    numbers: &ActionNumbers<'_>,
     cost: u64,
 ) -> Result<Act, OutOfMemory>
     ensures { IfOk result (λ act. act
-        ≡ act_with places.now numbers.now.pre.items numbers.now.add.items numbers.now.del.items cost) }
+        ≡ act_with places.now numbers.now.pre.numbers numbers.now.add.numbers numbers.now.del.numbers cost) }
 {
     let pre = numbers.pre.as_slice();
     let add = numbers.add.as_slice();
@@ -41,20 +41,20 @@ fn act_of(
     })
 }
 
-/// Instances with their facts by their places. What `scratch` has is lost.
+/// Instances with their facts by their places.
 fn own_acts(
     alloc: Global,
-    scratch: &mut Vec<u32>,
     places: &Places,
     facts: &IndexSet<GroundFact>,
-    lifted: &LiftedFactor,
+    factor: &LiftedFactor,
     instances: &ActionBindingList,
 ) -> Result<ActList, OutOfMemory>
     requires { length facts.now.keys ≤ 65535 }
     ensures { IfOk result (λ acts. acts
-        ≡ map (act_at places.now) (map (ground_action lifted.now facts.now.keys) instances.now)) }
+        ≡ map (act_at places.now) (map (ground_action factor.now facts.now.keys) instances.now)) }
 {
-    let mut numbers = ActionNumbers::new(alloc);
+    let mut scratch = Vec::new(alloc);
+    let mut numbers = ActionNumbers::new(alloc, facts);
     let mut acts = List::with_capacity(alloc, instances.len())?;
     for at in 0..instances.len() {
         let BoundAction {
@@ -62,10 +62,48 @@ fn own_acts(
             objects,
             cost,
         } = instances.at(at);
-        number_action(&mut numbers, scratch, facts, lifted, action, objects)?;
-        acts.push(act_of(alloc, scratch, places, &numbers, cost)?)?;
+        numbers.number(&mut scratch, Binding { factor, objects }, action)?;
+        acts.push(act_of(alloc, &mut scratch, places, &numbers, cost)?)?;
     }
     Ok(acts)
+}
+
+/// The private facts that are true at the start, by their places.
+fn start_of(
+    alloc: Global,
+    places: &Places,
+    facts: &IndexSet<GroundFact>,
+    lifted: &LiftedFactor,
+) -> Result<FactList, OutOfMemory>
+    requires { length facts.now.keys ≤ 65535 }
+    ensures { IfOk result (λ start. start
+        ≡ rising (private_numbers places.now (ground_with lifted.now facts.now.keys []).start)) }
+{
+    let numbers = start_numbers(alloc, lifted, facts.as_slice())?;
+    let mut scratch = Vec::new(alloc);
+    let start = private_places(alloc, &mut scratch, places, numbers.as_slice())?;
+    Ok(start)
+}
+
+/// What the goals ask for, by its places: the public facts, and the private ones.
+fn goals_of(
+    alloc: Global,
+    places: &Places,
+    facts: &IndexSet<GroundFact>,
+    lifted: &LiftedFactor,
+) -> Result<(FactList, FactList), OutOfMemory>
+    requires { length facts.now.keys ≤ 65535 }
+    ensures { IfOk result (λ goals. goals
+        ≡ (
+          rising (public_numbers places.now (ground_with lifted.now facts.now.keys []).goals),
+          rising (private_numbers places.now (ground_with lifted.now facts.now.keys []).goals),
+        )) }
+{
+    let numbers = goal_numbers(alloc, facts, lifted)?;
+    let mut scratch = Vec::new(alloc);
+    let publics = public_places(alloc, &mut scratch, places, numbers.as_slice())?;
+    let privates = private_places(alloc, &mut scratch, places, numbers.as_slice())?;
+    Ok((publics, privates))
 }
 
 /// The factor of an agent that is grounded to these instances with these facts, by their places.
@@ -84,13 +122,9 @@ pub fn turned(
 {
     let publics = publics_of(alloc, names, facts.as_slice())?;
     let places = &publics.places;
-    let mut scratch = Vec::new(alloc);
-    let at_start = start_numbers(alloc, lifted, facts.as_slice())?;
-    let start = private_places(alloc, &mut scratch, places, at_start.as_slice())?;
-    let goals = goal_numbers(alloc, facts, lifted)?;
-    let goal_pub = public_places(alloc, &mut scratch, places, goals.as_slice())?;
-    let goal_priv = private_places(alloc, &mut scratch, places, goals.as_slice())?;
-    let acts = own_acts(alloc, &mut scratch, places, facts, lifted, &instances)?;
+    let start = start_of(alloc, places, facts, lifted)?;
+    let (goal_pub, goal_priv) = goals_of(alloc, places, facts, lifted)?;
+    let acts = own_acts(alloc, places, facts, lifted, &instances)?;
     Ok(Ground {
         me,
         privates: publics.places.privates,

@@ -1,15 +1,10 @@
 -- The order of facts, and which facts are the same.
-use Rattle.std.proofs.Common.{◌≡◌, Bool, List, refl, ap, ◌∙◌}
-use Rattle.std.specs.Bool.{Decides}
-use Rattle.std.specs.Cmp.{booleans_Decides, unsigned_Decides, Equal-is, IsTotalOrder}
+use Rattle.mp_ground_facts.proofs.Basics.{◌≡◌, Bool, List, refl, ap, ◌∙◌, Decides, IsTotalOrder, IsAntisymmetric, eq_by_cmp, GroundFact, fact_cmp, same_fact}
+use Rattle.std.specs.Cmp.{booleans_Decides, unsigned_Decides, Equal-is}
 use Rattle.std.specs.Cmp.Lexicographic.{pointwise}
-use Rattle.std.specs.FinMap.{IsAntisymmetric}
-use Rattle.std.specs.Ordering.{eq_by_cmp}
 use Rattle.std.proofs.lemmas.Bool.Decides.{Decides-and, Decides-like}
 use Rattle.std.proofs.lemmas.Slice.Eq.{slice_eq-Decides}
 use Rattle.mp_ground_facts.specs.contracts.fact.GroundFactOrd.TheImpl.Laws as ordered
-use Rattle.mp_ground_facts.specs.declared.fact.GroundFact.{GroundFact}
-use Rattle.mp_ground_facts.specs.Facts.{fact_cmp, same_fact}
 
 Decides-list : {A : Type 0} {E : A → A → Bool} → ((a b : A) → Decides (E a b) (a ≡ b)) → (xs ys : List A) → Decides (pointwise E xs ys) (xs ≡ ys)
 Decides-list {A} {E} each xs ys = slice_eq-Decides each xs ys (pointwise E xs ys) refl

@@ -1,19 +1,14 @@
 -- The facts that are counted, in their order.
-use Rattle.std.proofs.Common.{◌≡◌, ℕ, zero, suc, ◌+◌, Bool, true, false, cond, not, ◌||◌, List, [], ◌∷◌, slice_get, Some, Less, refl, sym, ap, subst, ◌∙◌, Contains, arith}
+use Rattle.mp_ground_facts.proofs.Basics.{◌≡◌, ℕ, suc, ◌+◌, Bool, true, false, cond, not, ◌||◌, List, [], ◌∷◌, Some, Less, refl, sym, ap, subst, ◌∙◌, arith, list_any, IsDistinct, AllByRecursion, IsSorted, IsStrictlySortedBy, eq_by_cmp, is_eq}
+use Rattle.mp_ground_facts.proofs.Basics.{false≢true, insert_all, LiftedFactor, GroundFact, fact_cmp, same_fact, number_of}
+use Rattle.std.proofs.Common.{zero, slice_get, Contains}
 use Rattle.std.specs.Prelude.{◌↔◌}
 use Rattle.std.specs.Cmp.{tied_itself}
-use Rattle.std.specs.List.{list_any, position_or_len, IsDistinct, AllByRecursion}
-use Rattle.std.specs.List.Sorted.{IsSorted, IsStrictlySortedBy}
-use Rattle.std.specs.Ordering.{eq_by_cmp, is_eq}
-use Rattle.std.proofs.lemmas.Bool.{false≢true}
+use Rattle.std.specs.List.{position_or_len}
 use Rattle.std.proofs.lemmas.Map.Made.{is_member-Decides}
-use Rattle.indexmap.specs.IndexSet.{insert_all}
-use Rattle.mp_lifted.specs.declared.lifted.LiftedFactor.{LiftedFactor}
 use Rattle.mp_lifted.specs.Binding.{ActionBinding}
-use Rattle.mp_ground_facts.specs.declared.fact.GroundFact.{GroundFact}
-use Rattle.mp_ground_facts.specs.Facts.{fact_cmp, same_fact}
 use Rattle.mp_ground_facts.specs.Touched.{counted}
-use Rattle.mp_ground_facts.specs.Ground.{facts_of, number_of}
+use Rattle.mp_ground_facts.specs.Ground.{facts_of}
 use Rattle.mp_ground_facts.proofs.FactOrder.{Decides-same_fact, fact_antisymmetric, fact_ties, fact_total}
 use Rattle.mp_ground_facts.proofs.Inserted.{any_insert_all}
 use Rattle.mp_ground_facts.proofs.Strict.{has_keys, keys_are, keys_strict, strict}

@@ -1,11 +1,7 @@
 -- The items of a list to which items are added unless they are there.
-use Rattle.std.proofs.Common.{◌≡◌, Bool, true, false, cond, ◌||◌, List, [], ◌∷◌, ◌++◌, refl, sym, ap, ◌∙◌}
-use Rattle.std.specs.Bool.{Decides}
-use Rattle.std.specs.List.{list_any}
-use Rattle.std.proofs.lemmas.Bool.{false≢true}
+use Rattle.mp_ground_facts.proofs.Basics.{◌≡◌, Bool, true, false, cond, ◌||◌, List, [], ◌∷◌, ◌++◌, refl, sym, ap, ◌∙◌, Decides, list_any, false≢true, insert_all}
 use Rattle.std.proofs.lemmas.List.Folds.{list_any-append}
-use Rattle.std.proofs.lemmas.List.Sums.{fold-append}
-use Rattle.indexmap.specs.IndexSet.{insert_key, insert_all}
+use Rattle.indexmap.specs.IndexSet.{insert_key}
 
 or_assoc : (a b c : Bool) → ((a || b) || c) ≡ (a || (b || c))
 or_assoc true b c = refl
@@ -19,11 +15,6 @@ known : (a b : Bool) → (b ≡ true → a ≡ true) → a ≡ (a || b)
 known true b h = refl
 known false true h = absurd (false≢true (h refl))
 known false false h = refl
-
-module _ {X : Type 0} (E : X → X → Bool) where
-  -- one after another
-  pub insert_all-append : (ks xs ys : List X) → insert_all E ks (xs ++ ys) ≡ insert_all E (insert_all E ks xs) ys
-  insert_all-append ks xs ys = fold-append (insert_key E) ks xs ys
 
 module _ {X : Type 0} (E : X → X → Bool) (decides : (a b : X) → Decides (E a b) (a ≡ b)) where
   any_insert_key : (ks : List X) (k q : X) → list_any (E q) (insert_key E ks k) ≡ (list_any (E q) ks || E q k)

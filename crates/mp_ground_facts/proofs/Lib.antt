@@ -1,4 +1,6 @@
 -- lists that rise strictly, and keys of maps
+-- what the proofs cite of other places
+mod Basics
 pub mod Strict
 -- lists to which items are added
 pub mod Inserted
@@ -8,5 +10,5 @@ pub mod FactOrder
 pub mod FactsOf
 -- steps of loops that add facts
 pub mod Steps
--- what is left to add in a loop
-pub mod Left
+-- numbers of facts that are met one after another
+pub mod NumberedAll

@@ -1,13 +1,11 @@
 -- Lists that rise strictly, and the keys of a map that has nothing at each of them.
-use Rattle.std.proofs.Common.{◌≡◌, ℕ, suc, ◌<◌, ◌≤◌, Bool, true, false, ◌&&◌, List, [], ◌∷◌, map, length, get_or, refl, sym, ap, subst, ◌∙◌, arith, Option, None, Some, Ordering, Less, Equal, Greater, is_some}
+use Rattle.mp_ground_facts.proofs.Basics.{◌≡◌, ℕ, suc, ◌<◌, ◌≤◌, Bool, true, false, ◌&&◌, List, [], ◌∷◌, map, length, get_or, refl, sym, ap, subst, ◌∙◌, arith, Some, Less, list_any, IsDistinct, AllByRecursion, IsSorted, IsStrictlySortedBy, eq_by_cmp}
+use Rattle.mp_ground_facts.proofs.Basics.{is_eq, IsTotalOrder, IsAntisymmetric, false≢true}
+use Rattle.std.proofs.Common.{Option, None, Ordering, Equal, Greater, is_some}
 use Rattle.std.specs.Prelude.{T}
-use Rattle.std.specs.List.{list_any, IsDistinct, AllByRecursion}
-use Rattle.std.specs.List.Sorted.{IsSorted, IsStrictlySortedBy}
-use Rattle.std.specs.Ordering.{eq_by_cmp, is_lt, is_eq, ordering_reverse}
-use Rattle.std.specs.Cmp.{IsTotalOrder}
-use Rattle.std.specs.FinMap.{FinMap, IsAntisymmetric, entries, entries_sorted, from_entries, keys, get-entries, get-from_entries, contains_key-keys}
+use Rattle.std.specs.Ordering.{is_lt, ordering_reverse}
+use Rattle.std.specs.FinMap.{FinMap, entries, entries_sorted, from_entries, keys, get-entries, get-from_entries, contains_key-keys}
 use Rattle.std.specs.FinMap.Entries.{below_all, find, is_some-find, is_sorted, same_entries}
-use Rattle.std.proofs.lemmas.Bool.{false≢true}
 use Rattle.std.proofs.lemmas.List.MinMax.{ranks_by}
 use Rattle.std.proofs.lemmas.List.Sorted.{sorted_far}
 

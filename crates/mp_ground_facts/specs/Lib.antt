@@ -3,3 +3,4 @@ pub mod Keys
 pub mod Mixed
 pub mod Touched
 pub mod Ground
+pub mod Numbers

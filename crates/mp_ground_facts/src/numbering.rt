@@ -4,10 +4,12 @@ ghost use Rattle.std.specs.Prelude.{◌≡◌, ◌<◌, ◌≤◌, length, IfOk,
 ghost use Rattle.mp_typing.specs.Places.{numbers_where};
 ghost use Rattle.mp_ground_facts.specs.Facts.{is_initial as is_initial_fact};
 ghost use Rattle.mp_ground_facts.specs.Touched.{goal_facts};
-ghost use Rattle.mp_ground_facts.specs.Ground.{facts_of, numbers_of};
+ghost use Rattle.mp_ground_facts.specs.Ground.{facts_of};
+ghost use Rattle.mp_ground_facts.specs.Numbers.{numbered};
 
 use crate::fact::GroundFact;
-use crate::numbers::add_fact_numbers;
+use crate::handing::hand_goals;
+use crate::numbers::FactNumbers;
 use crate::refusal::FactRefusal;
 use crate::touched::sorted_facts;
 use indexmap::IndexSet;
@@ -19,17 +21,17 @@ use std::alloc::Global;
 const MAX_FACTS: usize = 65_535;
 
 /// The numbers of what the goals ask for.
-pub fn goal_numbers(
+#[tactic(auto, using(crate::proofs::NumberedAll::number_steps))]
+pub fn goal_numbers<'a>(
     alloc: Global,
-    facts: &IndexSet<GroundFact>,
+    facts: &'a IndexSet<GroundFact>,
     factor: &LiftedFactor,
-) -> Result<List<u32>, OutOfMemory>
+) -> Result<FactNumbers<'a>, OutOfMemory>
     requires { length facts.now.keys ≤ 65535 }
-    ensures { IfOk result (λ out. out ≡ numbers_of facts.now.keys (goal_facts factor.now)) }
+    ensures { IfOk result (λ out. out ≡ numbered facts.now.keys (goal_facts factor.now)) }
 {
-    let mut out = List::new(alloc);
-    add_fact_numbers(&mut out, facts, factor, false, factor.goals.as_slice())?;
-    add_fact_numbers(&mut out, facts, factor, true, factor.avoided.as_slice())?;
+    let mut out = FactNumbers::new(alloc, facts);
+    hand_goals(&mut out, factor)?;
     Ok(out)
 }
 

@@ -1,149 +1,71 @@
-//! The numbers of the facts of atoms.
+//! The numbers of facts that are met one after another.
 
-ghost use Rattle.std.specs.Prelude.{◌≡◌, ◌∷◌, ◌++◌, [], ◌≤◌, map, length, OnOk};
-ghost use Rattle.mp_lifted.specs.Atoms.{atom_at, atoms_at};
-ghost use Rattle.mp_ground_facts.specs.Facts.{fact_of, complement};
-ghost use Rattle.mp_ground_facts.specs.Touched.{with_complements};
-ghost use Rattle.mp_ground_facts.specs.Ground.{number_of, numbers_of};
+ghost use Rattle.std.specs.Prelude.{◌≡◌, ◌≤◌, [], length};
+ghost use Rattle.mp_ground_facts.specs.Numbers.{numbered, with_number};
 
-use crate::among::changes_complement;
 use crate::fact::GroundFact;
 use crate::key::FactKey;
+use crate::takes::TakesFacts;
 use indexmap::IndexSet;
-use mp_lifted::{GroundAtom, LiftedAtom, LiftedFactor, add_objects, is_private};
-use mp_list::{List, OutOfMemory};
+use mp_list::OutOfMemory;
+use std::alloc::Global;
+use std::marker::Model;
 
-/// The place of a fact, or of the complement of one.
-#[tactic(auto, using(mp_lifted::proofs::Found::found_at, mp_lifted::proofs::Found::found_nowhere))]
-fn number(
-    facts: &IndexSet<GroundFact>,
-    factor: &LiftedFactor,
-    is_complement: bool,
-    predicate: u32,
-    objects: &[u32],
-) -> u32
-    requires { length facts.now.keys ≤ 65535 }
-    ensures { result ≡ number_of facts.now.keys
-        (fact_of factor.now is_complement (record { symbol = predicate; args = objects.now })) }
-{
-    let is_public = !is_private(factor, predicate, objects);
-    let key = FactKey {
-        is_public,
-        is_complement,
-        predicate,
-        objects,
-    };
-    match facts.get_index_of(key) {
-        Some(number) => number as u32,
-        None => facts.len() as u32,
+/// The numbers of some facts: their places among all of a factor.
+#[derive(Drop)]
+pub struct FactNumbers<'a> {
+    facts: &'a IndexSet<GroundFact>,
+    numbers: Vec<u32>,
+}
+
+impl<'a> Model for FactNumbers<'a> {
+    ghost use Rattle.std.specs.Prelude.{◌≤◌, length};
+    ghost use Rattle.mp_ground_facts.specs.Numbers.{Numbers};
+
+    ghost Value = { Numbers };
+
+    ghost view = { λ n. record { facts = n.facts.now.keys; numbers = n.numbers.items } };
+
+    ghost invariant = { λ n. length n.facts.now.keys ≤ 65535 };
+}
+
+impl<'a> FactNumbers<'a> {
+    /// No numbers, which take no memory yet.
+    pub fn new(alloc: Global, facts: &'a IndexSet<GroundFact>) -> FactNumbers<'a>
+        requires { length facts.now.keys ≤ 65535 }
+        ensures { result ≡ numbered facts.now.keys [] }
+    {
+        FactNumbers {
+            facts,
+            numbers: Vec::new(alloc),
+        }
+    }
+
+    /// The numbers.
+    pub fn as_slice(&self) -> &[u32]
+        ensures { result.now ≡ self.now.numbers }
+    {
+        self.numbers.as_slice()
+    }
+
+    /// Lets the numbers go, and keeps their memory.
+    pub fn clear(&mut self)
+        ensures { self.new ≡ numbered self.old.facts [] }
+    {
+        self.numbers.clear();
     }
 }
 
-/// Adds the number of the fact of an atom, or of its complement, where these objects stand for the
-/// parameters.
-fn add_number(
-    out: &mut Vec<u32>,
-    scratch: &mut Vec<u32>,
-    facts: &IndexSet<GroundFact>,
-    factor: &LiftedFactor,
-    objects: &[u32],
-    is_complement: bool,
-    atom: &LiftedAtom,
-) -> Result<(), OutOfMemory>
-    requires { length facts.now.keys ≤ 65535 }
-    ensures { OnOk result (out.new.items ≡ out.old.items ++ number_of facts.now.keys
-        (fact_of factor.now is_complement (atom_at objects.now atom.now)) ∷ []) }
-{
-    scratch.clear();
-    add_objects(scratch, objects, atom)?;
-    out.push(number(
-        facts,
-        factor,
-        is_complement,
-        atom.symbol,
-        scratch.as_slice(),
-    ))?;
-    Ok(())
-}
+impl<'a> TakesFacts for FactNumbers<'a> {
+    ghost after = { with_number };
 
-/// Adds the numbers of the facts of atoms, or of their complements, where these objects stand for
-/// the parameters.
-pub fn add_numbers(
-    out: &mut Vec<u32>,
-    scratch: &mut Vec<u32>,
-    facts: &IndexSet<GroundFact>,
-    factor: &LiftedFactor,
-    objects: &[u32],
-    is_complement: bool,
-    atoms: &[LiftedAtom],
-) -> Result<(), OutOfMemory>
-    requires { length facts.now.keys ≤ 65535 }
-    ensures { OnOk result (out.new.items ≡ out.old.items ++ numbers_of facts.now.keys
-        (map (fact_of factor.now is_complement) (atoms_at objects.now atoms.now))) }
-{
-    for atom in atoms {
-        add_number(out, scratch, facts, factor, objects, is_complement, atom)?;
+    #[tactic(auto, using(mp_lifted::proofs::Found::found_at, mp_lifted::proofs::Found::found_nowhere))]
+    fn take(&mut self, key: FactKey<'_>) -> Result<(), OutOfMemory> {
+        let number = match self.facts.get_index_of(key) {
+            Some(number) => number as u32,
+            None => self.facts.len() as u32,
+        };
+        self.numbers.push(number)?;
+        Ok(())
     }
-    Ok(())
-}
-
-/// Adds the number of the complement of an atom that has one and is none of others.
-fn add_complement(
-    out: &mut Vec<u32>,
-    scratch: &mut Vec<u32>,
-    facts: &IndexSet<GroundFact>,
-    factor: &LiftedFactor,
-    objects: &[u32],
-    others: &[LiftedAtom],
-    atom: &LiftedAtom,
-) -> Result<(), OutOfMemory>
-    requires { length facts.now.keys ≤ 65535 }
-    ensures { OnOk result (out.new.items ≡ out.old.items ++ numbers_of facts.now.keys
-        (map (complement factor.now) (with_complements factor.now (atoms_at objects.now others.now)
-        (atom_at objects.now atom.now ∷ [])))) }
-{
-    if changes_complement(factor, objects, others, atom) {
-        add_number(out, scratch, facts, factor, objects, true, atom)?;
-    }
-    Ok(())
-}
-
-/// Adds the numbers of the complements of those atoms that have one and are none of others.
-pub fn add_complements(
-    out: &mut Vec<u32>,
-    scratch: &mut Vec<u32>,
-    facts: &IndexSet<GroundFact>,
-    factor: &LiftedFactor,
-    objects: &[u32],
-    others: &[LiftedAtom],
-    atoms: &[LiftedAtom],
-) -> Result<(), OutOfMemory>
-    requires { length facts.now.keys ≤ 65535 }
-    ensures { OnOk result (out.new.items ≡ out.old.items ++ numbers_of facts.now.keys
-        (map (complement factor.now) (with_complements factor.now (atoms_at objects.now others.now)
-        (atoms_at objects.now atoms.now)))) }
-{
-    for atom in atoms {
-        add_complement(out, scratch, facts, factor, objects, others, atom)?;
-    }
-    Ok(())
-}
-
-/// Adds the numbers of facts, or of their complements.
-pub fn add_fact_numbers(
-    out: &mut List<u32>,
-    facts: &IndexSet<GroundFact>,
-    factor: &LiftedFactor,
-    is_complement: bool,
-    atoms: &[GroundAtom],
-) -> Result<(), OutOfMemory>
-    requires { length facts.now.keys ≤ 65535 }
-    ensures { OnOk result (out.new ≡ out.old ++ numbers_of facts.now.keys
-        (map (fact_of factor.now is_complement) atoms.now)) }
-{
-    for atom in atoms {
-        let objects = atom.args.as_slice();
-        out.push(number(facts, factor, is_complement, atom.symbol, objects))?;
-    }
-    Ok(())
 }

@@ -2,152 +2,105 @@
 
 ghost use Rattle.std.specs.Prelude.{◌≡◌, [], IfOk, OnOk};
 ghost use Rattle.std.specs.List.{flat_map};
-ghost use Rattle.indexmap.specs.IndexSet.{insert_all};
+ghost use Rattle.indexmap.specs.IndexSet.{insert_key, insert_all};
 ghost use Rattle.mp_ground_facts.specs.Facts.{same_fact};
-ghost use Rattle.mp_ground_facts.specs.Touched.{needed, added, deleted, touched, of_action, of_place, goal_facts, counted};
+ghost use Rattle.mp_ground_facts.specs.Touched.{touched, of_action, of_place, counted};
 ghost use Rattle.mp_ground_facts.specs.Ground.{facts_of};
 
 use crate::fact::GroundFact;
-use crate::touch::{touch_atoms, touch_complements, touch_facts};
+use crate::handing::{Binding, hand_added, hand_deleted, hand_goals, hand_needed};
+use crate::key::FactKey;
+use crate::takes::TakesFacts;
 use indexmap::IndexSet;
-use mp_lifted::{ActionBindingList, LiftedAction, LiftedFactor};
-use mp_list::OutOfMemory;
+use mp_lifted::{ActionBindingList, LiftedFactor};
+use mp_list::{List, OutOfMemory};
 use std::alloc::Global;
+use std::marker::Model;
 
-/// Adds what an action needs.
-#[tactic(auto, using(crate::proofs::Steps::insert_steps))]
-fn touch_needed(
-    facts: &mut IndexSet<GroundFact>,
-    scratch: &mut Vec<u32>,
-    factor: &LiftedFactor,
-    objects: &[u32],
-    action: &LiftedAction,
-) -> Result<(), OutOfMemory>
-    ensures { OnOk result (facts.new.keys
-        ≡ insert_all same_fact facts.old.keys (needed factor.now action.now objects.now)) }
-{
-    touch_atoms(
-        facts,
-        scratch,
-        factor,
-        objects,
-        false,
-        action.positive.as_slice(),
-    )?;
-    touch_atoms(
-        facts,
-        scratch,
-        factor,
-        objects,
-        true,
-        action.negative.as_slice(),
-    )
+/// Facts, each once, in the order in which they were met. Contracts see them as their list.
+#[derive(Drop)]
+struct Met {
+    facts: IndexSet<GroundFact>,
 }
 
-/// Adds what an action adds.
-#[tactic(auto, using(crate::proofs::Steps::insert_steps))]
-fn touch_added(
-    facts: &mut IndexSet<GroundFact>,
-    scratch: &mut Vec<u32>,
-    factor: &LiftedFactor,
-    objects: &[u32],
-    action: &LiftedAction,
-) -> Result<(), OutOfMemory>
-    ensures { OnOk result (facts.new.keys
-        ≡ insert_all same_fact facts.old.keys (added factor.now action.now objects.now)) }
-{
-    let adds = action.add.as_slice();
-    touch_atoms(facts, scratch, factor, objects, false, adds)?;
-    touch_complements(facts, scratch, factor, objects, adds, action.del.as_slice())
+impl Model for Met {
+    ghost use Rattle.std.specs.Prelude.{List};
+    ghost use Rattle.mp_ground_facts.specs.declared.fact.GroundFact.{GroundFact};
+
+    ghost Value = { List GroundFact };
+
+    ghost view = { λ m. m.facts.keys };
 }
 
-/// Adds what an action deletes.
-#[tactic(auto, using(crate::proofs::Steps::insert_steps))]
-fn touch_deleted(
-    facts: &mut IndexSet<GroundFact>,
-    scratch: &mut Vec<u32>,
-    factor: &LiftedFactor,
-    objects: &[u32],
-    action: &LiftedAction,
-) -> Result<(), OutOfMemory>
-    ensures { OnOk result (facts.new.keys
-        ≡ insert_all same_fact facts.old.keys (deleted factor.now action.now objects.now)) }
+/// These objects as a list.
+fn list_of(alloc: Global, objects: &[u32]) -> Result<List<u32>, OutOfMemory>
+    ensures { IfOk result (λ list. list ≡ objects.now) }
 {
-    touch_atoms(
-        facts,
-        scratch,
-        factor,
-        objects,
-        false,
-        action.del.as_slice(),
-    )?;
-    touch_complements(facts, scratch, factor, objects, &[], action.add.as_slice())
+    let mut list = List::with_capacity(alloc, objects.len())?;
+    for object in objects {
+        list.push(*object)?;
+    }
+    Ok(list)
 }
 
-/// Adds what an action touches.
-#[tactic(auto, using(crate::proofs::Steps::insert_steps))]
-fn touch_action(
-    facts: &mut IndexSet<GroundFact>,
-    scratch: &mut Vec<u32>,
-    factor: &LiftedFactor,
-    objects: &[u32],
-    action: &LiftedAction,
-) -> Result<(), OutOfMemory>
-    ensures { OnOk result (facts.new.keys
-        ≡ insert_all same_fact facts.old.keys (touched factor.now action.now objects.now)) }
-{
-    touch_needed(facts, scratch, factor, objects, action)?;
-    touch_added(facts, scratch, factor, objects, action)?;
-    touch_deleted(facts, scratch, factor, objects, action)
-}
+impl TakesFacts for Met {
+    ghost after = { λ facts fact. insert_key same_fact facts fact };
 
-/// Adds what the action at a place touches with these objects.
-fn touch_place(
-    facts: &mut IndexSet<GroundFact>,
-    scratch: &mut Vec<u32>,
-    factor: &LiftedFactor,
-    action: usize,
-    objects: &[u32],
-) -> Result<(), OutOfMemory>
-    ensures { OnOk result (facts.new.keys
-        ≡ insert_all same_fact facts.old.keys (of_place factor.now touched action objects.now)) }
-{
-    match factor.actions.get(action) {
-        Some(lifted) => touch_action(facts, scratch, factor, objects, lifted),
-        None => Ok(()),
+    fn take(&mut self, key: FactKey<'_>) -> Result<(), OutOfMemory> {
+        if self.facts.contains(key) {
+            return Ok(());
+        }
+        let objects = list_of(*self.facts.allocator(), key.objects)?;
+        self.facts.insert(GroundFact {
+            is_public: key.is_public,
+            is_complement: key.is_complement,
+            predicate: key.predicate,
+            objects,
+        })?;
+        Ok(())
     }
 }
 
+/// Adds what the action at a place touches with these objects.
+#[tactic(auto, using(crate::proofs::Steps::fold_steps))]
+fn touch_place(
+    met: &mut Met,
+    scratch: &mut Vec<u32>,
+    binding: Binding<'_>,
+    action: usize,
+) -> Result<(), OutOfMemory>
+    ensures { OnOk result (met.new ≡ insert_all same_fact met.old
+        (of_place binding.entry.factor.now touched action binding.entry.objects.now)) }
+{
+    let Some(lifted) = binding.factor.actions.get(action) else {
+        return Ok(());
+    };
+    hand_needed(met, scratch, binding, lifted)?;
+    hand_added(met, scratch, binding, lifted)?;
+    hand_deleted(met, scratch, binding, lifted)
+}
+
 /// Adds what instances touch.
-#[tactic(auto, using(crate::proofs::Steps::insert_steps))]
+#[tactic(auto, using(crate::proofs::Steps::fold_steps))]
 fn touch_instances(
-    facts: &mut IndexSet<GroundFact>,
+    met: &mut Met,
     scratch: &mut Vec<u32>,
     factor: &LiftedFactor,
     instances: &ActionBindingList,
 ) -> Result<(), OutOfMemory>
-    ensures { OnOk result (facts.new.keys ≡ insert_all same_fact facts.old.keys
+    ensures { OnOk result (met.new ≡ insert_all same_fact met.old
         (flat_map (of_action factor.now touched) instances.now)) }
 {
     for at in 0..instances.len() {
         let instance = instances.at(at);
-        touch_place(facts, scratch, factor, instance.action, instance.objects)?;
+        let objects = instance.objects;
+        touch_place(met, scratch, Binding { factor, objects }, instance.action)?;
     }
     Ok(())
 }
 
-/// Adds what goals name.
-#[tactic(auto, using(crate::proofs::Steps::insert_steps))]
-fn touch_goals(facts: &mut IndexSet<GroundFact>, factor: &LiftedFactor) -> Result<(), OutOfMemory>
-    ensures { OnOk result (facts.new.keys
-        ≡ insert_all same_fact facts.old.keys (goal_facts factor.now)) }
-{
-    touch_facts(facts, factor, false, factor.goals.as_slice())?;
-    touch_facts(facts, factor, true, factor.avoided.as_slice())
-}
-
 /// What instances touch or goals name, each once, in the order in which it is met.
-#[tactic(auto, using(crate::proofs::Steps::insert_steps))]
+#[tactic(auto, using(crate::proofs::Steps::fold_steps))]
 fn counted_facts(
     alloc: Global,
     factor: &LiftedFactor,
@@ -156,11 +109,13 @@ fn counted_facts(
     ensures { IfOk result (λ facts. facts.keys
         ≡ insert_all same_fact [] (counted factor.now instances.now)) }
 {
-    let mut facts = IndexSet::new(alloc);
+    let mut met = Met {
+        facts: IndexSet::new(alloc),
+    };
     let mut scratch = Vec::new(alloc);
-    touch_instances(&mut facts, &mut scratch, factor, instances)?;
-    touch_goals(&mut facts, factor)?;
-    Ok(facts)
+    touch_instances(&mut met, &mut scratch, factor, instances)?;
+    hand_goals(&mut met, factor)?;
+    Ok(met.facts)
 }
 
 /// What instances touch or goals name, each once, in the order of facts.

@@ -1,32 +1,13 @@
 -- Atoms in numbers stand for the facts by names that the atoms of the files become.
-use Rattle.std.proofs.Common.{arith, ◌≡◌, ℕ, ◌+◌, suc, ◌<◌, Bool, true, false, cond, not, ◌||◌, List, [], ◌∷◌, map, filter, length, get_or, All, if◌then◌else◌, refl, sym, ap, ◌∙◌, subst, inl, inr}
-use Rattle.std.proofs.lemmas.Bool.{or_cases, or_left, or_right}
-use Rattle.std.proofs.lemmas.List.Elements.{All-nil, All-cons, All-head, All-tail}
-use Rattle.std.specs.List.{list_any}
-use Rattle.std.specs.Str.{bytes_eq}
-use Rattle.mp_factor.specs.Limits.{name_of_term}
-use Rattle.mp_factor.specs.declared.typed_values.Typed.{Typed}
-use Rattle.mp_factor.specs.declared.atom_values.Term.{Term}
-use Rattle.mp_factor.specs.declared.atom_values.Term.TheVariants.{Variable, Object}
-use Rattle.mp_factor.specs.declared.atom_values.Atom.{Atom}
-use Rattle.mp_factor.specs.declared.factor.Factor.{Factor}
-use Rattle.mp_sexp.specs.Numbers.{is_named, name_at, number_in}
-use Rattle.mp_sexp.proofs.NamesAt.{name_at_number, number_below}
-use Rattle.mp_sexp.proofs.Places.{swapped}
+use Rattle.mp_grounder.proofs.Basics.{arith, ◌≡◌, ℕ, ◌+◌, suc, ◌<◌, Bool, true, false, cond, not, ◌||◌, List, [], ◌∷◌, map, filter, length, get_or, All, if◌then◌else◌, refl, sym, ap, ◌∙◌, subst, inl, inr, or_left, or_right, All-nil, All-cons}
+use Rattle.mp_grounder.proofs.Basics.{All-head, All-tail, list_any, bytes_eq, name_of_term, Typed, Term, Variable, Object, Atom, Factor, is_named, name_at, number_in, name_at_number, swapped, is_declared, NamedFact, Text, privates_of, facts_of}
+use Rattle.mp_grounder.proofs.Basics.{fact_of, GroundAtom, ground_atom, parameter_in, lifted_term, lifted_atom, lifted_where, vocabulary_of, object_at, atom_at, atoms_at, named_objects, named_fact, IsBinding, IsInRange}
+use Rattle.std.proofs.lemmas.Bool.{or_cases}
+use Rattle.mp_sexp.proofs.NamesAt.{number_below}
 use Rattle.mp_typing.specs.Lookups.{objects_of as declared_objects, is_object}
-use Rattle.mp_typing.specs.Uses.{is_declared}
-use Rattle.mp_joint.specs.declared.fact.NamedFact.{NamedFact}
-use Rattle.mp_joint.specs.Fact.{Text, named}
-use Rattle.mp_joint.specs.FactorContribution.{privates_of, facts_of}
-use Rattle.mp_joint.specs.Grounding.{standing_for, object_of, objects_of, fact_of}
-use Rattle.mp_lifted.specs.declared.lifted.GroundAtom.{GroundAtom}
-use Rattle.mp_lifted.specs.Factors.{ground_atom}
-use Rattle.mp_lifted.specs.Lifting.{parameter_in, lifted_term, lifted_atom, lifted_where}
-use Rattle.mp_lifted.specs.Vocabulary.{vocabulary_of}
+use Rattle.mp_joint.specs.Fact.{named}
+use Rattle.mp_joint.specs.Grounding.{standing_for, object_of, objects_of}
 use Rattle.mp_lifted.proofs.DeclaredNames.{first_named}
-use Rattle.mp_lifted.specs.Atoms.{object_at, atom_at, atoms_at}
-use Rattle.mp_grounder.specs.Named.{named_objects}
-use Rattle.mp_grounder.specs.Numbered.{named_fact, IsBinding, IsInRange}
 use Rattle.mp_grounder.proofs.Distinct.{names_in}
 use Rattle.mp_grounder.proofs.Lists.{filter_of_map, all_some}
 use Rattle.mp_grounder.proofs.Numbered.{IsPlace}

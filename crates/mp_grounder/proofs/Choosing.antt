@@ -1,26 +1,12 @@
 -- The lists of member objects, in numbers and by names.
-use Rattle.std.proofs.Common.{arith, ◌≡◌, ℕ, zero, suc, ◌+◌, ◌<◌, Bool, true, false, List, [], ◌∷◌, ◌++◌, map, filter, length, get_or, All, Some, refl, sym, ap, ◌∙◌, subst, inl, inr}
-use Rattle.std.proofs.lemmas.Bool.{cases_Bool, and_from}
-use Rattle.std.proofs.lemmas.List.{map-append, length-map, get_or-map}
-use Rattle.std.proofs.lemmas.List.Elements.{All-nil, All-cons, All-head, All-tail, All-append}
-use Rattle.std.proofs.lemmas.Slice.Eq.{bytes_eq-Decides}
-use Rattle.std.specs.List.{find, flat_map}
-use Rattle.std.specs.Option.{option_map_or}
-use Rattle.std.specs.Str.{bytes_eq}
-use Rattle.mp_factor.specs.declared.typed_values.Typed.{Typed}
-use Rattle.mp_factor.specs.declared.factor.Factor.{Factor}
-use Rattle.mp_sexp.specs.Numbers.{is_named, name_at}
+use Rattle.mp_grounder.proofs.Basics.{arith, ◌≡◌, ℕ, zero, suc, ◌+◌, ◌<◌, Bool, true, false, List, [], ◌∷◌, ◌++◌, map, filter, length, get_or, All, Some, refl, sym, ap, ◌∙◌, subst, inl, inr, cases_Bool, and_from, map-append, length-map, get_or-map}
+use Rattle.mp_grounder.proofs.Basics.{All-nil, All-cons, All-head, All-tail, All-append, bytes_eq-Decides, find, flat_map, option_map_or, bytes_eq, Typed, Factor, is_named, name_at, members_of, vocabulary_of, product, members_by_name, named_objects}
+use Rattle.mp_grounder.proofs.Basics.{IsObject, IsBinding}
 use Rattle.mp_typing.specs.Names.{names_of}
 use Rattle.mp_typing.specs.ObjectList.{object_list}
 use Rattle.mp_typing.specs.Places.{numbers_where}
 use Rattle.mp_typing.specs.Under.{is_of_type}
 use Rattle.mp_joint.specs.FactorContribution.{may_stand, may_stand_for}
-use Rattle.mp_lifted.specs.Lifting.{members_of}
-use Rattle.mp_lifted.specs.Vocabulary.{vocabulary_of}
-use Rattle.mp_bindings.specs.Bindings.{product}
-use Rattle.mp_grounder.specs.Grounding.{members_by_name}
-use Rattle.mp_grounder.specs.Named.{named_objects}
-use Rattle.mp_grounder.specs.Numbered.{IsObject, IsBinding}
 use Rattle.mp_grounder.proofs.Distinct.{AreDistinct}
 use Rattle.mp_grounder.proofs.Facts.{objects_distinct}
 use Rattle.mp_grounder.proofs.Numbered.{named_at}

@@ -1,32 +1,11 @@
 -- The cost of an action in numbers is that of its instance by names.
-use Rattle.std.proofs.Common.{◌≡◌, ℕ, ◌+◌, nat_eq, Bool, true, false, cond, not, ◌&&◌, List, [], ◌∷◌, map, filter, All, Option, Some, refl, sym, ap, ◌∙◌, subst, inl, inr}
-use Rattle.std.proofs.lemmas.Bool.{cases_Bool, and_left, true≢false}
-use Rattle.std.proofs.lemmas.List.Elements.{All-head, All-tail}
-use Rattle.std.proofs.lemmas.Slice.Eq.{bytes_eq-Decides}
-use Rattle.std.specs.Cmp.Lexicographic.{pointwise}
-use Rattle.std.specs.List.{find}
-use Rattle.std.specs.Option.{option_map}
-use Rattle.std.specs.Prelude.{codes, option_and_then}
-use Rattle.std.specs.Str.{bytes_eq}
-use Rattle.mp_factor.specs.Limits.{name_of_term}
-use Rattle.mp_factor.specs.declared.typed_values.Typed.{Typed}
-use Rattle.mp_factor.specs.declared.effect_values.Increase.{Increase}
-use Rattle.mp_factor.specs.declared.effect_values.Increase.TheVariants.{Number, Function}
-use Rattle.mp_factor.specs.declared.init_values.Value.{Value}
-use Rattle.mp_factor.specs.declared.schema_values.Schema.{Schema}
-use Rattle.mp_factor.specs.declared.factor.Factor.{Factor}
-use Rattle.mp_sexp.specs.Numbers.{is_named, number_in}
-use Rattle.mp_joint.specs.Fact.{Text}
-use Rattle.mp_joint.specs.Grounding.{objects_of, gives, amount_of, total_of, cost_of}
-use Rattle.mp_lifted.specs.declared.lifted.GroundAtom.{GroundAtom}
-use Rattle.mp_lifted.specs.declared.lifted.GroundValue.{GroundValue}
-use Rattle.mp_lifted.specs.Factors.{ground_value}
-use Rattle.mp_lifted.specs.Lifting.{is_total_cost, lifted_term, lifted_amount, amounts_of}
-use Rattle.mp_lifted.specs.Vocabulary.{vocabulary_of}
-use Rattle.mp_lifted.specs.Atoms.{object_at, same_atom}
-use Rattle.mp_instances.specs.Costs.{amount_at, cost_at}
-use Rattle.mp_grounder.specs.Named.{named_objects}
-use Rattle.mp_grounder.specs.Numbered.{IsBinding}
+use Rattle.mp_grounder.proofs.Basics.{◌≡◌, ℕ, ◌+◌, nat_eq, Bool, true, false, cond, not, ◌&&◌, List, [], ◌∷◌, map, filter, All, Option, Some, refl, sym, ap, ◌∙◌, subst, inl, inr, cases_Bool, true≢false, All-head, All-tail, bytes_eq-Decides}
+use Rattle.mp_grounder.proofs.Basics.{pointwise, find, option_map, option_and_then, bytes_eq, name_of_term, Typed, Increase, Number, Function, Value, Schema, Factor, is_named, number_in, Text, cost_of, GroundAtom, GroundValue, ground_value}
+use Rattle.mp_grounder.proofs.Basics.{is_total_cost, lifted_term, lifted_amount, amounts_of, vocabulary_of, object_at, same_atom, cost_at, named_objects, IsBinding}
+use Rattle.std.proofs.lemmas.Bool.{and_left}
+use Rattle.std.specs.Prelude.{codes}
+use Rattle.mp_joint.specs.Grounding.{objects_of, gives, amount_of, total_of}
+use Rattle.mp_instances.specs.Costs.{amount_at}
 use Rattle.mp_grounder.proofs.Atoms.{AreNumbers, terms_stand, ground_terms_stand}
 use Rattle.mp_grounder.proofs.Facts.{objects_distinct}
 use Rattle.mp_grounder.proofs.Numbered.{same_lists, same_numbers}

@@ -1,28 +1,10 @@
 -- The instances in numbers are actions at objects, and the facts that they touch and goals name are in range.
-use Rattle.std.proofs.Common.{arith, ◌≡◌, ℕ, suc, ◌+◌, not, ◌&&◌, List, [], ◌∷◌, ◌++◌, map, filter, All, Option, Some, None, slice_get, refl, sym, ap, ◌∙◌, subst}
-use Rattle.std.proofs.lemmas.List.Elements.{All-nil, All-cons, All-head, All-tail, All-append}
-use Rattle.std.proofs.lemmas.Option.{slice_get-map, same_Some, none-some, get_or_from_slice_get, slice_get_within}
-use Rattle.std.specs.List.{enumerate_from, filter_map, flat_map, cons_option}
-use Rattle.std.specs.Option.{option_map, option_map_or}
-use Rattle.mp_factor.specs.declared.schema_values.Schema.{Schema}
-use Rattle.mp_factor.specs.declared.factor.Factor.{Factor}
-use Rattle.mp_joint.specs.Grounding.{asked_atoms, negated_atoms}
-use Rattle.mp_lifted.specs.declared.lifted.GroundAtom.{GroundAtom}
-use Rattle.mp_lifted.specs.declared.lifted.LiftedAction.{LiftedAction}
-use Rattle.mp_lifted.specs.declared.view.OpenView.{OpenView}
-use Rattle.mp_lifted.specs.Factors.{lifted_factor}
-use Rattle.mp_lifted.specs.Lifting.{members_of, lifted_atom, lifted_where}
-use Rattle.mp_lifted.specs.Views.{is_changed}
-use Rattle.mp_lifted.specs.Vocabulary.{vocabulary_of}
-use Rattle.mp_bindings.specs.Bindings.{product}
-use Rattle.mp_lifted.specs.Binding.{ActionBinding}
-use Rattle.mp_lifted.specs.Atoms.{atoms_at, is_among}
-use Rattle.mp_instances.specs.Costs.{cost_at}
-use Rattle.mp_instances.specs.Instances.{suits, binding_of, instances_of, instances}
-use Rattle.mp_ground_facts.specs.Facts.{plain, complement, has_complement}
-use Rattle.mp_ground_facts.specs.Touched.{needed, added, deleted, touched, of_action, goal_facts, counted}
-use Rattle.mp_grounder.specs.Checked.{IsChecked}
-use Rattle.mp_grounder.specs.Numbered.{numbered_action, IsBinding, IsInRange, IsInstance, IsOfFactor}
+use Rattle.mp_grounder.proofs.Basics.{arith, ◌≡◌, ℕ, suc, ◌+◌, not, ◌&&◌, List, [], ◌∷◌, ◌++◌, map, filter, All, Option, Some, None, slice_get, refl, sym, ap, ◌∙◌, subst, All-nil, All-cons, All-head, All-tail, All-append, slice_get-map}
+use Rattle.mp_grounder.proofs.Basics.{get_or_from_slice_get, enumerate_from, filter_map, flat_map, cons_option, option_map, option_map_or, Schema, Factor, asked_atoms, negated_atoms, GroundAtom, LiftedAction, OpenView, lifted_factor, members_of}
+use Rattle.mp_grounder.proofs.Basics.{lifted_atom, lifted_where, is_changed, vocabulary_of, product, ActionBinding, atoms_at, is_among, cost_at, suits, binding_of, instances_of, instances, plain, complement, has_complement, needed, added, deleted}
+use Rattle.mp_grounder.proofs.Basics.{touched, of_action, goal_facts, counted, IsChecked, numbered_action, IsBinding, IsInRange, IsOfFactor}
+use Rattle.std.proofs.lemmas.Option.{same_Some, none-some, slice_get_within}
+use Rattle.mp_grounder.specs.Numbered.{IsInstance}
 use Rattle.mp_grounder.proofs.Atoms.{atoms_stand, ground_atoms_stand, some_stand}
 use Rattle.mp_grounder.proofs.Choosing.{IsChoice, products_are_choices}
 use Rattle.mp_grounder.proofs.Lists.{all_some}

@@ -1,20 +1,12 @@
 -- Lists of names of which none comes twice, and that declared predicates and objects are such lists.
-use Rattle.std.proofs.Common.{◌≡◌, Bool, true, false, not, List, [], ◌∷◌, ◌++◌, map, filter, refl, sym, ◌∙◌, subst, inl, inr}
-use Rattle.std.proofs.lemmas.Bool.{cases_Bool, or_from, or_left, or_right, or_parts}
+use Rattle.mp_grounder.proofs.Basics.{◌≡◌, Bool, true, false, not, List, [], ◌∷◌, ◌++◌, map, filter, refl, sym, ◌∙◌, subst, inl, inr, cases_Bool, or_left, or_right, bytes_eq-Decides, bytes_eq, File, Word, Typed, is_named, fault_at, first_declared}
+use Rattle.mp_grounder.proofs.Basics.{repeated_faults, Text}
+use Rattle.std.proofs.lemmas.Bool.{or_from, or_parts}
 use Rattle.std.proofs.lemmas.List.Folds.{list_any-append}
-use Rattle.std.proofs.lemmas.Slice.Eq.{bytes_eq-Decides}
-use Rattle.std.specs.Str.{bytes_eq}
 use Rattle.mp_list.specs.Repeats.{repeats_behind, if_repeated, is_among_keys}
 use Rattle.mp_grounder.proofs.NoFaults.{not_empty}
-use Rattle.mp_factor.specs.declared.files.File.{File}
-use Rattle.mp_factor.specs.declared.word.Word.{Word}
-use Rattle.mp_factor.specs.declared.typed_values.Typed.{Typed}
-use Rattle.mp_sexp.specs.Numbers.{is_named}
 use Rattle.mp_typing.specs.declared.fault.FaultKind.TheVariants.{Twice}
-use Rattle.mp_typing.specs.Faults.{fault_at}
-use Rattle.mp_typing.specs.ObjectList.{others, first_declared}
-use Rattle.mp_typing.specs.Repeats.{repeated_faults}
-use Rattle.mp_joint.specs.Fact.{Text}
+use Rattle.mp_typing.specs.ObjectList.{others}
 
 abbrev pub AreDistinct : List Text → Type 0
 AreDistinct [] = Unit {0}

@@ -1,30 +1,16 @@
 -- Atoms in range, and the facts that they stand for.
-use Rattle.std.proofs.Common.{◌≡◌, ℕ, true, ◌&&◌, ◌||◌, ◌==◌, nat_eq, List, [], ◌∷◌, map, All, Option, Some, None, refl, sym, ap, ◌∙◌, subst, inl, inr}
-use Rattle.std.proofs.lemmas.Bool.{cases_Bool, and_right, and_parts, eqb-true, eq-eqb}
-use Rattle.std.proofs.lemmas.List.Elements.{All-head, All-tail}
-use Rattle.std.proofs.lemmas.Slice.Eq.{bytes_eq-Decides, slice_eq-Decides}
-use Rattle.std.specs.Cmp.Lexicographic.{pointwise}
-use Rattle.std.specs.Str.{bytes_eq}
-use Rattle.mp_factor.specs.declared.factor.Factor.{Factor}
-use Rattle.mp_sexp.specs.Numbers.{name_at}
-use Rattle.mp_typing.specs.Lookups.{objects_of}
+use Rattle.mp_grounder.proofs.Basics.{◌≡◌, ℕ, true, ◌&&◌, ◌||◌, ◌==◌, nat_eq, List, [], ◌∷◌, map, All, refl, sym, ap, ◌∙◌, subst, inl, inr, cases_Bool, and_parts, eqb-true, All-head, All-tail, bytes_eq-Decides, pointwise}
+use Rattle.mp_grounder.proofs.Basics.{bytes_eq, Factor, name_at, objects_of, privates_of, GroundAtom, vocabulary_of, same_atom, is_among, named_objects, named_fact, IsInRange}
+use Rattle.std.proofs.lemmas.Bool.{and_right}
+use Rattle.std.proofs.lemmas.Slice.Eq.{slice_eq-Decides}
 use Rattle.mp_joint.specs.Fact as joint
-use Rattle.mp_joint.specs.FactorContribution.{privates_of}
-use Rattle.mp_lifted.specs.declared.lifted.GroundAtom.{GroundAtom}
-use Rattle.mp_lifted.specs.Vocabulary.{vocabulary_of}
-use Rattle.mp_lifted.specs.Atoms.{same_atom, is_among}
-use Rattle.mp_grounder.specs.Named.{named_objects}
-use Rattle.mp_grounder.specs.Numbered.{named_fact, IsInRange}
+use Rattle.mp_joint.proofs.SameFacts.{owner_itself, fact_itself}
 use Rattle.mp_grounder.proofs.Distinct.{AreDistinct, first_distinct}
 use Rattle.mp_grounder.proofs.Numbered.{same_places, same_lists}
 use Rattle.mp_grounder.proofs.Parts.{HasParts}
 
 pub objects_distinct : (factor : Factor) → AreDistinct (vocabulary_of factor).objects
 objects_distinct factor = first_distinct (objects_of factor)
-
-owner_itself : (o : Option ℕ) → joint.same_owner o o ≡ true
-owner_itself None = refl
-owner_itself (Some n) = eq-eqb n n refl
 
 -- where the names are the same, so is the owner
 same_names_owner : (agent : ℕ) (privates : joint.Privates) (p q : joint.Text) (xs ys : List joint.Text)
@@ -59,20 +45,13 @@ same_atom_is a b h =
     let args : a.args ≡ b.args = (bytes_eq-Decides a.args b.args).0 parts.1 in
     λ i. record { symbol = symbols i; args = args i }
 
-fact_itself : (agent : ℕ) (privates : joint.Privates) (p : joint.Text) (xs : List joint.Text)
-    → joint.same_fact (joint.named agent privates p xs) (joint.named agent privates p xs) ≡ true
-fact_itself agent privates p xs =
-    same_names_owner agent privates p p xs xs
-    ∙ ap (λ b. b && pointwise bytes_eq xs xs) ((bytes_eq-Decides p p).1 refl)
-    ∙ (slice_eq-Decides bytes_eq-Decides xs xs (pointwise bytes_eq xs xs) refl).1 refl
-
 pub different_facts : (agent : ℕ) (factor : Factor) (a b : GroundAtom) → HasParts factor → IsInRange factor a → IsInRange factor b
     → named_fact agent factor a ≡ named_fact agent factor b → a ≡ b
 different_facts agent factor a b parts first second h =
     same_atom_is a b
     (sym (same_facts agent factor a b parts first second)
     ∙ subst (λ f. joint.same_fact (named_fact agent factor a) f ≡ true) h
-    (fact_itself agent (privates_of factor) (name_at (vocabulary_of factor).predicates a.symbol) (named_objects factor a.args)))
+    (fact_itself (named_fact agent factor a)))
 
 -- an atom is among others where its fact is among theirs
 pub same_among : (agent : ℕ) (factor : Factor) (a : GroundAtom) (bs : List GroundAtom) → HasParts factor → IsInRange factor a → All (IsInRange factor) bs

@@ -1,29 +1,11 @@
 -- The instances of a factor in numbers stand for its grounded actions by names.
-use Rattle.std.proofs.Common.{arith, ◌≡◌, ℕ, suc, ◌+◌, Bool, true, false, List, [], ◌∷◌, ◌++◌, map, All, Option, Some, None, slice_get, if◌then◌else◌, refl, sym, ap, ◌∙◌}
-use Rattle.std.proofs.lemmas.List.{map-append}
-use Rattle.std.proofs.lemmas.List.Elements.{All-head, All-tail}
-use Rattle.std.proofs.lemmas.Option.{slice_get-map, get_or_from_slice_get}
-use Rattle.std.specs.List.{enumerate_from, filter_map, flat_map}
-use Rattle.std.specs.Option.{option_map, option_map_or}
-use Rattle.std.specs.Prelude.{option_and_then}
-use Rattle.mp_factor.specs.declared.schema_values.Schema.{Schema}
-use Rattle.mp_factor.specs.declared.factor.Factor.{Factor}
-use Rattle.mp_sexp.specs.Numbers.{name_at}
-use Rattle.mp_joint.specs.FactorContribution.{instance_with}
+use Rattle.mp_grounder.proofs.Basics.{arith, ◌≡◌, ℕ, suc, ◌+◌, Bool, true, false, List, [], ◌∷◌, ◌++◌, map, All, Option, Some, None, slice_get, if◌then◌else◌, refl, sym, ap, ◌∙◌, map-append, All-head, All-tail, slice_get-map, get_or_from_slice_get}
+use Rattle.mp_grounder.proofs.Basics.{enumerate_from, filter_map, flat_map, option_map, option_map_or, option_and_then, Schema, Factor, name_at, instance_with, cost_of, LiftedAction, OpenView, lifted_factor, members_of, setting_of, product, suits}
+use Rattle.mp_grounder.proofs.Basics.{binding_of, instances_of, instances, IsChecked, members_by_name, named_objects, named_instance, signed_fact, numbered_action, IsBinding}
 use Rattle.mp_joint.specs.Grounded as named
-use Rattle.mp_joint.specs.Grounding.{cost_of}
-use Rattle.mp_lifted.specs.declared.lifted.LiftedAction.{LiftedAction}
-use Rattle.mp_lifted.specs.declared.view.OpenView.{OpenView}
-use Rattle.mp_lifted.specs.Factors.{lifted_factor}
-use Rattle.mp_lifted.specs.Lifting.{members_of}
-use Rattle.mp_lifted.specs.Views.{setting_of}
-use Rattle.mp_bindings.specs.Bindings.{product}
-use Rattle.mp_instances.specs.Instances.{suits, binding_of, instances_of, instances}
 use Rattle.mp_ground_facts.specs.Touched as touched
-use Rattle.mp_grounder.specs.Checked.{IsChecked}
-use Rattle.mp_grounder.specs.Grounding.{members_by_name, step_with, grounded_at, grounded_of, grounded, grounded_instance}
-use Rattle.mp_grounder.specs.Named.{action_names, named_objects}
-use Rattle.mp_grounder.specs.Numbered.{named_instance, signed_fact, numbered_action, IsBinding}
+use Rattle.mp_grounder.specs.Grounding.{step_with, grounded_at, grounded_of, grounded, grounded_instance}
+use Rattle.mp_grounder.specs.Named.{action_names}
 use Rattle.mp_grounder.proofs.Choosing.{IsChoice, products_are_choices, products_named}
 use Rattle.mp_grounder.proofs.Costs.{same_cost}
 use Rattle.mp_grounder.proofs.Lists.{map_of_some, map_of_given, given_same, given_of_map}

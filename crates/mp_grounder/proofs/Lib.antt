@@ -2,6 +2,8 @@
 -- checked factor is known for; facts and their atoms; small costs; lists that are mapped and filtered; atoms in numbers and
 -- facts by names; what instances need, add and delete; the texts of facts; the start; costs; static preconditions; lists of
 -- member objects; all instances; what is in range; the counted facts; their listing by names; what is tried
+-- what the proofs cite of other places
+mod Basics
 pub mod NoFaults
 pub mod Distinct
 pub mod Numbered

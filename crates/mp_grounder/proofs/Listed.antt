@@ -1,25 +1,15 @@
 -- The numbered facts, by their names, are a listing of the counted ones.
-use Rattle.std.proofs.Common.{◌≡◌, ℕ, Bool, true, false, cond, List, [], ◌∷◌, map, filter, get_or, All, Less, refl, sym, ap, ◌∙◌, subst, inl, inr}
-use Rattle.std.proofs.lemmas.Bool.{cases_Bool}
-use Rattle.std.proofs.lemmas.List.Elements.{All-head, All-tail, Contains-get_or}
+use Rattle.mp_grounder.proofs.Basics.{◌≡◌, ℕ, Bool, true, false, cond, List, [], ◌∷◌, map, filter, get_or, All, refl, sym, ap, ◌∙◌, subst, inl, inr, cases_Bool, All-head, All-tail, Factor, SignedFact, OpenView, lifted_factor, setting_of, instances}
+use Rattle.mp_grounder.proofs.Basics.{GroundFact, fact_cmp, counted, IsChecked, counted_facts, signed_cmp, signed_fact, IsOfFactor}
+use Rattle.std.proofs.Common.{Less}
+use Rattle.std.proofs.lemmas.List.Elements.{Contains-get_or}
 use Rattle.std.proofs.lemmas.List.Kept.{IsStrictlySortedBy-filter}
 use Rattle.std.specs.List.{AllByRecursion}
 use Rattle.std.specs.List.Sorted.{IsStrictlySortedBy}
 use Rattle.std.specs.Prelude.{Contains}
 use Rattle.mp_list.proofs.Members.{contains_head, contains_tail, contains_cases, no_member}
-use Rattle.mp_factor.specs.declared.factor.Factor.{Factor}
-use Rattle.mp_joint.specs.declared.fact.SignedFact.{SignedFact}
-use Rattle.mp_lifted.specs.declared.view.OpenView.{OpenView}
-use Rattle.mp_lifted.specs.Factors.{lifted_factor}
-use Rattle.mp_lifted.specs.Views.{setting_of}
-use Rattle.mp_instances.specs.Instances.{instances}
-use Rattle.mp_ground_facts.specs.declared.fact.GroundFact.{GroundFact}
-use Rattle.mp_ground_facts.specs.Facts.{fact_cmp}
-use Rattle.mp_ground_facts.specs.Touched.{counted}
-use Rattle.mp_grounder.specs.Checked.{IsChecked}
-use Rattle.mp_grounder.specs.Counted.{counted_facts, signed_cmp}
 use Rattle.mp_grounder.specs.Listing.{IsListing}
-use Rattle.mp_grounder.specs.Numbered.{AreNumbered, signed_fact, IsOfFactor}
+use Rattle.mp_grounder.specs.Numbered.{AreNumbered}
 use Rattle.mp_grounder.proofs.Counted.{all_counted}
 use Rattle.mp_grounder.proofs.Ordered.{counted_stand, same_order}
 use Rattle.mp_grounder.proofs.Parts.{HasParts, parts_of}

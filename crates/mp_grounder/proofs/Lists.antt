@@ -1,9 +1,5 @@
 -- Lists that are mapped and filtered.
-use Rattle.std.proofs.Common.{◌≡◌, Bool, cond, List, [], ◌∷◌, map, filter, All, Option, Some, None, if◌then◌else◌, refl, ap, ◌∙◌, inl, inr}
-use Rattle.std.proofs.lemmas.Bool.{cases_Bool}
-use Rattle.std.proofs.lemmas.List.Elements.{All-nil, All-cons, All-head, All-tail}
-use Rattle.std.specs.List.{filter_map, cons_option}
-use Rattle.std.specs.Option.{option_map}
+use Rattle.mp_grounder.proofs.Basics.{◌≡◌, Bool, cond, List, [], ◌∷◌, map, filter, All, Option, Some, None, if◌then◌else◌, refl, ap, ◌∙◌, inl, inr, cases_Bool, All-nil, All-cons, All-head, All-tail, filter_map, cons_option, option_map}
 
 pub filter_of_map : {X Y : Type 0} (f : X → Y) (test : Y → Bool) (xs : List X) → filter test (map f xs) ≡ map f (filter (λ x. test (f x)) xs)
 filter_of_map f test [] = refl

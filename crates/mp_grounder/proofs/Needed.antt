@@ -1,31 +1,10 @@
 -- What an action in numbers needs, adds and deletes stands for what its instance by names does.
-use Rattle.std.proofs.Common.{◌≡◌, ℕ, ◌<◌, Bool, true, false, not, ◌&&◌, List, [], ◌∷◌, ◌++◌, map, filter, length, All, refl, sym, ap, ◌∙◌, inl, inr}
-use Rattle.std.proofs.lemmas.Bool.{cases_Bool}
-use Rattle.std.proofs.lemmas.List.{map-append, get_or-map}
-use Rattle.std.proofs.lemmas.List.Elements.{All-head, All-tail}
-use Rattle.mp_factor.specs.declared.typed_values.Typed.{Typed}
-use Rattle.mp_factor.specs.declared.atom_values.Atom.{Atom}
-use Rattle.mp_factor.specs.declared.schema_values.Schema.{Schema}
-use Rattle.mp_factor.specs.declared.factor.Factor.{Factor}
-use Rattle.mp_sexp.specs.Numbers.{name_at}
-use Rattle.mp_joint.specs.declared.fact.NamedFact.{NamedFact}
+use Rattle.mp_grounder.proofs.Basics.{◌≡◌, ℕ, ◌<◌, Bool, true, false, not, ◌&&◌, List, [], ◌∷◌, ◌++◌, map, filter, length, All, refl, sym, ap, ◌∙◌, inl, inr, cases_Bool, map-append, get_or-map, All-head, All-tail, Typed, Atom, Schema, Factor}
+use Rattle.mp_grounder.proofs.Basics.{name_at, NamedFact, instance_with, facts_of, asked_atoms, negated_atoms, GroundAtom, LiftedFactor, OpenView, lifted_factor, lifted_atom, lifted_where, is_changed, setting_of, vocabulary_of, atoms_at, is_among}
+use Rattle.mp_grounder.proofs.Basics.{is_so, plain, complement, has_complement, needed, added, deleted, goal_facts, named_objects, named_fact, signed_fact, numbered_action, IsBinding, IsInRange}
 use Rattle.mp_joint.specs.Fact as joint
-use Rattle.mp_joint.specs.FactorContribution.{instance_with, facts_of}
 use Rattle.mp_joint.specs.Grounded as named
-use Rattle.mp_joint.specs.Grounding.{asked_atoms, negated_atoms}
-use Rattle.mp_lifted.specs.declared.lifted.GroundAtom.{GroundAtom}
-use Rattle.mp_lifted.specs.declared.lifted.LiftedFactor.{LiftedFactor}
-use Rattle.mp_lifted.specs.declared.view.OpenView.{OpenView}
-use Rattle.mp_lifted.specs.Factors.{lifted_factor}
-use Rattle.mp_lifted.specs.Lifting.{lifted_atom, lifted_where}
-use Rattle.mp_lifted.specs.Views.{is_changed, has_complements, setting_of}
-use Rattle.mp_lifted.specs.Vocabulary.{vocabulary_of}
-use Rattle.mp_lifted.specs.Atoms.{atoms_at, is_among}
-use Rattle.mp_lifted.specs.Start.{is_so}
-use Rattle.mp_ground_facts.specs.Facts.{plain, complement, has_complement}
-use Rattle.mp_ground_facts.specs.Touched.{needed, added, deleted, goal_facts}
-use Rattle.mp_grounder.specs.Named.{named_objects}
-use Rattle.mp_grounder.specs.Numbered.{named_fact, signed_fact, numbered_action, IsBinding, IsInRange}
+use Rattle.mp_lifted.specs.Views.{has_complements}
 use Rattle.mp_grounder.proofs.Atoms.{AreFacts, atoms_stand, ground_atoms_stand, some_stand}
 use Rattle.mp_grounder.proofs.Facts.{same_among}
 use Rattle.mp_grounder.proofs.Lists.{filter_same}

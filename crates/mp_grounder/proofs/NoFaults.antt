@@ -1,5 +1,5 @@
 -- Lists of faults that are empty, and what the tests that make them say then.
-use Rattle.std.proofs.Common.{◌≡◌, Bool, true, false, List, [], ◌∷◌, ◌++◌, refl}
+use Rattle.mp_grounder.proofs.Basics.{◌≡◌, Bool, true, false, List, [], ◌∷◌, ◌++◌, refl}
 use Rattle.std.specs.Prelude.{if◌then◌else◌}
 
 -- a list with a first member is not empty

@@ -1,17 +1,8 @@
 -- Names by their numbers, in lists of names of which none comes twice.
-use Rattle.std.proofs.Common.{arith, ◌≡◌, ℕ, zero, suc, ◌+◌, ◌<◌, true, false, ◌&&◌, ◌==◌, nat_eq, List, [], ◌∷◌, map, length, All, Some, refl, sym, ap, ◌∙◌, subst, inl, inr}
-use Rattle.std.proofs.lemmas.Bool.{cases_Bool, eqb-true, eq-eqb}
-use Rattle.std.proofs.lemmas.List.Elements.{All-head, All-tail}
-use Rattle.std.proofs.lemmas.Slice.Eq.{bytes_eq-Decides}
-use Rattle.std.specs.Cmp.Lexicographic.{pointwise}
+use Rattle.mp_grounder.proofs.Basics.{arith, ◌≡◌, ℕ, zero, suc, ◌+◌, ◌<◌, true, false, ◌&&◌, ◌==◌, nat_eq, List, [], ◌∷◌, map, length, All, Some, refl, sym, ap, ◌∙◌, subst, inl, inr, cases_Bool, eqb-true, eq-eqb, All-head, All-tail, bytes_eq-Decides}
+use Rattle.mp_grounder.proofs.Basics.{pointwise, option_map_or, bytes_eq, same_tests, is_named, name_at, number_in, name_at_number, Text}
 use Rattle.std.specs.List.{position_from}
-use Rattle.std.specs.Option.{option_map_or}
-use Rattle.std.specs.Str.{bytes_eq}
-use Rattle.mp_list.proofs.Bools.{same_tests}
-use Rattle.mp_sexp.specs.Numbers.{is_named, name_at, number_in}
-use Rattle.mp_sexp.proofs.NamesAt.{name_at_number}
 use Rattle.mp_sexp.proofs.Places.{is_name}
-use Rattle.mp_joint.specs.Fact.{Text}
 use Rattle.mp_grounder.proofs.Distinct.{AreDistinct}
 
 -- a number of a name in a list

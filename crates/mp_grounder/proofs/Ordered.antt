@@ -1,29 +1,11 @@
 -- The counted facts in numbers stand for those by names, different ones for different ones and in the same order.
-use Rattle.std.proofs.Common.{◌≡◌, ℕ, Bool, true, false, not, List, [], ◌∷◌, ◌++◌, map, Option, Some, None, slice_get, is_none, refl, sym, ap, ◌∙◌}
-use Rattle.std.proofs.lemmas.List.{map-append}
-use Rattle.std.specs.List.{flat_map}
-use Rattle.std.specs.Option.{option_map_or}
+use Rattle.mp_grounder.proofs.Basics.{◌≡◌, ℕ, Bool, true, false, not, List, [], ◌∷◌, ◌++◌, map, Option, Some, None, slice_get, is_none, refl, sym, ap, ◌∙◌, map-append, flat_map, option_map_or, Factor, number_in, SignedFact, GroundAtom, LiftedAction}
+use Rattle.mp_grounder.proofs.Basics.{LiftedFactor, OpenView, lifted_factor, setting_of, vocabulary_of, ActionBinding, is_private, instances, GroundFact, fact_cmp, needed, added, deleted, touched, of_action, goal_facts, counted, IsChecked}
+use Rattle.mp_grounder.proofs.Basics.{counted_facts, signed_cmp, named_instance, signed_fact, IsOfFactor}
 use Rattle.std.specs.Ordering.{ordering_then, bool_cmp, nat_cmp}
 use Rattle.std.specs.Cmp.Lexicographic.{slice_cmp}
-use Rattle.mp_factor.specs.declared.factor.Factor.{Factor}
-use Rattle.mp_sexp.specs.Numbers.{number_in}
-use Rattle.mp_joint.specs.declared.fact.SignedFact.{SignedFact}
-use Rattle.mp_lifted.specs.declared.lifted.GroundAtom.{GroundAtom}
-use Rattle.mp_lifted.specs.declared.lifted.LiftedAction.{LiftedAction}
-use Rattle.mp_lifted.specs.declared.lifted.LiftedFactor.{LiftedFactor}
-use Rattle.mp_lifted.specs.declared.view.OpenView.{OpenView}
-use Rattle.mp_lifted.specs.Factors.{lifted_factor}
-use Rattle.mp_lifted.specs.Views.{setting_of}
-use Rattle.mp_lifted.specs.Vocabulary.{vocabulary_of}
-use Rattle.mp_lifted.specs.Binding.{ActionBinding}
-use Rattle.mp_lifted.specs.Start.{is_private}
-use Rattle.mp_instances.specs.Instances.{instances}
-use Rattle.mp_ground_facts.specs.declared.fact.GroundFact.{GroundFact}
-use Rattle.mp_ground_facts.specs.Facts.{fact_cmp, atom_of}
-use Rattle.mp_ground_facts.specs.Touched.{needed, added, deleted, touched, of_action, goal_facts, counted}
-use Rattle.mp_grounder.specs.Checked.{IsChecked}
-use Rattle.mp_grounder.specs.Counted.{touched_by, counted_facts, signed_cmp}
-use Rattle.mp_grounder.specs.Numbered.{named_instance, signed_fact, IsOfFactor}
+use Rattle.mp_ground_facts.specs.Facts.{atom_of}
+use Rattle.mp_grounder.specs.Counted.{touched_by}
 use Rattle.mp_grounder.proofs.Facts.{different_facts, objects_distinct}
 use Rattle.mp_grounder.proofs.Grounding.{instances_stand}
 use Rattle.mp_grounder.proofs.Needed.{goals_stand}

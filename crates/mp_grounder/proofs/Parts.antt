@@ -1,35 +1,15 @@
 -- What the checks say of the names in a factor: which are declared.
-use Rattle.std.proofs.Common.{◌≡◌, ℕ, ◌==◌, Bool, true, false, ◌||◌, ◌&&◌, not, List, [], ◌∷◌, ◌++◌, map, filter, length, All, Option, Some, None, if◌then◌else◌, refl, sym, ap, subst, inl, inr}
-use Rattle.std.proofs.lemmas.Bool.{cases_Bool, eqb-true}
-use Rattle.std.proofs.lemmas.List.Elements.{All-nil, All-cons, All-head, All-tail}
-use Rattle.std.specs.List.{find, flat_map}
-use Rattle.std.specs.Option.{option_map, is_none}
-use Rattle.std.specs.Str.{bytes_eq}
+use Rattle.mp_grounder.proofs.Basics.{◌≡◌, ℕ, ◌==◌, Bool, true, false, ◌||◌, ◌&&◌, not, List, [], ◌∷◌, ◌++◌, map, filter, length, All, Option, Some, None, if◌then◌else◌, refl, sym, ap, subst, inl, inr, cases_Bool, eqb-true, All-nil, All-cons}
+use Rattle.mp_grounder.proofs.Basics.{All-head, All-tail, find, flat_map, option_map, bytes_eq, File, Word, Typed, Signature, Term, Atom, Literal, Increase, Number, Function, Value, Schema, Factor, is_named, swapped, fault_at, objects_of}
+use Rattle.mp_grounder.proofs.Basics.{repeated_faults, is_declared, Text, asked_atoms, negated_atoms, is_total_cost}
+use Rattle.std.specs.Option.{is_none}
 use Rattle.mp_grounder.proofs.NoFaults.{not_empty, none_in_first, none_in_second, not_else}
-use Rattle.mp_factor.specs.declared.files.File.{File}
 use Rattle.mp_factor.specs.declared.files.File.TheVariants as files
-use Rattle.mp_factor.specs.declared.word.Word.{Word}
-use Rattle.mp_factor.specs.declared.typed_values.Typed.{Typed}
-use Rattle.mp_factor.specs.declared.signature_values.Signature.{Signature}
-use Rattle.mp_factor.specs.declared.atom_values.Term.{Term}
-use Rattle.mp_factor.specs.declared.atom_values.Atom.{Atom}
-use Rattle.mp_factor.specs.declared.literal.Literal.{Literal}
-use Rattle.mp_factor.specs.declared.effect_values.Increase.{Increase}
-use Rattle.mp_factor.specs.declared.effect_values.Increase.TheVariants.{Number, Function}
-use Rattle.mp_factor.specs.declared.init_values.Value.{Value}
-use Rattle.mp_factor.specs.declared.schema_values.Schema.{Schema}
-use Rattle.mp_factor.specs.declared.factor.Factor.{Factor}
-use Rattle.mp_sexp.specs.Numbers.{is_named}
-use Rattle.mp_sexp.proofs.Places.{swapped}
 use Rattle.mp_typing.specs.declared.fault.FaultKind.TheVariants.{Unknown, Arity}
-use Rattle.mp_typing.specs.Faults.{fault_at}
-use Rattle.mp_typing.specs.Lookups.{arity_of, objects_of}
-use Rattle.mp_typing.specs.Repeats.{repeated_faults, parameter_faults, object_faults}
-use Rattle.mp_typing.specs.Uses.{is_declared, term_faults, word_of, applied_faults, called_faults, atom_faults, literal_faults, function_faults, increase_faults}
+use Rattle.mp_typing.specs.Lookups.{arity_of}
+use Rattle.mp_typing.specs.Repeats.{parameter_faults, object_faults}
+use Rattle.mp_typing.specs.Uses.{term_faults, word_of, applied_faults, called_faults, atom_faults, literal_faults, function_faults, increase_faults}
 use Rattle.mp_typing.specs.CheckFaults.{check_faults, owner_faults, declared_faults, schema_faults, problem_faults, value_faults}
-use Rattle.mp_joint.specs.Fact.{Text}
-use Rattle.mp_joint.specs.Grounding.{asked_atoms, negated_atoms}
-use Rattle.mp_lifted.specs.Lifting.{is_total_cost}
 use Rattle.mp_grounder.proofs.Distinct.{AreDistinct, declared_distinct}
 
 abbrev pub signature_names : List Signature → List Text

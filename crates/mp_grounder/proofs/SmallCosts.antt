@@ -1,28 +1,13 @@
 -- The costs of a factor in numbers are those of its files.
-use Rattle.std.proofs.Common.{arith, ◌≤◌, Bool, true, false, not, List, [], ◌∷◌, map, filter, length, All, inl, inr}
-use Rattle.std.proofs.lemmas.Bool.{cases_Bool}
-use Rattle.std.proofs.lemmas.List.{length-map}
-use Rattle.std.proofs.lemmas.List.Elements.{All-nil, All-cons, All-head, All-tail}
+use Rattle.mp_grounder.proofs.Basics.{arith, ◌≤◌, Bool, true, false, not, List, [], ◌∷◌, map, filter, length, All, inl, inr, cases_Bool, length-map, All-nil, All-cons, All-head, All-tail, Typed, Increase, Value, Schema, Factor, Text, GroundValue}
+use Rattle.mp_grounder.proofs.Basics.{OpenView, Vocabulary, lifted_factor, ground_value, lifted_amount, amounts_of, is_total_cost, is_changed, vocabulary_of, IsChecked}
 use Rattle.mp_factor.specs.Limits.{IsAllowedIncrease, SchemaFits}
 use Rattle.mp_factor.specs.Numbers.{greatest_cost}
-use Rattle.mp_factor.specs.declared.typed_values.Typed.{Typed}
-use Rattle.mp_factor.specs.declared.effect_values.Increase.{Increase}
 use Rattle.mp_factor.specs.declared.effect_values.Increase.TheVariants as increases
-use Rattle.mp_factor.specs.declared.init_values.Value.{Value}
-use Rattle.mp_factor.specs.declared.schema_values.Schema.{Schema}
-use Rattle.mp_factor.specs.declared.factor.Factor.{Factor}
-use Rattle.mp_joint.specs.Fact.{Text}
 use Rattle.mp_lifted.specs.declared.lifted.Amount.{Amount}
 use Rattle.mp_lifted.specs.declared.lifted.Amount.TheVariants.{Number}
-use Rattle.mp_lifted.specs.declared.lifted.GroundValue.{GroundValue}
-use Rattle.mp_lifted.specs.declared.view.OpenView.{OpenView}
-use Rattle.mp_lifted.specs.declared.vocabulary.Vocabulary.{Vocabulary}
-use Rattle.mp_lifted.specs.Factors.{lifted_factor, ground_value}
-use Rattle.mp_lifted.specs.Lifting.{lifted_action, lifted_amount, amounts_of, is_total_cost}
-use Rattle.mp_lifted.specs.Views.{is_changed}
-use Rattle.mp_lifted.specs.Vocabulary.{vocabulary_of}
+use Rattle.mp_lifted.specs.Lifting.{lifted_action}
 use Rattle.mp_instances.specs.Costs.{IsSmall, IsCheap, HasSmallCosts}
-use Rattle.mp_grounder.specs.Checked.{IsChecked}
 
 amount_small : (vocabulary : Vocabulary) (params : List Typed) (i : Increase) → IsAllowedIncrease i → IsSmall (lifted_amount vocabulary params i)
 amount_small vocabulary params (increases.Number cost) h = h

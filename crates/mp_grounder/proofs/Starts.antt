@@ -1,22 +1,8 @@
 -- What is true at the start in numbers is so by names, and so are the static preconditions.
-use Rattle.std.proofs.Common.{◌≡◌, ℕ, Bool, true, false, not, ◌||◌, List, [], ◌∷◌, map, All, Some, None, is_none, if◌then◌else◌, refl, sym, ap, ◌∙◌}
-use Rattle.std.proofs.lemmas.List.Elements.{All-head, All-tail}
-use Rattle.std.specs.List.{list_any}
-use Rattle.mp_factor.specs.declared.factor.Factor.{Factor}
-use Rattle.mp_sexp.specs.Numbers.{name_at}
+use Rattle.mp_grounder.proofs.Basics.{◌≡◌, ℕ, Bool, true, false, not, ◌||◌, List, [], ◌∷◌, map, All, Some, None, is_none, if◌then◌else◌, refl, sym, ap, ◌∙◌, All-head, All-tail, list_any, Factor, name_at, privates_of, facts_of, GroundAtom, OpenView}
+use Rattle.mp_grounder.proofs.Basics.{lifted_factor, ground_atom, known_atoms, fact_text, vocabulary_of, is_among, is_so, is_private, is_true_at_start, IsChecked, named_objects, named_fact, IsInRange}
 use Rattle.mp_joint.specs.Fact as joint
-use Rattle.mp_joint.specs.FactorContribution.{privates_of, facts_of}
-use Rattle.mp_lifted.specs.declared.lifted.GroundAtom.{GroundAtom}
-use Rattle.mp_lifted.specs.declared.view.OpenView.{OpenView}
-use Rattle.mp_lifted.specs.Factors.{lifted_factor, ground_atom, known_atoms}
-use Rattle.mp_lifted.specs.Texts.{fact_text}
 use Rattle.mp_lifted.specs.Views.{is_initial}
-use Rattle.mp_lifted.specs.Vocabulary.{vocabulary_of}
-use Rattle.mp_lifted.specs.Atoms.{is_among}
-use Rattle.mp_lifted.specs.Start.{is_so, is_private, is_true_at_start}
-use Rattle.mp_grounder.specs.Checked.{IsChecked}
-use Rattle.mp_grounder.specs.Named.{named_objects}
-use Rattle.mp_grounder.specs.Numbered.{named_fact, IsInRange}
 use Rattle.mp_grounder.proofs.Atoms.{ground_atoms_stand}
 use Rattle.mp_grounder.proofs.Facts.{same_among}
 use Rattle.mp_grounder.proofs.Needed.{flag_at}

@@ -1,33 +1,9 @@
 -- Static preconditions are as the start has them in numbers where they are by names.
-use Rattle.std.proofs.Common.{arith, ◌≡◌, ℕ, ◌+◌, suc, ◌<◌, Bool, true, false, cond, not, ◌&&◌, ◌||◌, List, [], ◌∷◌, map, length, All, refl, sym, ap, ◌∙◌, subst, inl, inr}
-use Rattle.std.proofs.lemmas.Bool.{cases_Bool, and_from, lt-ltb}
-use Rattle.std.proofs.lemmas.List.Elements.{All-head, All-tail}
-use Rattle.std.specs.List.{list_any, list_all}
-use Rattle.std.specs.Str.{bytes_eq}
-use Rattle.mp_factor.specs.declared.typed_values.Typed.{Typed}
-use Rattle.mp_factor.specs.declared.atom_values.Term.{Term}
-use Rattle.mp_factor.specs.declared.atom_values.Term.TheVariants.{Variable, Object}
-use Rattle.mp_factor.specs.declared.atom_values.Atom.{Atom}
-use Rattle.mp_factor.specs.declared.schema_values.Schema.{Schema}
-use Rattle.mp_factor.specs.declared.factor.Factor.{Factor}
-use Rattle.mp_typing.specs.Uses.{is_declared}
-use Rattle.mp_joint.specs.declared.fact.NamedFact.{NamedFact}
-use Rattle.mp_joint.specs.Fact.{Text}
-use Rattle.mp_joint.specs.FactorContribution.{privates_of, instance_with}
-use Rattle.mp_joint.specs.Grounded.{suits_start}
-use Rattle.mp_joint.specs.Grounding.{asked_atoms, negated_atoms, fact_of}
-use Rattle.mp_lifted.specs.declared.lifted.LiftedAtom.{LiftedAtom}
-use Rattle.mp_lifted.specs.declared.view.OpenView.{OpenView}
-use Rattle.mp_lifted.specs.Factors.{lifted_factor}
-use Rattle.mp_lifted.specs.Lifting.{parameter_in, lifted_term, lifted_atom, lifted_where, is_not}
-use Rattle.mp_lifted.specs.Views.{is_changed, setting_of}
-use Rattle.mp_lifted.specs.Vocabulary.{vocabulary_of}
-use Rattle.mp_lifted.specs.Atoms.{atom_at}
-use Rattle.mp_lifted.specs.Start.{is_true_at_start}
-use Rattle.mp_instances.specs.Instances.{is_known_term, is_known, suits}
-use Rattle.mp_grounder.specs.Checked.{IsChecked}
-use Rattle.mp_grounder.specs.Named.{named_objects}
-use Rattle.mp_grounder.specs.Numbered.{numbered_action, IsBinding}
+use Rattle.mp_grounder.proofs.Basics.{arith, ◌≡◌, ℕ, ◌+◌, suc, ◌<◌, Bool, true, false, cond, not, ◌&&◌, ◌||◌, List, [], ◌∷◌, map, length, All, refl, sym, ap, ◌∙◌, subst, inl, inr, cases_Bool, and_from, All-head, All-tail, list_any, list_all}
+use Rattle.mp_grounder.proofs.Basics.{bytes_eq, Typed, Term, Variable, Object, Atom, Schema, Factor, is_declared, NamedFact, Text, privates_of, instance_with, suits_start, asked_atoms, negated_atoms, fact_of, LiftedAtom, OpenView, lifted_factor}
+use Rattle.mp_grounder.proofs.Basics.{parameter_in, lifted_term, lifted_atom, lifted_where, is_not, is_changed, setting_of, vocabulary_of, atom_at, is_true_at_start, suits, IsChecked, named_objects, numbered_action, IsBinding}
+use Rattle.std.proofs.lemmas.Bool.{lt-ltb}
+use Rattle.mp_instances.specs.Instances.{is_known_term, is_known}
 use Rattle.mp_grounder.proofs.Atoms.{atom_stands}
 use Rattle.mp_grounder.proofs.Parts.{IsDeclared, IsAtom, IsSchema, HasParts}
 use Rattle.mp_grounder.proofs.Starts.{same_start}

@@ -1,32 +1,18 @@
 -- Facts and the texts that spell them.
-use Rattle.std.proofs.Common.{arith, ◌≡◌, ℕ, ◌+◌, ◌-◌, ◌==◌, suc, Bool, true, false, not, ◌&&◌, ◌||◌, List, [], ◌∷◌, ◌++◌, map, filter, length, take, get_or, All, Option, Some, None, if◌then◌else◌, refl, sym, ap, ◌∙◌, subst, inl, inr, length-append}
+use Rattle.mp_grounder.proofs.Basics.{arith, ◌≡◌, ℕ, ◌+◌, ◌-◌, ◌==◌, suc, Bool, true, false, not, ◌&&◌, ◌||◌, List, [], ◌∷◌, ◌++◌, map, filter, length, take, get_or, All, Option, Some, None, if◌then◌else◌, refl, sym, ap, ◌∙◌, subst, inl, inr}
+use Rattle.mp_grounder.proofs.Basics.{cons_option, list_all, bytes_eq, cases_Bool, and_parts, and_from, eqb-true, eq-eqb, true≢false, take_all, All-nil, All-cons, All-head, All-tail, All-map, All-append, bytes_eq-Decides, same_tests, Typed}
+use Rattle.mp_grounder.proofs.Basics.{Signature, Factor, name_at, number_in, first_declared, Text, GroundAtom, known_atoms, fact_text, vocabulary_of, same_atom, is_among, name_at_number, IsChecked, named_objects, named_fact, IsInRange}
+use Rattle.std.proofs.Common.{length-append}
 use Rattle.std.specs.Prelude.{IsTrue}
-use Rattle.std.specs.List.{join_with_byte, slice_split, cons_option, list_all}
-use Rattle.std.specs.Str.{bytes_eq}
-use Rattle.std.proofs.lemmas.Bool.{cases_Bool, and_parts, and_from, eqb-true, eq-eqb, true≢false}
-use Rattle.std.proofs.lemmas.List.{take_all, take-append-le}
-use Rattle.std.proofs.lemmas.List.Elements.{All-nil, All-cons, All-head, All-tail, All-map, All-append}
+use Rattle.std.specs.List.{join_with_byte, slice_split}
+use Rattle.std.proofs.lemmas.List.{take-append-le}
 use Rattle.std.proofs.lemmas.List.Splits.{join_with_byte-slice_split, slice_split_none, slice_split_at}
-use Rattle.std.proofs.lemmas.Slice.Eq.{bytes_eq-Decides}
-use Rattle.mp_list.proofs.Bools.{same_tests}
 use Rattle.mp_factor.specs.Kinds.{is_name}
 use Rattle.mp_factor.specs.Words.{is_name_byte, begins_with_letter}
 use Rattle.mp_factor.specs.Named.{IsName, IsTypedOf, IsSignatureOf, IsVariable}
-use Rattle.mp_factor.specs.declared.typed_values.Typed.{Typed}
-use Rattle.mp_factor.specs.declared.signature_values.Signature.{Signature}
-use Rattle.mp_factor.specs.declared.factor.Factor.{Factor}
-use Rattle.mp_sexp.specs.Numbers.{name_at, number_in}
-use Rattle.mp_typing.specs.ObjectList.{first_declared}
-use Rattle.mp_joint.specs.Fact.{Text, is_listed}
-use Rattle.mp_lifted.specs.declared.lifted.GroundAtom.{GroundAtom}
-use Rattle.mp_lifted.specs.Factors.{between_brackets, has_brackets, words_of, can_be_named, named_atom, known_atom, known_atoms}
-use Rattle.mp_lifted.specs.Texts.{bracketed, fact_text}
-use Rattle.mp_lifted.specs.Vocabulary.{vocabulary_of}
-use Rattle.mp_lifted.specs.Atoms.{same_atom, is_among}
-use Rattle.mp_sexp.proofs.NamesAt.{name_at_number}
-use Rattle.mp_grounder.specs.Checked.{IsChecked}
-use Rattle.mp_grounder.specs.Named.{named_objects}
-use Rattle.mp_grounder.specs.Numbered.{named_fact, IsInRange}
+use Rattle.mp_joint.specs.Fact.{is_listed}
+use Rattle.mp_lifted.specs.Factors.{between_brackets, has_brackets, words_of, can_be_named, named_atom, known_atom}
+use Rattle.mp_lifted.specs.Texts.{bracketed}
 use Rattle.mp_grounder.proofs.Distinct.{AreDistinct}
 use Rattle.mp_grounder.proofs.Facts.{objects_distinct, same_atom_is}
 use Rattle.mp_grounder.proofs.Lists.{all_some}

@@ -1,45 +1,21 @@
 -- As many bindings are tried in numbers as by names.
-use Rattle.std.proofs.Common.{arith, ◌≡◌, ℕ, zero, suc, ◌+◌, ◌-◌, ◌≤◌, Bool, true, false, cond, not, ◌&&◌, ◌||◌, nat_lt, List, [], ◌∷◌, map, filter, length, take, All, refl, sym, ap, ◌∙◌, inl, inr}
-use Rattle.std.proofs.lemmas.Bool.{cases_Bool, and_parts}
+use Rattle.mp_grounder.proofs.Basics.{arith, ◌≡◌, ℕ, zero, suc, ◌+◌, ◌-◌, ◌≤◌, Bool, true, false, cond, not, ◌&&◌, ◌||◌, List, [], ◌∷◌, map, filter, length, take, All, refl, sym, ap, ◌∙◌, inl, inr, cases_Bool, and_parts, length-map, All-nil}
+use Rattle.mp_grounder.proofs.Basics.{All-cons, All-head, All-tail, All-map, flat_map, list_all, list_any, bytes_eq, same_tests, Typed, Term, Variable, Object, Atom, Literal, Schema, Factor, name_at, is_declared, Text, instance_with, suits_start}
+use Rattle.mp_grounder.proofs.Basics.{LiftedAtom, Vocabulary, OpenView, atom_at, lifted_factor, lifted_term, lifted_atom, lifted_where, members_of, is_not, is_true_at_start, is_changed, setting_of, vocabulary_of, product, IsChecked, members_by_name}
+use Rattle.mp_grounder.proofs.Basics.{named_objects, numbered_action, IsObject, IsBinding}
+use Rattle.std.proofs.Common.{nat_lt}
 use Rattle.std.proofs.lemmas.Bool.Decides.{Decides-ltb}
-use Rattle.std.proofs.lemmas.List.{length-map, length-take, length-take-le, take-map}
+use Rattle.std.proofs.lemmas.List.{length-take, length-take-le, take-map}
 use Rattle.std.proofs.lemmas.List.Concat.{length-flat_map}
-use Rattle.std.proofs.lemmas.List.Elements.{All-nil, All-cons, All-head, All-tail, All-map, All-take}
+use Rattle.std.proofs.lemmas.List.Elements.{All-take}
 use Rattle.std.proofs.lemmas.List.Folds.{flat_map-map, list_all-map}
 use Rattle.std.proofs.lemmas.List.Sums.{sum_by-cons}
 use Rattle.std.proofs.lemmas.Simd.{map-map}
-use Rattle.std.specs.List.{flat_map, list_all, list_any, position_or_len, sum_by}
-use Rattle.std.specs.Str.{bytes_eq}
-use Rattle.mp_list.proofs.Bools.{same_tests}
-use Rattle.mp_factor.specs.declared.typed_values.Typed.{Typed}
-use Rattle.mp_factor.specs.declared.atom_values.Term.{Term}
-use Rattle.mp_factor.specs.declared.atom_values.Term.TheVariants.{Variable, Object}
-use Rattle.mp_factor.specs.declared.atom_values.Atom.{Atom}
-use Rattle.mp_factor.specs.declared.literal.Literal.{Literal}
-use Rattle.mp_factor.specs.declared.schema_values.Schema.{Schema}
-use Rattle.mp_factor.specs.declared.factor.Factor.{Factor}
-use Rattle.mp_sexp.specs.Numbers.{name_at}
-use Rattle.mp_typing.specs.Uses.{is_declared}
-use Rattle.mp_joint.specs.Fact.{Text}
-use Rattle.mp_joint.specs.FactorContribution.{instance_with}
-use Rattle.mp_joint.specs.Grounded.{suits_start}
-use Rattle.mp_lifted.specs.declared.lifted.LiftedAtom.{LiftedAtom}
+use Rattle.std.specs.List.{position_or_len, sum_by}
 use Rattle.mp_lifted.specs.declared.lifted.LiftedTerm.TheVariants.{Parameter}
-use Rattle.mp_lifted.specs.declared.vocabulary.Vocabulary.{Vocabulary}
-use Rattle.mp_lifted.specs.declared.view.OpenView.{OpenView}
-use Rattle.mp_lifted.specs.Atoms.{atom_at}
-use Rattle.mp_lifted.specs.Factors.{lifted_factor}
-use Rattle.mp_lifted.specs.Lifting.{lifted_term, lifted_atom, lifted_where, members_of, is_not}
-use Rattle.mp_lifted.specs.Start.{is_true_at_start}
-use Rattle.mp_lifted.specs.Views.{is_changed, setting_of}
-use Rattle.mp_lifted.specs.Vocabulary.{vocabulary_of}
-use Rattle.mp_bindings.specs.Bindings.{product, beginnings, passes, is_tried, tried}
+use Rattle.mp_bindings.specs.Bindings.{beginnings, passes, is_tried, tried}
 use Rattle.mp_instances.specs.Counts as numbered
 use Rattle.mp_instances.specs.Instances as numbers
-use Rattle.mp_grounder.specs.Checked.{IsChecked}
-use Rattle.mp_grounder.specs.Grounding.{members_by_name}
-use Rattle.mp_grounder.specs.Named.{named_objects}
-use Rattle.mp_grounder.specs.Numbered.{numbered_action, IsObject, IsBinding}
 use Rattle.mp_grounder.specs.Tried.{is_known_term, is_known, cut_to, suits_so_far, tried_of, tries}
 use Rattle.mp_grounder.proofs.Choosing.{IsChoice, products_are_choices, products_named}
 use Rattle.mp_grounder.proofs.Lists.{filter_of_map}

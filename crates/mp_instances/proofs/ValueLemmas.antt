@@ -1,16 +1,10 @@
 -- A map that has the first value of each function, while values are added.
-use Rattle.std.proofs.Common.{◌≡◌, ℕ, Bool, true, false, cond, List, [], ◌∷◌, ◌++◌, Option, Some, None, refl, sym, ap, subst, ◌∙◌, Bor}
+use Rattle.mp_instances.proofs.Basics.{◌≡◌, ℕ, Bool, true, false, cond, List, [], ◌∷◌, ◌++◌, Option, Some, None, refl, sym, ap, subst, ◌∙◌, Bor, lookup, is_some, option_map, GroundAtom, same_atom, fact_of, equal, HasValues}
 use Rattle.std.specs.List.{find}
-use Rattle.std.specs.Map.{lookup}
-use Rattle.std.specs.Option.{is_some, option_or, option_map}
+use Rattle.std.specs.Option.{option_or}
 use Rattle.std.proofs.lemmas.List.Folds.{find-append}
-use Rattle.mp_lifted.specs.declared.lifted.GroundAtom.{GroundAtom}
 use Rattle.mp_lifted.specs.declared.lifted.GroundValue.{GroundValue}
-use Rattle.mp_lifted.specs.Atoms.{same_atom}
-use Rattle.mp_lifted.specs.Held.{fact_of}
-use Rattle.mp_lifted.proofs.Keeping.{equal}
 use Rattle.mp_instances.specs.Costs.{value_of}
-use Rattle.mp_instances.specs.Tables.{HasValues}
 
 or_first : (o : Option GroundValue) (v : GroundValue) (t : Bool) → option_map (λ v. v.cost) (option_or o (cond t (Some v) None)) ≡ option_or (option_map (λ v. v.cost) o) (cond t (Some v.cost) None)
 or_first None v true = refl

@@ -1,10 +1,7 @@
 -- What stands between the brackets of a text.
-use Rattle.std.proofs.Common.{arith, ◌≡◌, ℕ, ◌+◌, ◌-◌, ◌<◌, ◌≤◌, suc, Bool, true, false, List, [], ◌∷◌, ◌++◌, length, take, drop, get_or, codes, refl, sym, ap, subst, ◌∙◌, inl, inr, length-append}
-use Rattle.std.proofs.lemmas.Bool.{cases_Bool}
-use Rattle.std.proofs.lemmas.Slice.Eq.{bytes_eq-Decides}
-use Rattle.std.proofs.lemmas.List.{take-append-drop, drop_more, take_all, drop_all}
-use Rattle.std.proofs.lemmas.Grind.{common_steps}
-use Rattle.mp_joint.specs.Fact.{Text}
+use Rattle.mp_lifted.proofs.Basics.{arith, ◌≡◌, ℕ, ◌+◌, ◌-◌, ◌<◌, ◌≤◌, suc, true, false, [], ◌∷◌, ◌++◌, length, take, drop, get_or, refl, sym, ap, ◌∙◌, inl, inr, cases_Bool, bytes_eq-Decides, drop_more, Text}
+use Rattle.std.proofs.Common.{length-append}
+use Rattle.std.proofs.lemmas.List.{take-append-drop, drop_all}
 use Rattle.mp_lifted.specs.Factors.{between_brackets, has_brackets}
 
 -- the text that a text with brackets is

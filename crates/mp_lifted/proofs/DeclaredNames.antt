@@ -1,15 +1,9 @@
 -- Names that are declared, one declaration after another.
-use Rattle.std.proofs.Common.{◌≡◌, ℕ, Bool, true, false, ◌||◌, not, List, [], ◌∷◌, ◌++◌, map, refl, sym, ap, ◌∙◌, inl, inr}
+use Rattle.mp_lifted.proofs.Basics.{◌≡◌, Bool, true, false, ◌||◌, not, List, [], ◌∷◌, ◌++◌, map, refl, sym, ap, ◌∙◌, inl, inr, cases_Bool, append-nil, map-append, filter-append, bytes_eq-Decides, Typed, Text, declared_names}
 use Rattle.std.specs.Str.{bytes_eq}
-use Rattle.std.proofs.lemmas.Bool.{cases_Bool, or_cases}
-use Rattle.std.proofs.lemmas.List.{append-nil, map-append}
-use Rattle.std.proofs.lemmas.List.Elements.{filter-append}
-use Rattle.std.proofs.lemmas.Slice.Eq.{bytes_eq-Decides}
-use Rattle.mp_factor.specs.declared.typed_values.Typed.{Typed}
+use Rattle.std.proofs.lemmas.Bool.{or_cases}
 use Rattle.mp_sexp.specs.Numbers.{is_named}
 use Rattle.mp_typing.specs.ObjectList.{others, first_declared}
-use Rattle.mp_joint.specs.Fact.{Text}
-use Rattle.mp_lifted.specs.Vocabulary.{declared_names}
 
 abbrev names_in : List Typed → List Text
 names_in declared = map (λ o. o.word.name) declared

@@ -1,10 +1,9 @@
 -- Flat bindings, with one more, and one at a place.
-use Rattle.std.proofs.Common.{◌≡◌, ℕ, zero, suc, ◌+◌, ◌-◌, ◌<◌, ◌≤◌, List, [], ◌∷◌, ◌++◌, length, get_or, take, drop, Some, refl, sym, ap, subst, ◌∙◌, arith}
+use Rattle.mp_lifted.proofs.Basics.{◌≡◌, ℕ, suc, ◌+◌, ◌-◌, ◌<◌, ◌≤◌, List, [], ◌∷◌, ◌++◌, length, get_or, take, drop, Some, refl, sym, ap, subst, ◌∙◌, arith, take_all, ActionBinding, Head, start_at}
+use Rattle.std.proofs.Common.{zero}
 use Rattle.std.specs.Prelude.{slice_get}
-use Rattle.std.proofs.lemmas.List.{drop_at, drop-append-le, take-append-le, take_all, length-append, length-drop}
-use Rattle.mp_lifted.specs.Binding.{ActionBinding}
-use Rattle.mp_lifted.specs.declared.bindings.Head.{Head}
-use Rattle.mp_lifted.specs.Flat.{one, bindings_from, start_at, EndsRise}
+use Rattle.std.proofs.lemmas.List.{drop_at, drop-append-le, take-append-le, length-append, length-drop}
+use Rattle.mp_lifted.specs.Flat.{one, bindings_from, EndsRise}
 
 -- no start is behind the last end
 below_last : (start last : ℕ) (heads : List Head) → EndsRise start last heads → start ≤ last

@@ -1,9 +1,8 @@
 -- The place of the first item that passes a test.
-use Rattle.std.proofs.Common.{◌≡◌, ℕ, ◌<◌, ◌≤◌, Bool, true, false, not, cond, List, length, All, get_or, Option, Some, None, refl, sym, ap, subst, ◌∙◌, arith, ltb}
-use Rattle.std.specs.List.{position, position_or_len}
+use Rattle.mp_lifted.proofs.Basics.{◌≡◌, ℕ, ◌<◌, Bool, true, false, not, cond, List, length, Some, None, refl, arith, position, position_or_len, cond_some}
+use Rattle.std.proofs.Common.{ltb}
 use Rattle.std.proofs.lemmas.Bool.{ltb-true, ltb-false}
-use Rattle.std.proofs.lemmas.Option.{cond_some}
-use Rattle.std.proofs.lemmas.List.Sums.{fails_before_first, prefix_len-le-length}
+use Rattle.std.proofs.lemmas.List.Sums.{prefix_len-le-length}
 
 not_there : (b : Bool) (n : ℕ) → cond b (Some n) None ≡ None → b ≡ false
 not_there true n e = absurd (cc)

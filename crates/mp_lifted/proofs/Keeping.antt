@@ -1,17 +1,12 @@
 -- Facts that are kept, one by one, and which of them are kept.
-use Rattle.std.proofs.Common.{◌≡◌, ◌==◌, ℕ, Bool, true, false, cond, ◌&&◌, ◌||◌, not, List, [], ◌∷◌, ◌++◌, filter, nat_eq, refl, sym, ap, subst, ◌∙◌, Bor, if◌then◌else◌}
+use Rattle.mp_lifted.proofs.Basics.{◌≡◌, ◌==◌, ℕ, Bool, true, false, cond, ◌&&◌, ◌||◌, not, List, [], ◌∷◌, refl, sym, ap, subst, ◌∙◌, Bor, list_any, same_tests, GroundAtom, LiftedFactor, same_atom, is_among, fact_of, is_held}
+use Rattle.mp_lifted.proofs.Basics.{has_kind, is_true_at_start}
+use Rattle.std.proofs.Common.{filter, nat_eq, if◌then◌else◌}
 use Rattle.std.specs.Cmp.Lexicographic.{pointwise}
-use Rattle.std.specs.List.{list_any}
 use Rattle.std.proofs.lemmas.Bool.Decides.{Decides-eqb}
-use Rattle.std.proofs.lemmas.List.Elements.{filter-append}
-use Rattle.std.proofs.lemmas.List.Folds.{list_any-append}
 use Rattle.std.proofs.lemmas.Slice.Eq.{slice_eq-Decides}
-use Rattle.mp_list.proofs.Bools.{same_tests, or_false}
-use Rattle.mp_lifted.specs.declared.lifted.GroundAtom.{GroundAtom}
-use Rattle.mp_lifted.specs.declared.lifted.LiftedFactor.{LiftedFactor}
-use Rattle.mp_lifted.specs.Atoms.{same_atom, is_among}
-use Rattle.mp_lifted.specs.Held.{fact_of, is_held, has_kind}
-use Rattle.mp_lifted.specs.Start.{is_private, is_true_at_start}
+use Rattle.mp_list.proofs.Bools.{or_false}
+use Rattle.mp_lifted.specs.Start.{is_private}
 
 -- ---- tests
 
@@ -72,23 +67,6 @@ one_of_kind false before same h = cc
 regroup : (before done next : Bool) → ((before || done) || next) ≡ (before || (done || next))
 regroup true done next = refl
 regroup false done next = refl
-
-one_among : (a x : GroundAtom) (t : Bool) → (t && same_atom a x) ≡ is_among a (cond t (x ∷ []) [])
-one_among a x true = sym (or_false (same_atom a x))
-one_among a x false = refl
-
-pub hold_more : (test : GroundAtom → Bool) (before after : GroundAtom → Bool) (first : GroundAtom → Bool) (done : List GroundAtom) (x : GroundAtom)
-    → ((a : GroundAtom) → before a ≡ (first a || is_among a (filter test done)))
-    → ((a : GroundAtom) → after a ≡ (before a || (test x && same_atom a x)))
-    → (a : GroundAtom) → after a ≡ (first a || is_among a (filter test (done ++ x ∷ [])))
-hold_more test before after first done x was is a =
-    is a
-    ∙ ap (λ t. t || (test x && same_atom a x)) (was a)
-    ∙ regroup (first a) (is_among a (filter test done)) (test x && same_atom a x)
-    ∙ ap (λ t. first a || (is_among a (filter test done) || t)) (one_among a x (test x))
-    ∙ ap (λ t. first a || t)
-    (sym (list_any-append (same_atom a) (filter test done) (filter test (x ∷ [])))
-    ∙ ap (is_among a) (sym (filter-append test done (x ∷ []))))
 
 -- ---- what is true at the start
 

@@ -1,15 +1,10 @@
 -- Names that a vocabulary has, one after another.
-use Rattle.std.proofs.Common.{◌≡◌, ℕ, ◌+◌, ◌<◌, Bool, true, false, ◌&&◌, List, [], ◌∷◌, ◌++◌, map, length, get_or, drop, Bor, Option, Some, None, refl, sym, ap, ◌∙◌, append_assoc}
-use Rattle.std.specs.Prelude.{if◌then◌else◌}
+use Rattle.mp_lifted.proofs.Basics.{◌≡◌, ℕ, ◌+◌, ◌<◌, Bool, true, false, ◌&&◌, List, [], ◌∷◌, ◌++◌, map, length, get_or, drop, Bor, Option, Some, None, sym, ap, ◌∙◌, append_assoc, if◌then◌else◌, append-nil, drop_more, cond_some, number_in}
+use Rattle.mp_lifted.proofs.Basics.{Text, is_listed, GroundAtom, Vocabulary}
 use Rattle.std.specs.List.{list_all}
 use Rattle.std.specs.Option.{is_some, option_map_or}
-use Rattle.std.proofs.lemmas.List.{append-nil, drop_more}
-use Rattle.std.proofs.lemmas.Option.{cond_some}
-use Rattle.mp_sexp.specs.Numbers.{place_in, number_in}
+use Rattle.mp_sexp.specs.Numbers.{place_in}
 use Rattle.mp_sexp.proofs.Places.{has_place}
-use Rattle.mp_joint.specs.Fact.{Text, is_listed}
-use Rattle.mp_lifted.specs.declared.lifted.GroundAtom.{GroundAtom}
-use Rattle.mp_lifted.specs.declared.vocabulary.Vocabulary.{Vocabulary}
 use Rattle.mp_lifted.specs.Factors.{can_be_named, named_atom}
 
 -- a name that is found is listed, and its place is its number

@@ -1,4 +1,6 @@
 -- the place of the first item that passes a test, and lists that are made item by item
+-- what the proofs cite of other places
+mod Basics
 pub mod Found
 pub mod Growing
 -- names that are declared, one declaration after another, and names that a vocabulary has

@@ -1,13 +1,10 @@
 -- The objects that are of a type are the places of those that pass the test of types.
-use Rattle.std.proofs.Common.{◌≡◌, ℕ, true, eqb, List, refl, subst}
+use Rattle.mp_lifted.proofs.Basics.{◌≡◌, ℕ, true, List, refl, subst, list_any, same_tests, Typed, Members}
+use Rattle.std.proofs.Common.{eqb}
 use Rattle.std.specs.Prelude.{Contains}
-use Rattle.std.specs.List.{list_any}
 use Rattle.std.proofs.lemmas.Bool.{eqb-true, eq-eqb}
-use Rattle.mp_list.proofs.Bools.{same_tests}
 use Rattle.mp_list.proofs.Members.{any_from, some_member}
 use Rattle.mp_sets.proofs.NumbersLemmas.{rising_unique}
-use Rattle.mp_factor.specs.declared.typed_values.Typed.{Typed}
-use Rattle.mp_typing.specs.Members.{Members}
 use Rattle.mp_typing.specs.Places.{numbers_where}
 use Rattle.mp_typing.specs.Under.{is_of_type}
 use Rattle.mp_typing.proofs.Placing.{are_members}

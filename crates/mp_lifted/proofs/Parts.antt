@@ -1,15 +1,7 @@
 -- Literals that a condition asks for, or has under `not`.
-use Rattle.std.proofs.Common.{◌≡◌, Bool, true, false, ◌&&◌, not, List, [], ◌∷◌, map, refl, sym, ap, inl, inr}
-use Rattle.std.specs.Prelude.{filter, if◌then◌else◌}
-use Rattle.std.proofs.lemmas.Bool.{cases_Bool}
-use Rattle.mp_factor.specs.declared.typed_values.Typed.{Typed}
+use Rattle.mp_lifted.proofs.Basics.{◌≡◌, Bool, true, false, ◌&&◌, not, List, [], ◌∷◌, map, refl, sym, ap, inl, inr, filter, if◌then◌else◌, cases_Bool, Typed, Literal, Text, asked_atoms, negated_atoms, Vocabulary, lifted_atom, ground_atom}
 use Rattle.mp_factor.specs.declared.atom_values.Atom.{Atom}
-use Rattle.mp_factor.specs.declared.literal.Literal.{Literal}
-use Rattle.mp_joint.specs.Fact.{Text}
-use Rattle.mp_joint.specs.Grounding.{asked_atoms, negated_atoms}
-use Rattle.mp_lifted.specs.declared.vocabulary.Vocabulary.{Vocabulary}
-use Rattle.mp_lifted.specs.Lifting.{lifted_atom, lifted_where}
-use Rattle.mp_lifted.specs.Factors.{ground_atom}
+use Rattle.mp_lifted.specs.Lifting.{lifted_where}
 
 abbrev pub has_sign : Bool → Literal → Bool
 has_sign positive l = if positive then l.positive else not l.positive

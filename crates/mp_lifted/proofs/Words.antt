@@ -1,10 +1,8 @@
 -- Words with a space between each two, the first one and those behind it.
-use Rattle.std.proofs.Common.{◌≡◌, ℕ, ◌+◌, ◌-◌, ◌<◌, ◌==◌, Bool, true, false, List, [], ◌∷◌, ◌++◌, length, take, drop, All, get_or, Option, Some, None, refl, sym, ap, ◌∙◌, append_assoc, arith, length-drop}
-use Rattle.std.specs.List.{position, position_or_len, slice_split}
-use Rattle.std.proofs.lemmas.List.{take_all}
+use Rattle.mp_lifted.proofs.Basics.{◌≡◌, ℕ, ◌+◌, ◌-◌, ◌==◌, Bool, false, List, [], ◌∷◌, ◌++◌, length, take, drop, All, Some, None, sym, ap, ◌∙◌, append_assoc, arith, position, slice_split, take_all}
+use Rattle.mp_lifted.proofs.Basics.{fails_before_first, Text}
+use Rattle.std.proofs.Common.{length-drop}
 use Rattle.std.proofs.lemmas.List.Splits.{slice_split_first, slice_split_none}
-use Rattle.std.proofs.lemmas.List.Sums.{fails_before_first}
-use Rattle.mp_joint.specs.Fact.{Text}
 use Rattle.mp_lifted.proofs.Found.{found_at, found_within, found_nowhere}
 
 abbrev pub is_space : ℕ → Bool

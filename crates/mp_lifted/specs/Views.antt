@@ -1,10 +1,9 @@
 -- What an agent knows of the predicates of its factor and of the start, by its own files and by what all agents show
 -- of theirs.
-use Rattle.std.specs.Prelude.{ℕ, Bool, not, List, [], ◌++◌, map, filter, if◌then◌else◌}
+use Rattle.std.specs.Prelude.{ℕ, Bool, not, List, [], ◌++◌, map, if◌then◌else◌}
 use Rattle.std.specs.List.{flat_map}
 use Rattle.std.specs.Option.{is_none}
 use Rattle.mp_factor.specs.declared.atom_values.Atom.{Atom}
-use Rattle.mp_factor.specs.declared.schema_values.Schema.{Schema}
 use Rattle.mp_factor.specs.declared.factor.Factor.{Factor}
 use Rattle.mp_joint.specs.declared.fact.NamedFact.{NamedFact}
 use Rattle.mp_joint.specs.Fact.{Text, is_listed, is_among}

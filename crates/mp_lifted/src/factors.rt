@@ -1,23 +1,23 @@
 //! Factors in numbers.
 
-ghost use Rattle.std.specs.Prelude.{◌≡◌, ◌++◌, not, map, filter, IfOk, OnOk, if◌then◌else◌};
+ghost use Rattle.std.specs.Prelude.{◌≡◌, not, map, filter, IfOk, if◌then◌else◌};
 ghost use Rattle.mp_joint.specs.Fact.{is_listed};
 ghost use Rattle.mp_joint.specs.FactorContribution.{privates_of};
 ghost use Rattle.mp_joint.specs.Grounding.{asked_atoms, negated_atoms};
 ghost use Rattle.mp_lifted.specs.Lifting.{lifted_action as action_of, is_total_cost as is_cost};
 ghost use Rattle.mp_lifted.specs.Factors.{ground_atom as atom_of, ground_value as value_of, known_atoms as known_of, lifted_factor};
-ghost use Rattle.mp_lifted.specs.Views.{is_of};
+ghost use Rattle.mp_lifted.specs.Views.{is_of, is_changed, has_complements};
+ghost use Rattle.mp_lifted.specs.Vocabulary.{vocabulary_of};
 
 use crate::actions::lifted_action;
 use crate::lifted::{GroundAtom, GroundValue, LiftedAction, LiftedFactor};
 use crate::lifted_atoms::{ground_with, has_sign, is_total_cost};
+use crate::privates::private_names;
 use crate::shown::{Shown, changed, negated};
 use crate::texts::known_atoms;
 use crate::view::OpenView;
 use crate::vocabulary::{Vocabulary, make_vocabulary};
-use mp_factor::{
-    AtomList, Factor, LiteralList, Problem, SchemaList, SignatureList, TypedList, ValueList,
-};
+use mp_factor::{AtomList, Factor, LiteralList, Problem, SchemaList, SignatureList, ValueList};
 use mp_list::{List, OutOfMemory};
 use mp_sexp::{Name, NameTable};
 use mp_typing::CheckedFactor;
@@ -64,36 +64,6 @@ fn private_flags(
 {
     let flags = flags_in(alloc, names.as_slice(), privates)?;
     Ok(flags)
-}
-
-/// The names of those of some objects that are private, behind others.
-fn add_private_objects<'a>(
-    table: &mut NameTable<'a>,
-    objects: &'a TypedList,
-) -> Result<(), OutOfMemory>
-    ensures { OnOk result (table.new
-        ≡ table.old ++ map (λ o. o.word.name) (filter (λ o. o.private) objects.now)) }
-{
-    for object in objects.as_slice() {
-        if object.private {
-            table.push(&object.word.name)?;
-        }
-    }
-    Ok(())
-}
-
-/// The names of the private objects.
-fn private_objects<'a>(
-    alloc: Global,
-    constants: &'a TypedList,
-    objects: &'a TypedList,
-) -> Result<NameTable<'a>, OutOfMemory>
-    ensures { IfOk result (λ names. names ≡ map (λ o. o.word.name) (filter (λ o. o.private) (constants.now ++ objects.now))) }
-{
-    let mut names = NameTable::new(alloc);
-    add_private_objects(&mut names, constants)?;
-    add_private_objects(&mut names, objects)?;
-    Ok(names)
 }
 
 /// Actions in numbers.
@@ -178,28 +148,67 @@ struct Marks {
     private_objects: List<bool>,
 }
 
+/// For each predicate and for each object whether it is private.
+fn private_marks(
+    alloc: Global,
+    factor: &Factor,
+    names: &Vocabulary<'_>,
+) -> Result<(List<bool>, List<bool>), OutOfMemory>
+    ensures predicates { IfOk result (λ made. made.0 ≡ map (λ p. is_listed p (privates_of factor.now).predicates) names.now.predicates) }
+    ensures objects { IfOk result (λ made. made.1 ≡ map (λ o. is_listed o (privates_of factor.now).objects) names.now.objects) }
+{
+    let privates = private_names(alloc, factor)?;
+    let predicates = private_flags(alloc, &names.predicates, &privates.predicates)?;
+    let objects = private_flags(alloc, &names.objects, &privates.objects)?;
+    Ok((predicates, objects))
+}
+
+/// For each predicate whether its facts have complements.
+fn negated_marks(alloc: Global, factor: &Factor, view: &OpenView) -> Result<List<bool>, OutOfMemory>
+    ensures { IfOk result (λ flags. flags
+        ≡ map (λ s. has_complements factor.now view.now s.word.name) factor.now.domain.predicates) }
+{
+    let complements = negated(alloc, factor, view)?;
+    let flags = flags_of(alloc, &complements, &factor.domain.predicates)?;
+    Ok(flags)
+}
+
 /// The marks of a factor's predicates and objects.
 fn marks_of(
     alloc: Global,
     factor: &Factor,
+    view: &OpenView,
     names: &Vocabulary<'_>,
-    privates: &NameTable<'_>,
-    complements: &Shown<'_>,
 ) -> Result<Marks, OutOfMemory>
     ensures { IfOk result (λ made. made ≡ record {
-      private_predicates = map (λ p. is_listed p privates.now) names.now.predicates;
-      negated_predicates = map
-          (λ s. is_of complements.now.privates complements.now.own complements.now.shown s.word.name)
-          factor.now.domain.predicates;
+      private_predicates = map (λ p. is_listed p (privates_of factor.now).predicates) names.now.predicates;
+      negated_predicates = map (λ s. has_complements factor.now view.now s.word.name) factor.now.domain.predicates;
       private_objects = map (λ o. is_listed o (privates_of factor.now).objects) names.now.objects;
     }) }
 {
-    let objects = private_objects(alloc, &factor.domain.constants, &factor.problem.objects)?;
+    let negated_predicates = negated_marks(alloc, factor, view)?;
+    let (private_predicates, private_objects) = private_marks(alloc, factor, names)?;
     Ok(Marks {
-        private_predicates: private_flags(alloc, &names.predicates, privates)?,
-        negated_predicates: flags_of(alloc, complements, &factor.domain.predicates)?,
-        private_objects: private_flags(alloc, &names.objects, &objects)?,
+        private_predicates,
+        negated_predicates,
+        private_objects,
     })
+}
+
+/// The actions of a factor in numbers.
+fn actions_of(
+    alloc: Global,
+    factor: &CheckedFactor,
+    view: &OpenView,
+    names: &Vocabulary<'_>,
+) -> Result<List<LiftedAction>, OutOfMemory>
+    ensures { IfOk result (λ made. made
+        ≡ map (action_of names.now (is_changed factor.now view.now) factor.now) factor.now.domain.schemas) }
+{
+    let whole = factor.factor();
+    let changes = changed(alloc, whole, view)?;
+    let actions = lifted_actions(alloc, names, &changes, factor, &whole.domain.schemas)?;
+    Ok(actions)
 }
 
 /// The facts of a problem and those that agents show, and values.
@@ -236,21 +245,20 @@ fn facts_of(
     })
 }
 
-/// A factor in numbers, as an agent knows it that has seen this of all agents. Refuses only for want of memory.
-pub fn lift(
+/// A factor of these names in numbers.
+fn lift_with(
     alloc: Global,
     factor: &CheckedFactor,
     view: &OpenView,
+    names: &Vocabulary<'_>,
 ) -> Result<LiftedFactor, OutOfMemory>
+    requires { names.now ≡ vocabulary_of factor.now }
     ensures { IfOk result (λ made. made ≡ lifted_factor factor.now view.now) }
 {
     let whole = factor.factor();
-    let names = make_vocabulary(alloc, whole)?;
-    let changes = changed(alloc, whole, view)?;
-    let complements = negated(alloc, whole, view)?;
-    let marks = marks_of(alloc, whole, &names, &changes.privates, &complements)?;
-    let actions = lifted_actions(alloc, &names, &changes, factor, &whole.domain.schemas)?;
-    let facts = facts_of(alloc, &whole.problem, view, &names)?;
+    let marks = marks_of(alloc, whole, view, names)?;
+    let actions = actions_of(alloc, factor, view, names)?;
+    let facts = facts_of(alloc, &whole.problem, view, names)?;
     Ok(LiftedFactor {
         private_predicates: marks.private_predicates,
         negated_predicates: marks.negated_predicates,
@@ -262,4 +270,17 @@ pub fn lift(
         avoided: facts.avoided,
         values: facts.values,
     })
+}
+
+/// A factor in numbers, as an agent knows it that has seen this of all agents. Refuses only for want of memory.
+pub fn lift(
+    alloc: Global,
+    factor: &CheckedFactor,
+    view: &OpenView,
+) -> Result<LiftedFactor, OutOfMemory>
+    ensures { IfOk result (λ made. made ≡ lifted_factor factor.now view.now) }
+{
+    let names = make_vocabulary(alloc, factor.factor())?;
+    let lifted = lift_with(alloc, factor, view, &names)?;
+    Ok(lifted)
 }

@@ -12,6 +12,7 @@ mod factors;
 mod lifted;
 mod lifted_atoms;
 mod members;
+mod privates;
 mod shown;
 mod start;
 mod texts;
@@ -25,5 +26,7 @@ pub use factors::lift;
 pub use lifted::{
     Amount, GroundAtom, GroundValue, LiftedAction, LiftedAtom, LiftedFactor, LiftedTerm,
 };
+pub use privates::{PrivateNames, private_names};
 pub use start::StartFacts;
 pub use view::{FactTexts, OpenView};
+pub use vocabulary::object_names;

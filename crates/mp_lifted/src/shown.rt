@@ -1,13 +1,14 @@
 //! What an agent knows of its predicates.
 
-ghost use Rattle.std.specs.Prelude.{◌≡◌, ◌++◌, map, filter, IfOk, OnOk};
+ghost use Rattle.std.specs.Prelude.{◌≡◌, ◌++◌, IfOk, OnOk};
 ghost use Rattle.std.specs.List.{flat_map};
 ghost use Rattle.mp_joint.specs.FactorContribution.{privates_of};
 ghost use Rattle.mp_joint.specs.Grounding.{negated_atoms};
 ghost use Rattle.mp_lifted.specs.Views.{predicates_of, changed_predicates, negated_predicates, is_of};
 
+use crate::privates::private_predicates;
 use crate::view::OpenView;
-use mp_factor::{AtomList, Factor, LiteralList, SchemaList, SignatureList};
+use mp_factor::{AtomList, Factor, LiteralList, SchemaList};
 use mp_list::OutOfMemory;
 use mp_sexp::{Name, NameList, NameTable};
 use std::alloc::Global;
@@ -54,22 +55,6 @@ fn add_negated<'a>(table: &mut NameTable<'a>, literals: &'a LiteralList) -> Resu
         }
     }
     Ok(())
-}
-
-/// The names of private predicates.
-fn private_predicates<'a>(
-    alloc: Global,
-    predicates: &'a SignatureList,
-) -> Result<NameTable<'a>, OutOfMemory>
-    ensures { IfOk result (λ table. table ≡ map (λ s. s.word.name) (filter (λ s. s.private) predicates.now)) }
-{
-    let mut table = NameTable::new(alloc);
-    for signature in predicates.as_slice() {
-        if signature.private {
-            table.push(&signature.word.name)?;
-        }
-    }
-    Ok(table)
 }
 
 /// Names as a table.

@@ -41,8 +41,9 @@ fn add_objects<'a>(table: &mut NameTable<'a>, objects: &'a TypedList) -> Result<
     Ok(())
 }
 
-/// The names of the objects in object order.
-fn object_names<'a>(
+/// The names of some objects and of others behind them in object order: each where it is declared first. Refuses only for want of
+/// memory.
+pub fn object_names<'a>(
     alloc: Global,
     constants: &'a TypedList,
     objects: &'a TypedList,

@@ -9,11 +9,6 @@ pub and_true : (a : Bool) → (a && true) ≡ a
 and_true true = refl
 and_true false = refl
 
-pub or_again : (a b : Bool) → ((a || b) || b) ≡ (a || b)
-or_again true b = refl
-or_again false true = refl
-or_again false false = refl
-
 pub or_all : (a b c : Bool) → ((a || b) || c) ≡ (a || (b || c))
 or_all true b c = refl
 or_all false b c = refl

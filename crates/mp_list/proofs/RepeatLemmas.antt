@@ -1,17 +1,13 @@
 -- Items that repeat earlier ones, as a loop over the items finds them.
 use Rattle.std.proofs.Common.{◌≡◌, ℕ, zero, suc, ◌+◌, ◌<◌, ◌≤◌, Bool, true, false, List, [], ◌∷◌, ◌++◌, map, length, get_or, take, drop, Option, refl, sym, ap, ◌∙◌, drop-cons, subst, arith, inl, inr}
-use Rattle.std.specs.Prelude.{◌||◌, Contains}
-use Rattle.std.specs.List.{list_any}
+use Rattle.std.specs.Prelude.{Contains}
 use Rattle.std.proofs.Math.ListN.{drop_of_length-le}
-use Rattle.std.proofs.lemmas.Bool.{or_cases, or_left}
 use Rattle.std.proofs.lemmas.List.{take_more, map-append, append-nil, append_assoc}
 use Rattle.std.proofs.lemmas.List.Elements.{Contains-append_cases, Contains-append_left, Contains-append_right}
-use Rattle.std.proofs.lemmas.List.Folds.{list_any-append}
 use Rattle.mp_list.specs.First.{leftmost}
 use Rattle.mp_list.specs.Repeats.{is_among_keys, if_repeated, repeats_behind, RepeatsAt}
 use Rattle.mp_list.proofs.FirstLemmas.{leftmost_append}
-use Rattle.mp_list.proofs.Members.{contains_head, contains_one, no_member, any_from, some_member}
-use Rattle.mp_list.proofs.Bools.{same_tests, or_false}
+use Rattle.mp_list.proofs.Members.{contains_head, contains_one, no_member}
 
 -- the items of one list and then of another: those of the second may repeat those of the first too
 pub repeats_append : {K X : Type 0} (same : K → K → Bool) (key_of : X → K) (keys : List K) (xs ys : List X)
@@ -78,24 +74,6 @@ pub repeats_end : {K X F : Type 0} (before : F → F → Bool) (fault_of : X →
     → leftmost before o (map fault_of (repeats_behind same key_of keys (drop i xs))) ≡ whole → o ≡ whole
 repeats_end {K} {X} before fault_of same key_of o whole keys xs i le so_far =
     sym (ap (λ (ys : List X). leftmost before o (map fault_of ys)) (none_behind same key_of keys xs i le)) ∙ so_far
-
--- a key that is among the others already changes nothing, where the test of keys is passed on
-pub among_again : {K : Type 0} (same : K → K → Bool)
-    → ((a b c : K) → same a b ≡ true → same b c ≡ true → same a c ≡ true)
-    → (keys : List K) (k : K) → is_among_keys same keys k ≡ true
-    → (q : K) → is_among_keys same (keys ++ k ∷ []) q ≡ is_among_keys same keys q
-among_again {K} same passes_on keys k among q =
-    let test : K → Bool = λ (e : K). same e q in
-    list_any-append test keys (k ∷ [])
-    ∙ same_tests (list_any test keys || list_any test (k ∷ [])) (list_any test keys)
-    (λ (h : (list_any test keys || list_any test (k ∷ [])) ≡ true).
-    elim (or_cases (list_any test keys) (list_any test (k ∷ [])) h) [
-      | inl here ↦ here
-      | inr there ↦
-          let found = some_member (λ (e : K). same e k) keys among in
-          any_from test keys found.0 found.1 (passes_on found.0 k q found.2 (sym (or_false (same k q)) ∙ there))
-    ])
-    (λ (h : list_any test keys ≡ true). or_left (list_any test keys) (list_any test (k ∷ [])) h)
 
 kept_if : {X : Type 0} (b : Bool) (x y : X) → Contains (if_repeated b x) y → (b ≡ true) × (y ≡ x)
 kept_if true x y among = (refl, contains_one x y among)

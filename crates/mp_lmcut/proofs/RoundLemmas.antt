@@ -77,8 +77,3 @@ same_found total a n e = ap (option_map (λ _. total)) (sym e)
 
 pub none_found : (r : RelaxedProblem) (p q : Numbers) → greatest (fact_values r.operators (state_of r p q)) r.goals ≡ None → None ≡ lmcut_of r.operators r.goals (state_of r p q)
 none_found r p q e = ap (option_map (λ _. cuts (length r.operators) r.operators r.goals (state_of r p q))) (sym e)
-
-pub some_found : (r : RelaxedProblem) (p q : Numbers) (n total : ℕ) → greatest (fact_values r.operators (state_of r p q)) r.goals ≡ Some n → total ≡ cuts (length r.operators) r.operators r.goals (state_of r p q) → Some total ≡ lmcut_of r.operators r.goals (state_of r p q)
-some_found r p q n total e is =
-    ap (λ a. Some a) is
-    ∙ same_found (cuts (length r.operators) r.operators r.goals (state_of r p q)) (greatest (fact_values r.operators (state_of r p q)) r.goals) n e

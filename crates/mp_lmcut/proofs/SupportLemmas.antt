@@ -1,9 +1,7 @@
 -- Supports by the numbers of facts.
-use Rattle.std.proofs.Common.{◌≡◌, ℕ, ◌+◌, ◌<◌, ◌≤◌, Bool, true, false, not, ltb, leb, ◌&&◌, ◌||◌, Option, Some, None, List, [], ◌∷◌, length, get_or, drop, refl, sym, ap, ◌∙◌, ⊎_elim, arith}
+use Rattle.std.proofs.Common.{◌≡◌, ℕ, ◌≤◌, Bool, true, false, not, ltb, leb, ◌&&◌, ◌||◌, Option, Some, None, List, [], ◌∷◌, refl, sym, ap, ◌∙◌, ⊎_elim, arith}
 use Rattle.std.proofs.lemmas.Bool.{cases_lt, lt-ltb, le-ltb, le-leb, lt-leb}
-use Rattle.std.proofs.lemmas.List.{drop_more}
 use Rattle.std.specs.Option.{is_some}
-use Rattle.mp_list.specs.First.{earlier, leftmost}
 use Rattle.mp_estimates.specs.Estimates.{Values, greater}
 use Rattle.mp_estimates.specs.Lowering.{known, number_at, unknown, value_at}
 use Rattle.mp_estimates.proofs.LoweringLemmas.{known-none, known-some}
@@ -11,16 +9,6 @@ use Rattle.mp_relaxed.specs.Values.{greatest}
 use Rattle.mp_lmcut.specs.Cut.{all_valued, is_above, support, supports_before}
 use Rattle.mp_lmcut.specs.Laws.Supports.{IsSupport, supported}
 use Rattle.mp_lmcut.specs.Laws.Supports.IsSupport.{none, one}
-
-pub valued_more : (numbers xs : List ℕ) (i : ℕ) → i < length xs → number_at numbers (get_or xs i 0) < unknown → all_valued (value_at numbers) (drop i xs) ≡ all_valued (value_at numbers) (drop (i + 1) xs)
-valued_more numbers xs i lt less =
-    ap (all_valued (value_at numbers)) (drop_more xs i 0 lt)
-    ∙ ap (λ a. is_some a && all_valued (value_at numbers) (drop (i + 1) xs)) (known-some (number_at numbers (get_or xs i 0)) less)
-
-pub valued_not : (numbers xs : List ℕ) (i : ℕ) → i < length xs → unknown ≤ number_at numbers (get_or xs i 0) → all_valued (value_at numbers) (drop i xs) ≡ false
-valued_not numbers xs i lt le =
-    ap (all_valued (value_at numbers)) (drop_more xs i 0 lt)
-    ∙ ap (λ a. is_some a && all_valued (value_at numbers) (drop (i + 1) xs)) (known-none (number_at numbers (get_or xs i 0)) le)
 
 above_is : (m n : ℕ) → m ≤ unknown → n ≤ unknown → is_above (known m) (known n) ≡ ltb n m
 above_is m n first second = ⊎_elim
@@ -47,10 +35,6 @@ before_is numbers x y first second =
     let n = number_at numbers y in
     sym ((λ i. above_is m n first second i || (not (above_is n m second first i) && ltb x y))
     ∙ ap (λ b. ltb n m || (b && ltb x y)) (not_less m n))
-
--- the first of what is left, after one more
-pub first_more : (before : ℕ → ℕ → Bool) (best : Option ℕ) (xs : List ℕ) (i : ℕ) → i < length xs → leftmost before (Some (earlier before best (get_or xs i 0))) (drop (i + 1) xs) ≡ leftmost before best (drop i xs)
-first_more before best xs i lt = sym (ap (leftmost before best) (drop_more xs i 0 lt))
 
 is_some_greater : (a b : Option ℕ) → is_some (greater a b) ≡ (is_some a && is_some b)
 is_some_greater None b = refl

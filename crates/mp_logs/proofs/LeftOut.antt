@@ -19,9 +19,6 @@ none_is : (es : List Entry) → is_none es ≡ true → es ≡ []
 none_is [] is = refl
 none_is (e ∷ es) is = absurd (false≢true is)
 
-is_none_of : (es : List Entry) → es ≡ [] → is_none es ≡ true
-is_none_of es same = ap is_none same
-
 module _ (bad : ℕ → Bool) where
   -- an entry is the last one of such an agent, and a receipt
   abbrev pub is_out : Entry → List Entry → Bool

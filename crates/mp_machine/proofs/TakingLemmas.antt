@@ -1,8 +1,7 @@
 -- Who may send a message, and which message bytes are.
-use Rattle.std.proofs.Common.{◌≡◌, ℕ, ◌<◌, ◌≤◌, ◌^◌, Bool, true, false, ◌&&◌, List, Option, Some, None, refl, sym, ap, subst, ◌∙◌}
-use Rattle.std.specs.Prelude.{Err, nat_le, not, ◌==◌}
+use Rattle.std.proofs.Common.{◌≡◌, ℕ, ◌<◌, ◌^◌, List, Option, Some, None, refl, sym, ap, subst}
+use Rattle.std.specs.Prelude.{Err}
 use Rattle.std.specs.Option.{option_map_or}
-use Rattle.std.proofs.lemmas.Bool.{and_parts, eqb-false, leb-true}
 use Rattle.mp_sets.specs.Numbers.{Numbers}
 use Rattle.mp_task.specs.AgentTask.{AgentTask}
 use Rattle.mp_messages.specs.declared.message.Message.{Message}
@@ -11,27 +10,11 @@ use Rattle.mp_messages.specs.declared.message.State.{State}
 use Rattle.mp_messages.specs.Spelling.{IsSpelling}
 use Rattle.mp_search.specs.Spelled.{message_of}
 use Rattle.mp_search.proofs.Spelled.{message_is_spelled, spelled_is_message}
-use Rattle.mp_snapshot.specs.Rules.{IsAnother}
 use Rattle.mp_machine.specs.declared.member.Member.{Member}
 use Rattle.mp_machine.specs.declared.refusal.BadKind.TheVariants.{NotASpelling}
 use Rattle.mp_machine.specs.AgentRecord.{AgentRecord}
-use Rattle.mp_machine.specs.LocalStep.{is_another}
 use Rattle.mp_machine.specs.MemberFields.{IsMember}
 use Rattle.mp_machine.specs.Taking.{took, took_message, took_state}
-
-pub another_of : (t : AgentTask) (m : Member) (from : ℕ) → IsMember t m → is_another t from ≡ true → IsAnother m.snapshot from
-another_of t m from of test =
-    let other = and_parts (nat_le 1 from && nat_le from t.agents) (not (from == t.me)) test in
-    let range = and_parts (nat_le 1 from) (nat_le from t.agents) other.0 in
-    record {
-      from_1 = leb-true 1 from range.0;
-      in_team = subst (λ (n : ℕ). from ≤ n) (sym of.notes_agents) (leb-true from t.agents range.1);
-      another = λ same. eqb-false from t.me (flipped (from == t.me) other.1) (same ∙ of.notes_me);
-    }
-  where
-    flipped : (b : Bool) → not b ≡ true → b ≡ false
-    flipped true h = sym h
-    flipped false h = refl
 
 module _ (value : Numbers → Numbers → Option ℕ) (r : AgentRecord) (from : ℕ) (bytes : List ℕ) where
   pub took_spelled : (m : Message) → r.task.publics < 2 ^ 32 → IsSpelling r.task.agents r.task.publics m bytes

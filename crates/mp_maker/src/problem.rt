@@ -1,6 +1,6 @@
 //! The problem of one agent of a delivery.
 
-ghost use Rattle.std.specs.Prelude.{◌≡◌, ◌++◌, ◌≤◌, IfOk, OnOk};
+ghost use Rattle.std.specs.Prelude.{◌≡◌, ◌++◌, ◌≤◌, decimal, IfOk, OnOk};
 ghost use Rattle.mp_maker.specs.Problem.{near_cost as near_cost_of, far_cost as far_cost_of, first_box as first_box_of, last_box as last_box_of, name_lines, objects_line, init_line, roads_line, costs_line, goal_lines, problem as problem_of};
 
 use crate::write::{digits, place, push_all};
@@ -165,6 +165,59 @@ fn last_box(alloc: Global, size: u16, agent: u16, y: &[u8]) -> Result<List<u8>, 
     Ok(text)
 }
 
+/// Appends the lines that name an agent's problem, and that of its objects.
+fn push_front<'a>(
+    alloc: Global,
+    text: &mut List<u8>,
+    agent: u16,
+    x: &'a [u8],
+    y: &'a [u8],
+) -> Result<(), OutOfMemory>
+    ensures { OnOk result (text.new ≡ text.old ++ (name_lines (decimal agent) ++ objects_line x.now y.now)) }
+{
+    let number = digits(alloc, u32::from(agent))?;
+    push_name(text, number.as_slice())?;
+    push_objects(text, x, y)?;
+    Ok(())
+}
+
+/// Appends the lines of an agent's start, of the roads and of what they cost.
+fn push_start<'a>(
+    alloc: Global,
+    text: &mut List<u8>,
+    number: u32,
+    agent: u16,
+    x: &'a [u8],
+    y: &'a [u8],
+) -> Result<(), OutOfMemory>
+    requires number { number ≤ 999999 }
+    requires agent { agent ≤ 8 }
+    ensures { OnOk result (text.new ≡ text.old ++ (init_line (first_box_of agent) ++ (roads_line x.now y.now
+        ++ costs_line x.now y.now (decimal (near_cost_of number agent)) (decimal (far_cost_of number agent))))) }
+{
+    let near = digits(alloc, near_cost(number, agent))?;
+    let far = digits(alloc, far_cost(number, agent))?;
+    push_init(text, first_box(agent))?;
+    push_roads(text, x, y)?;
+    push_costs(text, x, y, near.as_slice(), far.as_slice())?;
+    Ok(())
+}
+
+/// Appends the lines of the goal of an agent of a team of so many, and of the metric.
+fn push_end(
+    alloc: Global,
+    text: &mut List<u8>,
+    size: u16,
+    agent: u16,
+    y: &[u8],
+) -> Result<(), OutOfMemory>
+    ensures { OnOk result (text.new ≡ text.old ++ goal_lines (last_box_of size agent y.now)) }
+{
+    let last = last_box(alloc, size, agent, y)?;
+    push_goal(text, last.as_slice())?;
+    Ok(())
+}
+
 /// The text of the problem of an agent of a team of so many.
 #[tactic(auto, unfolding(crate::specs::Problem::problem))]
 fn problem_text(alloc: Global, size: u16, number: u32, agent: u16) -> Result<List<u8>, OutOfMemory>
@@ -175,22 +228,10 @@ fn problem_text(alloc: Global, size: u16, number: u32, agent: u16) -> Result<Lis
 {
     let x = place(alloc, agent - 1)?;
     let y = place(alloc, agent)?;
-    let near = digits(alloc, near_cost(number, agent))?;
-    let far = digits(alloc, far_cost(number, agent))?;
-    let last = last_box(alloc, size, agent, y.as_slice())?;
     let mut text = List::new(alloc);
-    push_name(&mut text, digits(alloc, u32::from(agent))?.as_slice())?;
-    push_objects(&mut text, x.as_slice(), y.as_slice())?;
-    push_init(&mut text, first_box(agent))?;
-    push_roads(&mut text, x.as_slice(), y.as_slice())?;
-    push_costs(
-        &mut text,
-        x.as_slice(),
-        y.as_slice(),
-        near.as_slice(),
-        far.as_slice(),
-    )?;
-    push_goal(&mut text, last.as_slice())?;
+    push_front(alloc, &mut text, agent, x.as_slice(), y.as_slice())?;
+    push_start(alloc, &mut text, number, agent, x.as_slice(), y.as_slice())?;
+    push_end(alloc, &mut text, size, agent, y.as_slice())?;
     Ok(text)
 }
 

@@ -3,8 +3,7 @@ use Rattle.std.proofs.Common.{◌≡◌, ℕ, zero, suc, ◌-◌, ◌≤◌, tru
 use Rattle.std.specs.Prelude.{Option}
 use Rattle.std.specs.Option.{option_map}
 use Rattle.mp_messages.specs.declared.history.Entry.{Entry}
-use Rattle.mp_stamps.specs.Lists.{entries}
-use Rattle.mp_post_rule.specs.Views.{found, list_at, list_in, marked, party_at, with_batch, with_receipt}
+use Rattle.mp_post_rule.specs.Views.{found, marked, party_at, with_batch, with_receipt}
 use Rattle.mp_post_rule.specs.declared.view.Party.{Party}
 use Rattle.mp_post_rule.specs.declared.view.View.{View}
 use Rattle.mp_post.specs.Halts.{HasHalted, HasHaltedAt}
@@ -57,10 +56,6 @@ module _ (by : ℕ) where
       let first = signed v t.between batch p held t.first in
       let second = handed t.between w from handed_over first.party first.held t.second in
       record { party = second.party; held = second.held; mark = second.mark ∙ first.mark }
-
--- the list of a party
-pub list_of_party : (agent : ℕ) (v : View) (p : Party) → party_at v agent ≡ Some p → entries (list_at v agent) ≡ entries p.list
-list_of_party agent v p held = ap (λ o. entries (list_in o)) held
 
 -- a party that was halted at a post, and at all posts, is marked
 marked_at : (by post : ℕ) (v w : View) (p : Party) → party_at v by ≡ Some p → HasHaltedAt by post v w → party_at w by ≡ Some (marked p)

@@ -1,10 +1,10 @@
 -- What is done at a source, one act after another.
-use Rattle.std.proofs.Common.{◌≡◌, ℕ, ◌+◌, ◌≤◌, List, [], ◌∷◌, ◌++◌, map, Option, Some, None, refl, sym, ap, subst, ◌∙◌, arith, inl, inr, append_assoc}
+use Rattle.std.proofs.Common.{◌≡◌, ℕ, ◌+◌, ◌≤◌, List, [], ◌∷◌, ◌++◌, map, Option, Some, None, refl, sym, ap, subst, ◌∙◌, arith, inl, append_assoc}
 use Rattle.std.proofs.lemmas.List.{append-nil}
 use Rattle.std.proofs.lemmas.List.Sums.{sum_by_push}
 use Rattle.std.specs.Prelude.{⊤}
 use Rattle.std.specs.List.{sum}
-use Rattle.mp_outside.specs.Acts.{Act, AreReadInTurn, AreReads, AreSomeButLast, FileAsked, Begins, Does, IsReadOnce, Takes, TakesUpTo}
+use Rattle.mp_outside.specs.Acts.{Act, AreReadInTurn, AreReads, AreSomeButLast, FileAsked, Does, IsReadOnce, Takes, TakesUpTo}
 use Rattle.mp_outside.specs.Acts.Act.{took}
 
 -- ---- acts of a source that may tell them
@@ -129,10 +129,6 @@ last_count start old new before count most h k few =
 -- no read more
 pub no_more : (start now : Option (List Act)) (done most : ℕ) → Does (HaveTaken done) start now → done ≤ most → Does (AreReads most) start now
 no_more start now done most h few = did_so (HaveTaken done) (AreReads most) start now (λ xs a. taken_all done most xs few a) h
-
--- a file that was begun is read
-pub read_once : (file : FileAsked) (xs ys : List Act) → Begins file.name xs → AreReads (file.longest + 1) ys → IsReadOnce file (xs ++ ys)
-read_once file xs ys begun reads = inr (ys, ap (λ acts. acts ++ ys) begun, reads)
 
 -- ---- files one after another
 

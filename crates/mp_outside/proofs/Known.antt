@@ -27,13 +27,6 @@ grows_begun (Some xs) None c text m h k = absurd h
 grows_begun (Some xs) (Some ys) None text m h k = tt
 grows_begun (Some xs) (Some ys) (Some zs) text m h k = (m + k.0, k.1 ∙ ap (λ s. s ++ take k.0 (take (length text - m) (drop m text))) h ∙ beginnings xs text m k.0)
 
--- one text after another
-pub grows_on : (a b c : Option (List ℕ)) (x y : List ℕ) → Appends a b x → Appends b c y → Appends a c (x ++ y)
-grows_on None b c x y h k = tt
-grows_on (Some xs) None c x y h k = absurd h
-grows_on (Some xs) (Some ys) None x y h k = absurd k
-grows_on (Some xs) (Some ys) (Some zs) x y h k = k ∙ ap (λ s. s ++ y) h ∙ append_assoc xs x y
-
 take_front : (k : ℕ) (y z : List ℕ) → take (min k (length y)) (y ++ z) ≡ take k y
 take_front k y z = grind (arith, common_steps)
 

@@ -1,5 +1,5 @@
 -- Known bytes that get fewer, from the front.
-use Rattle.std.proofs.Common.{ℕ, ◌+◌, ◌≤◌, List, ◌++◌, append_assoc, length, drop, Option, Some, None, refl, sym, ap, ◌∙◌, arith}
+use Rattle.std.proofs.Common.{ℕ, ◌+◌, ◌≤◌, List, ◌++◌, append_assoc, length, drop, Option, Some, None, sym, ap, ◌∙◌, arith}
 use Rattle.std.proofs.Math.Seq.{drop-append-add, drop-append_seam}
 use Rattle.std.specs.Io.KnownBytes.{Consumes}
 use Rattle.mp_outside.specs.Source.{LosesAtMost}
@@ -18,11 +18,6 @@ loses_more (Some xs) (Some ys) None taken m n h lost le = absurd lost
 loses_more (Some xs) (Some ys) (Some zs) taken m n h lost le =
     let few : lost.0 ≤ m = lost.1 in
     (length taken + lost.0, omega arith, lost.2 ∙ sym (ap (drop (length taken + lost.0)) h ∙ drop-append-add taken ys lost.0))
-
--- nothing is gone
-pub loses_none : (a : Option (List ℕ)) (n : ℕ) → LosesAtMost a a n
-loses_none None n = tt
-loses_none (Some xs) n = (0, omega arith, refl)
 
 -- what was taken, and what was taken then
 pub consumes_more : (a b c : Option (List ℕ)) (taken more : List ℕ) → Consumes a b taken → Consumes b c more → Consumes a c (taken ++ more)

@@ -1,5 +1,5 @@
 -- What a source in memory notes of the acts that are done at it.
-use Rattle.std.specs.Prelude.{ℕ, Bool, true, false, List, [], map, Option, Some, None}
+use Rattle.std.specs.Prelude.{Bool, true, false, List, [], map, Option, Some, None}
 use Rattle.std.specs.Option.{unwrap_or}
 use Rattle.mp_outside.specs.Acts.{Act}
 use Rattle.mp_outside.specs.Acts.Act.{began, took}

@@ -113,19 +113,11 @@ skip_more n f g m same fails first i = ⊎_elim
     (λ other. first i ∙ narrow i n f g other (same i))
     (cases_eq i n)
 
-pub no_bits : (n : ℕ) (f : ℕ → Bool) → ((i : ℕ) → (ltb i n && f i) ≡ false) → FirstBits n f 0
-no_bits n f none i = bit-zero i ∙ sym (none i)
-
 -- sets of facts
 
 pub shows_same : (pattern : List ℕ) (f g : ℕ → Bool) (m : ℕ) → ((x : ℕ) → f x ≡ g x) → Shows pattern f m → Shows pattern g m
 shows_same pattern f g m same shows = record {
   bits = λ i. shows.bits i ∙ ap (λ b. ltb i (length pattern) && b) (same (get_or pattern i 0));
-}
-
-pub shows_none : (pattern : List ℕ) (f : ℕ → Bool) → ((x : ℕ) → f x ≡ false) → Shows pattern f 0
-shows_none pattern f none = record {
-  bits = no_bits (length pattern) (λ i. f (get_or pattern i 0)) (λ i. and_right (ltb i (length pattern)) (f (get_or pattern i 0)) (none (get_or pattern i 0)));
 }
 
 pub shows_or : (pattern : List ℕ) (f g : ℕ → Bool) (a b : ℕ) → Shows pattern f a → Shows pattern g b → Shows pattern (λ x. f x || g x) (bit_or a b)
@@ -138,24 +130,6 @@ shows_or pattern f g a b left right = record {
     both : (l x y : Bool) → ((l && x) || (l && y)) ≡ (l && (x || y))
     both true x y = refl
     both false x y = refl
-
-pub shows_without : (pattern : List ℕ) (f g : ℕ → Bool) (a b : ℕ) → length pattern ≤ 16 → b < 2 ^ 16 → Shows pattern f a → Shows pattern g b → Shows pattern (λ x. f x && not (g x)) (bit_and a (bit_not w16 b))
-shows_without pattern f g a b few fits left right = record {
-  bits = λ i. bit-and a (bit_not w16 b) i ∙ by i (cases_lt i 16);
-}
-  where
-    both : (l x y : Bool) → ((l && x) && not (l && y)) ≡ (l && (x && not y))
-    both true x y = refl
-    both false x y = refl
-
-    by : (i : ℕ) → (i < 16) ⊎ (16 ≤ i) → (bit a i && bit (bit_not w16 b) i) ≡ (ltb i (length pattern) && (f (get_or pattern i 0) && not (g (get_or pattern i 0))))
-    by i (inl h) =
-        (λ j. left.bits i j && (bit-not b i fits h ∙ ap not (right.bits i)) j)
-        ∙ both (ltb i (length pattern)) (f (get_or pattern i 0)) (g (get_or pattern i 0))
-    by i (inr h) =
-        let past : ltb i (length pattern) ≡ false = le-ltb i (length pattern) (omega arith) in
-        ap (λ y. y && bit (bit_not w16 b) i) (left.bits i) ∙ ap (λ l. (l && f (get_or pattern i 0)) && bit (bit_not w16 b) i) past
-        ∙ sym (ap (λ l. l && (f (get_or pattern i 0) && not (g (get_or pattern i 0)))) past)
 
 pub shows_below : (pattern : List ℕ) (f : ℕ → Bool) (m : ℕ) → Shows pattern f m → m < 2 ^ length pattern
 shows_below pattern f m shows =

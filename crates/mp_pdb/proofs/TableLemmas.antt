@@ -1,11 +1,11 @@
 -- Numbers and the queue of a table that is being settled.
-use Rattle.std.proofs.Common.{◌≡◌, ℕ, ◌+◌, ◌-◌, ◌^◌, ◌<◌, ◌≤◌, min, Some, option_map, List, ◌∷◌, All, Contains, IsTrue, sym, ap, ◌∙◌, subst, ⊎_elim, arith}
+use Rattle.std.proofs.Common.{◌≡◌, ℕ, ◌+◌, ◌-◌, ◌^◌, ◌<◌, ◌≤◌, min, Some, option_map, List, ◌∷◌, Contains, IsTrue, sym, ap, ◌∙◌, subst, ⊎_elim, arith}
 use Rattle.std.proofs.lemmas.Bool.{cases_eq, cases_order, cases_lt}
 use Rattle.std.specs.List.Sorted.{IsPermutation}
 use Rattle.std.specs.Prelude.{bit_and, bit_or}
 use Rattle.mp_estimates.specs.Estimates.{AtMost, Values}
 use Rattle.mp_estimates.specs.Laws.Order.{AtMost-trans, plus-mono}
-use Rattle.mp_estimates.proofs.LoweringLemmas.{known-none, known-some, popped_quiet, none_at}
+use Rattle.mp_estimates.proofs.LoweringLemmas.{known-none, known-some, popped_quiet}
 use Rattle.mp_pdb.specs.declared.moves.Move.{Move}
 use Rattle.mp_pdb.specs.Moves.{after_move, has_all}
 use Rattle.mp_estimates.specs.Lowering.{unknown, known, number_at, Key, key, HaveFallen}
@@ -33,15 +33,6 @@ served_settled size numbers queue rest cost x new after move mask popped is fall
     let lower = fallen.lower mask in
     omega arith)
     (cases_eq (after_move move mask) x)
-
--- each set is served where what has a number waits
-pub served_begin : (old : List ℕ) (before : List Key) (new : List ℕ) (after : List Key) (move : Move) (mask : ℕ) → All (λ n. n ≡ unknown) old → HaveFallen old before new after → IsServed new after move mask
-served_begin old before new after move mask none fallen ready still =
-    let same = (fallen.quiet (after_move move mask) still).0 in
-    let there = none_at old none (after_move move mask) in
-    let here = none_at old none mask in
-    let lower = fallen.lower mask in
-    omega arith
 
 -- values that moves keep low are at most the numbers by a move
 pub low_by_move : (size : ℕ) (moves : List Move) (values : Values) (move : Move) (mask to number cost : ℕ) → AreLow size moves values → Contains moves move → mask < size → IsTrue (has_all mask move.pre) → after_move move mask ≡ to → AtMost (values to) (known number) → cost ≡ min (move.cost + number) unknown → AtMost (values mask) (known cost)

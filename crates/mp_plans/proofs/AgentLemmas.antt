@@ -1,21 +1,17 @@
 -- The steps of one agent more.
-use Rattle.std.proofs.Common.{◌≡◌, refl, sym, ap, ◌∙◌, subst, ℕ, suc, ◌+◌, ◌-◌, ◌<◌, ◌≤◌, true, false, List, [], ◌∷◌, ◌++◌, length, drop, append_assoc, arith}
+use Rattle.std.proofs.Common.{◌≡◌, refl, sym, ap, ◌∙◌, ℕ, suc, ◌+◌, ◌-◌, ◌<◌, true, false, List, ◌∷◌, ◌++◌, length, drop, append_assoc, arith}
 use Rattle.std.specs.Prelude.{Result, Ok, Err}
 use Rattle.mp_text.specs.Lines.{Text}
 use Rattle.mp_text.specs.declared.schedule.LineRefusal.{LineRefusal}
 use Rattle.mp_text.specs.declared.schedule.LineRefusal.TheVariants.{Line, OutOfMemory}
 use Rattle.mp_plans.specs.declared.line.TimedStep.{TimedStep}
-use Rattle.mp_plans.specs.Lines.{is_agent_line, whole_lines}
+use Rattle.mp_plans.specs.Lines.{is_agent_line}
 use Rattle.mp_plans.specs.Plan.{Refuses, agents_of, own_steps, with_steps}
 
 pub with_more : (one other : List TimedStep) (read : Result (List TimedStep) ℕ)
     → with_steps (one ++ other) read ≡ with_steps one (with_steps other read)
 with_more one other (Ok later) = ap Ok (append_assoc one other later)
 with_more one other (Err refused) = refl
-
-pub with_none : (read : Result (List TimedStep) ℕ) → with_steps [] read ≡ read
-with_none (Ok later) = refl
-with_none (Err refused) = refl
 
 -- behind an agent's line and its steps, what is left goes on with the next agent
 pub agent_more : (more agent most number next : ℕ) (old new : List TimedStep) (line : Text) (text later left : List Text)
@@ -53,16 +49,3 @@ goes_on agents agent most number next old new text left whole within found known
     found ((agents + 1) - (agent + 1))
     ∙ ap (λ k. with_steps old (agents_of k agent most number text)) (sym left_over)
     ∙ known
-
--- and what is refused there is refused
-pub refused_there : (refusal : LineRefusal) (agents agent most number : ℕ) (old : List TimedStep) (text : List Text) (whole : Result (List TimedStep) ℕ)
-    → agent < agents + 1
-    → ((more : ℕ) → Refuses refusal (agents_of (suc more) agent most number text))
-    → with_steps old (agents_of ((agents + 1) - agent) agent most number text) ≡ whole
-    → Refuses refusal whole
-refused_there refusal agents agent most number old text whole within refused known =
-    let left_over : (agents + 1) - agent ≡ suc ((agents + 1) - (agent + 1)) = omega arith in
-    let there = refused ((agents + 1) - (agent + 1)) in
-    let P : ℕ → Type 0 = λ k. Refuses refusal (agents_of k agent most number text) in
-    let Q : Result (List TimedStep) ℕ → Type 0 = Refuses refusal in
-    subst Q known (refused_behind refusal old _ (subst P (sym left_over) there))

@@ -1,6 +1,6 @@
 -- Steps at the places of their times are the steps of these times.
-use Rattle.std.proofs.Common.{◌≡◌, refl, sym, ap, ◌∙◌, subst, ℕ, zero, suc, ◌+◌, ◌-◌, ◌<◌, ◌≤◌, ◌==◌, Bool, true, false, cond, ◌&&◌, List, [], ◌∷◌, length, map, replicate, Option, Some, None, arith}
-use Rattle.std.specs.Prelude.{find, nat_le, slice_get, slice_set, Result, IfOk}
+use Rattle.std.proofs.Common.{◌≡◌, refl, sym, ap, ◌∙◌, subst, ℕ, zero, suc, ◌+◌, ◌-◌, ◌<◌, ◌==◌, Bool, true, false, cond, ◌&&◌, List, [], ◌∷◌, length, map, Option, Some, None, arith}
+use Rattle.std.specs.Prelude.{find, nat_le, slice_set, Result, IfOk}
 use Rattle.std.specs.List.{range_with_len}
 use Rattle.std.specs.Option.{option_map}
 use Rattle.std.proofs.lemmas.Bool.{eq-eqb, le-leb, ne_eqb}
@@ -8,7 +8,7 @@ use Rattle.mp_joint.specs.declared.plan.PlanStep.{PlanStep}
 use Rattle.mp_text.specs.Reading.{either}
 use Rattle.mp_plans.specs.declared.line.TimedStep.{TimedStep}
 use Rattle.mp_plans.specs.Plan.{all_there, in_order, step_at}
-use Rattle.mp_plans.specs.Slots.{is_free, is_free_slot, no_steps, placed, with_timed}
+use Rattle.mp_plans.specs.Slots.{is_free, no_steps, placed}
 
 either_none : (known : Option PlanStep) → either known None ≡ known
 either_none None = refl

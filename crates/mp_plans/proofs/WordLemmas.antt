@@ -1,5 +1,5 @@
 -- The first word of a text, and the words behind it.
-use Rattle.std.proofs.Common.{◌≡◌, refl, sym, ap, ◌∙◌, ℕ, ◌+◌, ◌-◌, ◌<◌, ◌≤◌, ◌==◌, Bool, true, false, List, [], ◌∷◌, take, drop, length, one-add, arith}
+use Rattle.std.proofs.Common.{◌≡◌, refl, sym, ap, ◌∙◌, ℕ, ◌-◌, ◌<◌, ◌≤◌, Bool, true, false, List, [], ◌∷◌, take, drop, length, one-add, arith}
 use Rattle.std.specs.List.{onto_first, prefix_len, slice_split}
 use Rattle.mp_text.specs.Lines.{Text}
 use Rattle.mp_plans.specs.Names.{is_blank, is_within_word}

@@ -63,12 +63,6 @@ all_back last (e ∷ es) rows has =
     let others = subst (λ n. All (HasQueue n) es) (sym (mail_keeps (suc last) e rows)) (All-tail (HasQueue (length rows)) e es has) in
     ap (without_mail e) (all_back (suc last) es more others) ∙ one_back (suc last) e rows first
 
--- there are queues for a batch that may be signed
-pub queue_of : (agents by : ℕ) (e : Entry) → 1 ≤ agents → IsSignable agents by e → HasQueue agents e
-queue_of agents by (Act agent kind) few is = tt
-queue_of agents by (Put from to bytes) few is = let low = is.1.of_team.from_1 in let high = is.1.of_team.at_most in omega arith
-queue_of agents by (Took agent from bytes) few is = tt
-
 -- messages that join one by one are those that a batch puts
 same_rows : (from n : ℕ) (a b : List Stamped) (rows : List (List Mail)) → ((to : ℕ) → puts from to a ≡ puts from to b)
     → with_puts_from from n a rows ≡ with_puts_from from n b rows

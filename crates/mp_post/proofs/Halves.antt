@@ -5,7 +5,7 @@ use Rattle.std.specs.Option.{option_map}
 use Rattle.mp_messages.specs.declared.history.Entry.{Entry}
 use Rattle.mp_stamps.specs.Lists.{clock}
 use Rattle.mp_stamps.specs.declared.stamped.Stamped.{Stamped}
-use Rattle.mp_post_rule.specs.Queues.{IsSignable, stamped_after, waiting_for, with_puts, without_oldest}
+use Rattle.mp_post_rule.specs.Queues.{IsSignable, stamped_after, waiting_for, with_puts}
 use Rattle.mp_post_rule.specs.Kinds.{Seated}
 use Rattle.mp_post_rule.specs.Table.{Holds}
 use Rattle.mp_post_rule.specs.Views.{after_receipt, after_release, after_signing, after_take, found, list_at, party_at, receipt_at, receipt_of, with_batch, with_receipt, with_value}
@@ -40,11 +40,6 @@ signed_list by batch list new v w has e is = (
   ap (λ u. u.parties) e ∙ ap (λ o. set v.parties (by - 1) (option_map (with_batch batch) o)) has.1,
   is ∙ ap (λ l. l ++ stamped_after (clock l) batch) has.2,
 )
-
--- a receipt is signed
-pub received_turn : (by from : ℕ) (kept : Kept) (v w : View)
-    → Holds from kept v → w ≡ after_receipt by v → Holds from (without_oldest by kept) w
-received_turn by from kept v w holds e = ap (λ u. u.turn) e ∙ ap (option_map (with_value (without_oldest by))) holds
 
 pub received_list : (by from : ℕ) (kept : Kept) (list new : List Stamped) (v w : View)
     → HasList by list v → Holds from kept v → w ≡ after_release (after_receipt by v)

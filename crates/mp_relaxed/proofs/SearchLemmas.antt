@@ -44,19 +44,7 @@ known-max m n = ⊎_elim
     (λ h. known-none (max m n) (omega arith) ∙ sym (ap (λ a. greater a (known n)) (known-none m h)))
     (cases_lt m unknown)
 
-pub greatest_step : (numbers : List ℕ) (x most : ℕ) (rest : List ℕ) (whole : Option ℕ) → greater (known most) (greatest (value_at numbers) (x ∷ rest)) ≡ whole → greater (known (max most (number_at numbers x))) (greatest (value_at numbers) rest) ≡ whole
-greatest_step numbers x most rest whole e =
-    ap (λ a. greater a (greatest (value_at numbers) rest)) (known-max most (number_at numbers x))
-    ∙ greater-assoc (known most) (value_at numbers x) (greatest (value_at numbers) rest) ∙ e
-
 -- numbers that stay
-
-pub stayed_refl : (n : ℕ) (numbers : List ℕ) (queue : List Key) → HaveStayed n numbers queue numbers queue
-stayed_refl n numbers queue = record {
-  same = λ x low. refl;
-  calm = λ x low h. h;
-  above = λ h. h;
-}
 
 pub stayed_trans : (n : ℕ) (a : List ℕ) (p : List Key) (b : List ℕ) (q : List Key) (c : List ℕ) (r : List Key) → HaveStayed n a p b q → HaveStayed n b q c r → HaveStayed n a p c r
 stayed_trans n a p b q c r h k = record {
@@ -110,12 +98,6 @@ served_kept os old before new after k fallen served quiet =
 pub cost_is : (numbers : List ℕ) (o : Operator) (most : ℕ) → known most ≡ greatest (value_at numbers) o.pre → o.cost + most < unknown → cost_by (value_at numbers) o ≡ Some (o.cost + most)
 cost_is numbers o most e less =
     ap (option_map (λ h. o.cost + h)) (sym (sym (known-some most (omega arith)) ∙ e))
-
-pub cost_is_none : (numbers : List ℕ) (o : Operator) (most : ℕ) → known most ≡ greatest (value_at numbers) o.pre → unknown ≤ o.cost + most → capped (cost_by (value_at numbers) o) ≡ None
-cost_is_none numbers o most e more = ⊎_elim
-    (λ h. ap (λ a. capped (option_map (λ h. o.cost + h) a)) (sym (sym (known-some most h) ∙ e)) ∙ known-none (o.cost + most) more)
-    (λ h. ap (λ a. capped (option_map (λ h. o.cost + h) a)) (sym (sym (known-none most h) ∙ e)))
-    (cases_lt most unknown)
 
 -- an operator by which its adds have no cost is served
 pub none_served : (os : List Operator) (numbers : List ℕ) (queue : List Key) (k : ℕ) → capped (cost_by (value_at numbers) (operator_at os k)) ≡ None → IsServed os numbers queue k

@@ -1,19 +1,11 @@
 -- Numbers of operators in the lists of their preconditions.
 use Rattle.std.proofs.Common.{◌≡◌, ◌≢◌, ℕ, ◌+◌, ◌<◌, ◌≤◌, true, false, eqb, List, [], ◌∷◌, ◌++◌, length, get_or, take, All, Contains, refl, sym, ap, ◌∙◌, subst, ⊎_elim, get_or-set_same, get_or-set_other, arith}
 use Rattle.std.proofs.Math.ListN.{set as set_at}
-use Rattle.std.proofs.lemmas.Bool.{cases_eq, cases_lt, eqb-true, eqb-false}
-use Rattle.std.proofs.lemmas.List.{take_more, length-set, get_or_default, get_or_past}
+use Rattle.std.proofs.lemmas.Bool.{cases_eq, eqb-true, eqb-false}
+use Rattle.std.proofs.lemmas.List.{take_more, length-set, get_or_default}
 use Rattle.std.proofs.lemmas.List.Elements.{All-nil, All-set, All-push, All-get_or, Contains-append_left, Contains-append_right}
 use Rattle.mp_relaxed.specs.Users.{AreFree, AreUsers, Takes, times}
 use Rattle.mp_relaxed.proofs.TimesLemmas.{times-append, times_same, times_other}
-
-pub takes_none : (old : List (List ℕ)) (places : List ℕ) (n : ℕ) → Takes old (take 0 places) n old
-takes_none old places n = record {
-  as_many = refl;
-  kept = λ x k ne. refl;
-  taken = λ x. omega arith;
-  bounded = λ m lt h. h;
-}
 
 module _ (old new : List (List ℕ)) (places : List ℕ) (n i x : ℕ) (so_far : Takes old (take i places) n new) (within : i < length places) (is : x ≡ get_or places i 0) (inside : x < length new) where
   grown : List ℕ
@@ -86,20 +78,6 @@ pub record Noted (size : ℕ) (rows : List (List ℕ)) (n : ℕ) (lists : List (
   pub rows_alone : All (All (λ k. k < length rows)) lists
   pub all : (k x : ℕ) → k < n → times x (get_or rows k []) ≡ times k (get_or lists x [])
   pub later : (k x : ℕ) → n ≤ k → times k (get_or lists x []) ≡ 0
-
-empty_at : (lists : List (List ℕ)) → All (λ l. l ≡ []) lists → (x : ℕ) → get_or lists x [] ≡ []
-empty_at lists none x = ⊎_elim
-    (λ lt. none x [] lt)
-    (λ le. get_or_past lists x [] le)
-    (cases_lt x (length lists))
-
-pub noted_none : (size : ℕ) (rows lists : List (List ℕ)) → length lists ≡ size → All (λ l. l ≡ []) lists → Noted size rows 0 lists
-noted_none size rows lists sized none = record {
-  sized = sized;
-  rows_alone = λ i d h. subst (All (λ k. k < length rows)) (sym (none i d h)) (λ j e lt. absurd (omega arith));
-  all = λ k x lt. absurd (omega arith);
-  later = λ k x le. ap (times k) (empty_at lists none x);
-}
 
 pub noted_more : (size : ℕ) (rows lists new : List (List ℕ)) (n : ℕ) → Noted size rows n lists → n < length rows → Takes lists (get_or rows n []) n new → Noted size rows (n + 1) new
 noted_more size rows lists new n noted within takes = record {

@@ -146,19 +146,6 @@ no_rows words links heads no_links no_heads =
       small = lit< tt;
     }
 
--- other buckets of the same rows
-pub rows_like : (words : List ℕ) (links others : List Link) (heads more : List ℕ) → AreRows words links heads → places others ≡ places links → AreChained more others (length others)
-    → (0 < length heads → 0 < length more) → length more < 2 ^ 32 → AreRows words others more
-rows_like words links others heads more rows same chained some few =
-    let long : length others ≡ length links = sym (places_long others) ∙ ap (λ (ps : List (ℕ × (ℕ × ℕ))). length ps) same ∙ places_long links in
-    record {
-      placed = subst (ArePlaced words) (sym same) rows.placed;
-      chained = chained;
-      some = λ h. some (rows.some (let e = long in omega (arith, h, e)));
-      few = few;
-      small = (let e = long in let old = rows.small in omega (arith, old, e));
-    }
-
 -- one row more
 pub rows_added : (words row : List ℕ) (links others : List Link) (heads more : List ℕ) → AreRows words links heads → IsNew row (rows_at words (places links))
     → places others ≡ places links ++ place_of_next words row ∷ [] → AreChained more others (length others) → 0 < length more → length more < 2 ^ 32 → length links + 1 < 2 ^ 32

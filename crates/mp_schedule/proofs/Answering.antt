@@ -20,17 +20,6 @@ use Rattle.mp_schedule.specs.TeamRun.{IsSameTeam, TeamRun}
 use Rattle.mp_schedule.specs.UnderWay.{Mail}
 use Rattle.mp_schedule.proofs.Goes.{run_again, schedule_more, team_again}
 
--- where something speaks against it, it is not
-pub something_against : (w : World) (event : Event) (refusal : EventRefusal)
-    → refusal_of w event ≡ Some refusal → is_legal w event ≡ false
-something_against w event refusal some = by (agent_may w event) refl (has_message w event) refl
-  where
-    by : (p : Bool) → agent_may w event ≡ p → (q : Bool) → has_message w event ≡ q → is_legal w event ≡ false
-    by true may true there = let same : None ≡ Some refusal = rw (may, there) at some in absurd
-        (let impossible : ⊥ = cc in impossible)
-    by true may false there = rw (may, there) refl
-    by false may q there = rw may refl
-
 -- what a refusal says of the run after it
 abbrev Refuses : TeamRun → Result (Unit {0}) EventRefusal → TeamRun → Option EventRefusal → Type 0
 Refuses old answer new o = IfSome o (λ refusal. (answer ≡ Err refusal) × (new ≡ old))

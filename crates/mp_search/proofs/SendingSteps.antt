@@ -19,14 +19,12 @@ use Rattle.mp_search.specs.AgentState.{AgentState, applies, same_state, successo
 use Rattle.mp_search.specs.Concern.{is_receiver, one_if, receivers, IsFirstReceiver}
 use Rattle.mp_search.specs.Expansion.{Parent, with_action, with_successor}
 use Rattle.mp_search.specs.Offering.{offered_at, own_value}
-use Rattle.mp_search.specs.declared.reached.Reached.{Reached}
 use Rattle.mp_store.specs.declared.entry.Origin.TheVariants.{Own}
 use Rattle.mp_task.specs.declared.act.Act.{Act}
-use Rattle.mp_task.specs.Limits.{ActFits}
 use Rattle.std.specs.List.{filter, range_with_len}
 use Rattle.mp_search.specs.Search.{sent_sets, tokens_given}
 use Rattle.mp_search.specs.Sending.{message_of_entry, sending_of, sent_entry_of, sent_if_due}
-use Rattle.mp_search.specs.StateKeys.{HasSizes, IsMessageOf, IsSent, IsShown, KeptStates, used_after}
+use Rattle.mp_search.specs.StateKeys.{IsMessageOf, IsSent, IsShown, KeptStates, used_after}
 use Rattle.mp_search.specs.Steps.{AreStatesOf, HaveSent}
 use Rattle.mp_search.proofs.SentSets.{more_sets, order_more, same_entries, unsent_sets}
 
@@ -175,11 +173,6 @@ entry_inside (x ∷ xs) (suc n) h = entry_inside xs n (omega arith)
 pub on_ok : {A E : Type 0} (res : Result A E) (P Q : Type 0) → OnOk res P → (P → Q) → OnOk res Q
 on_ok (Ok x) P Q holds more = more holds
 on_ok (Err e) P Q holds more = tt
-
--- an action fits a state as it fits its task
-pub fits_state : (publics privates : ℕ) (x : Reached) (act : Act) → HasSizes publics privates x → ActFits publics privates act → ActFits x.key.publics.size x.mine.size act
-fits_state publics privates x act sizes fits =
-    subst (λ (p : ℕ). ActFits p x.mine.size act) (sym sizes.publics_size) (subst (λ (q : ℕ). ActFits publics q act) (sym sizes.privates_size) fits)
 
 -- the agents up to one more that pass a test
 pub numbers_more : (p : ℕ → Bool) (n : ℕ) → filter p (range_with_len 1 (n + 1)) ≡ filter p (range_with_len 1 n) ++ one_if (p (n + 1)) (n + 1)

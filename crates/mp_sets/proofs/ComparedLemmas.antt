@@ -1,7 +1,7 @@
 -- Sets are equal exactly where their sizes and members are, and compare equal exactly there.
 use Rattle.std.proofs.Common.{◌≡◌, ℕ, zero, suc, ◌+◌, ◌-◌, ◌*◌, ◌/◌, ◌%◌, ◌^◌, ◌<◌, ◌≤◌, Bool, true, false, cond, ◌&&◌, ◌||◌, eqb, ltb, List, [], ◌∷◌, get_or, refl, sym, ap, ◌∙◌, inl, inr, subst, arith, eq-eqb, ne_eqb, eqb-true, Ordering, Less, Equal, Greater}
 use Rattle.std.proofs.Math.Nat.{two-pow-succ}
-use Rattle.std.proofs.lemmas.Bool.{cases_eq, cases_lt, and_parts, and_from, false≢true, false_from_ne_true, lt-ltb, le-ltb}
+use Rattle.std.proofs.lemmas.Bool.{cases_eq, cases_lt, and_parts, and_from, false≢true, lt-ltb, le-ltb}
 use Rattle.std.proofs.lemmas.Bool.Decides.{nat_tests}
 use Rattle.std.proofs.lemmas.Nat.{pow_pos}
 use Rattle.std.proofs.lemmas.Nat.Bits.{bit_at-lt, bit_at_above, bit_at_cat_low, bit_at_cat_high, bit_at-zero, same_from_bits}
@@ -133,12 +133,6 @@ Decides-sized_cmp s t =
 
     tie : (s t : SizedSet) → eq_by_cmp sized_cmp s t ≡ sized_eq s t
     tie s t = both (nat_cmp s.size t.size) _ ∙ (λ i. unsigned_tied s.size t.size i && unsigned_tied (binary s.members) (binary t.members) i)
-
-pub sized_eq-other : (s t : SizedSet) → (s ≡ t → ⊥) → sized_eq s t ≡ false
-sized_eq-other s t other = false_from_ne_true (sized_eq s t) (λ e. other (sized_eq_is s t e))
-
-pub sized_cmp-other : (s t : SizedSet) → (s ≡ t → ⊥) → eq_by_cmp sized_cmp s t ≡ false
-sized_cmp-other s t other = false_from_ne_true (eq_by_cmp sized_cmp s t) (λ e. other ((Decides-sized_cmp s t).0 e))
 
 -- the digits in base 2 ^ 64 of a set's number are its words
 as_bit : (w i : ℕ) → bit_at w i ≡ one_if (eqb (bit_at w i) 1)

@@ -1,6 +1,6 @@
 -- What follows from the definitions of `holds`, `after` and `listed`, for the crates above.
-use Rattle.std.proofs.Common.{◌≡◌, ℕ, zero, suc, ◌<◌, Bool, true, false, cond, not, ◌&&◌, ◌||◌, ltb, eqb, List, [], ◌∷◌, length, get_or, All, refl, sym, ap, ◌∙◌, subst, arith}
-use Rattle.std.proofs.lemmas.Bool.{false≢true, and_parts, and_from, eqb-true, eq-eqb, lt-ltb, or_right}
+use Rattle.std.proofs.Common.{◌≡◌, ℕ, zero, suc, ◌<◌, Bool, true, false, cond, not, ◌&&◌, ◌||◌, eqb, List, [], ◌∷◌, length, get_or, All, refl, sym, ap, ◌∙◌, subst, arith}
+use Rattle.std.proofs.lemmas.Bool.{false≢true, and_parts, and_from, eqb-true, eq-eqb, or_right}
 use Rattle.std.proofs.lemmas.Bool.Decides.{nat_tests}
 use Rattle.std.proofs.lemmas.List.Kept.{AllPairs-from_increasing}
 use Rattle.std.specs.List.{AllPairs, filter, list_any}
@@ -9,7 +9,7 @@ use Rattle.std.specs.Cmp.{nat_cmp_total}
 use Rattle.std.specs.FinSet as set
 use Rattle.mp_sets.specs.Numbers.{Numbers, SizedSet, holds, after, listed}
 use Rattle.mp_sets.proofs.SetLemmas.{same_numbers}
-use Rattle.mp_sets.proofs.ListedLemmas.{passing-IsStrictlyIncreasing, list_any-passing}
+use Rattle.mp_sets.proofs.ListedLemmas.{passing-IsStrictlyIncreasing}
 
 -- what holds of all numbers of a list holds of each one that is in it
 pub All_at : (P : ℕ → Type 0) (xs : List ℕ) (q : ℕ) → All P xs → list_any (λ y. eqb y q) xs ≡ true → P q
@@ -89,9 +89,6 @@ after-without_adds s del add =
     without true false a = refl
     without false d a = refl
 
-pub after-empty : (xs : List ℕ) → after set.empty [] xs ≡ set.from_list xs
-after-empty xs = same_numbers _ _ (λ q. contains-after set.empty [] xs q ∙ ap (λ b. (b && true) || list_any (λ y. eqb y q) xs) (set.contains-empty _ q) ∙ sym (set.contains-from_list_nat xs q))
-
 pub union-empty : (s : Numbers) → set.union set.empty s ≡ s
 union-empty s = same_numbers _ _ (λ q. set.contains-union nat_cmp_total set.empty s q ∙ ap (λ b. b || set.contains s q) (set.contains-empty _ q))
 
@@ -126,17 +123,6 @@ pairs_unique (x ∷ xs) (y ∷ ys) p r same =
 
 pub rising_unique : (xs ys : List ℕ) → IsStrictlyIncreasing xs → IsStrictlyIncreasing ys → ((q : ℕ) → list_any (λ y. eqb y q) xs ≡ list_any (λ y. eqb y q) ys) → xs ≡ ys
 rising_unique xs ys p r same = pairs_unique xs ys (AllPairs-from_increasing xs p) (AllPairs-from_increasing ys r) same
-
--- the list of the set of a list that rises is the list
-pub listed-from_list : (n : ℕ) (xs : List ℕ) → IsStrictlyIncreasing xs → All (λ x. x < n) xs → listed (record { size = n; members = set.from_list xs }) ≡ xs
-listed-from_list n xs rising below =
-    rising_unique _ xs (passing-IsStrictlyIncreasing _ n) rising (λ q.
-    list_any-passing _ n q ∙ ap (λ b. ltb q n && b) (set.contains-from_list_nat xs q) ∙ within (ltb q n) (list_any (λ y. eqb y q) xs) (λ here. lt-ltb q n (All_at (λ x. x < n) xs q below here)))
-  where
-    within : (a b : Bool) → (b ≡ true → a ≡ true) → (a && b) ≡ b
-    within true b h = refl
-    within false true h = h refl
-    within false false h = refl
 
 pub listed-IsStrictlyIncreasing : (s : SizedSet) → IsStrictlyIncreasing (listed s)
 listed-IsStrictlyIncreasing s = passing-IsStrictlyIncreasing _ s.size

@@ -236,11 +236,6 @@ some_word bs b h = elim (cases_Bool (is_word b)) [
   | inr e ↦ (let none : prefix_len is_word (b ∷ bs) ≡ 0 = ap (λ (v : Bool). cond v (1 + prefix_len is_word bs) 0) e in absurd (omega (arith, h, none)))
 ]
 
-pub word_first : (bs : List ℕ) (b : ℕ) → kind_of b ≡ kinds.Word → 0 < prefix_len is_word (b ∷ bs)
-word_first bs b k =
-    let some : prefix_len is_word (b ∷ bs) ≡ 1 + prefix_len is_word bs = ap (λ (j : Kind). cond (is_word_kind j) (1 + prefix_len is_word bs) 0) k in
-    omega (arith, some)
-
 word_read : (members : List Node) (level : Level) (around : List Level) (at : Place) (b : ℕ) (bs : List ℕ) → is_word b ≡ true
     → let n = prefix_len is_word (b ∷ bs) in
     run (reading parts.Gap members (level ∷ around)) at (b ∷ bs) ≡ behind (with_word members (folded (take n (b ∷ bs))) at (level ∷ around)) at (b ∷ bs) n
@@ -354,9 +349,6 @@ pub foreign_refused : (members : List Node) (around : List Level) (at : Place) (
     → run (reading parts.Gap members around) at text ≡ Err (refusals.Char at)
 foreign_refused members around at text some k =
     ap (λ (all : List ℕ). run (reading parts.Gap members around) at all) (text_parts text some) ∙ foreign_fails members around at (first text) (others text) k
-
-pub word_begins : (text : List ℕ) → 0 < length text → kind_of (first text) ≡ kinds.Word → 0 < prefix_len is_word text
-word_begins text some k = subst (λ (all : List ℕ). 0 < prefix_len is_word all) (sym (text_parts text some)) (word_first (others text) (first text) k)
 
 -- ---- the end of the text, and a refusal before it
 

@@ -1,5 +1,5 @@
 -- The least of costs that may be missing.
-use Rattle.std.specs.Prelude.{ℕ, Bool, true, false, nat_le, List, [], ◌∷◌, Option, Some, None, if◌then◌else◌}
+use Rattle.std.specs.Prelude.{ℕ, nat_le, List, [], ◌∷◌, Option, Some, None, if◌then◌else◌}
 
 -- the lesser of two costs, where no cost is above every cost
 abbrev pub lesser : Option ℕ → Option ℕ → Option ℕ

@@ -5,7 +5,7 @@ use Rattle.std.proofs.lemmas.Option.{none-some, same_Some, slice_get_cases}
 use Rattle.mp_factor.specs.declared.factor.Factor.{Factor}
 use Rattle.mp_joint.specs.declared.plan.PlanStep.{PlanStep}
 use Rattle.mp_stands.specs.Numbering.{Numbering, steps_of}
-use Rattle.mp_stands.proofs.MemberLists.{from_map}
+use Rattle.mp_list.proofs.Members.{from_map}
 use Rattle.mp_grounder.specs.Named.{step_of}
 use Rattle.mp_ground.specs.declared.grounded.Ground.{Ground}
 use Rattle.mp_split.specs.Team.{AreTasksOf}

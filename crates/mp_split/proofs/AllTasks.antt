@@ -1,18 +1,6 @@
 -- The tasks that are made of a team's grounded factors are those of the team.
-use Rattle.std.proofs.Common.{◌≡◌, List, map, length, ap, ◌∙◌}
-use Rattle.std.specs.Prelude.{slice_get}
-use Rattle.std.specs.Simd.Lanes.{zip2}
-use Rattle.mp_factor.specs.declared.factor.Factor.{Factor}
-use Rattle.mp_joint.specs.Fact.{Text}
-use Rattle.mp_lifted.specs.declared.view.OpenView.{OpenView}
-use Rattle.mp_views.specs.Lines.{view_text}
-use Rattle.mp_views.specs.Opened.{open_view}
-use Rattle.mp_ground.specs.declared.grounded.Ground.{Ground}
-use Rattle.mp_split.specs.declared.team.Tasks.{Tasks}
-use Rattle.mp_split.specs.Begun.{AreBegun}
-use Rattle.mp_split.specs.Closed.{closed_view}
-use Rattle.mp_split.specs.TaskOf.{task_of}
-use Rattle.mp_split.specs.Team.{AreTasksOf, open_views}
+use Rattle.mp_split.proofs.Basics.{◌≡◌, List, map, length, ap, ◌∙◌, slice_get, zip2, Factor, Text, OpenView, view_text, open_view, Ground, Tasks, AreBegun, closed_view, task_of, open_views}
+use Rattle.mp_split.specs.Team.{AreTasksOf}
 use Rattle.mp_split.proofs.FirstAgents.{bytes_at, bytes_count}
 use Rattle.mp_split.proofs.Whole.{shown_of}
 

@@ -1,7 +1,6 @@
 -- What holds of each item of a list, by recursion.
-use Rattle.std.proofs.Common.{◌≡◌, ℕ, zero, suc, ◌<◌, ◌≤◌, Bool, true, false, cond, List, [], ◌∷◌, ◌++◌, map, length, get_or, All, arith}
-use Rattle.std.proofs.lemmas.List.Elements.{All-head, All-tail}
-use Rattle.std.specs.List.{AllByRecursion, filter, flat_map}
+use Rattle.mp_split.proofs.Basics.{◌≡◌, ℕ, zero, suc, ◌<◌, ◌≤◌, Bool, true, false, cond, List, [], ◌∷◌, ◌++◌, map, length, get_or, All, arith, All-head, All-tail, AllByRecursion, flat_map}
+use Rattle.std.specs.List.{filter}
 
 module _ {X : Type 0} where
   -- what follows for each item follows for all

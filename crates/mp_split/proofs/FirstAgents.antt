@@ -1,22 +1,11 @@
 -- The grounded factors of the first agents of a team, one more and all.
-use Rattle.std.proofs.Common.{arith, ◌≡◌, ℕ, zero, suc, ◌+◌, ◌<◌, ◌≤◌, List, [], ◌∷◌, ◌++◌, map, length, Some, refl, sym, ap, subst, ◌∙◌, ◌⊎◌, inl, inr, ⊎_elim, length-append}
-use Rattle.std.specs.Prelude.{slice_get}
-use Rattle.std.specs.Simd.Lanes.{zip2}
+use Rattle.mp_split.proofs.Basics.{arith, ◌≡◌, ℕ, zero, suc, ◌+◌, ◌<◌, ◌≤◌, List, [], ◌∷◌, ◌++◌, map, length, Some, refl, sym, ap, subst, ◌∙◌, inl, inr, length-append, slice_get, zip2, cases_lt, Factor, OpenView, view_text, open_view, Ground}
+use Rattle.mp_split.proofs.Basics.{IsGrounded, IsRefusedBy, IsWithin, KeepsLimits, AreBegun, closed_view, AreReadyFrom, IsReady, IsFirstRefusal, open_views}
+use Rattle.std.proofs.Common.{◌⊎◌, ⊎_elim}
 use Rattle.std.proofs.lemmas.Option.{slice_get_within}
-use Rattle.std.proofs.lemmas.Bool.{cases_lt}
-use Rattle.mp_factor.specs.declared.factor.Factor.{Factor}
-use Rattle.mp_lifted.specs.declared.view.OpenView.{OpenView}
-use Rattle.mp_views.specs.Lines.{view_text}
-use Rattle.mp_views.specs.Opened.{open_view}
-use Rattle.mp_ground.specs.declared.grounded.Ground.{Ground}
 use Rattle.mp_ground.specs.declared.refusal.GroundRefusal.{GroundRefusal}
 use Rattle.mp_ground.specs.declared.refusal.GroundRefusal.TheVariants.{OutOfMemory}
-use Rattle.mp_ground.specs.Grounded.{IsGrounded}
-use Rattle.mp_ground.specs.Limits.{IsRefusedBy, IsWithin, KeepsLimits}
-use Rattle.mp_split.specs.Begun.{AreBegun}
-use Rattle.mp_split.specs.Closed.{closed_view}
-use Rattle.mp_split.specs.Common.{AreReadyFrom, IsReady}
-use Rattle.mp_split.specs.Team.{IsFirstRefusal, known_at, open_views}
+use Rattle.mp_split.specs.Team.{known_at}
 use Rattle.mp_split.proofs.Showing.{ready}
 
 -- ---- places of lists

@@ -1,7 +1,6 @@
 -- What holds of the items of a list holds of those in order, and these are no more.
-use Rattle.std.proofs.Common.{arith, suc, ◌≤◌, List, [], ◌∷◌, length, sym, subst, Ordering, Less, Equal, Greater}
-use Rattle.std.specs.Cmp.{IsTotalOrder}
-use Rattle.std.specs.List.{AllByRecursion}
+use Rattle.mp_split.proofs.Basics.{arith, suc, ◌≤◌, List, [], ◌∷◌, length, sym, subst, Less, IsTotalOrder, AllByRecursion}
+use Rattle.std.proofs.Common.{Ordering, Equal, Greater}
 use Rattle.std.specs.Ordering.{match_ordering}
 use Rattle.std.specs.BTreeSet.{insert_key}
 use Rattle.mp_views.specs.Sorted.{sorted_by}

@@ -1,11 +1,5 @@
 -- Where the number at each place is that place, actions keep their numbers.
-use Rattle.std.proofs.Common.{◌≡◌, ℕ, ◌<◌, List, [], ◌∷◌, map, length, All, refl, sym}
-use Rattle.std.specs.Prelude.{slice_index_or}
-use Rattle.std.specs.List.{AllByRecursion}
-use Rattle.std.proofs.lemmas.List.Elements.{All-head, All-tail}
-use Rattle.mp_task.specs.declared.act.Act.{Act}
-use Rattle.mp_task.specs.Limits.{ActFits, AllLess}
-use Rattle.mp_split.specs.Common.{ArePlaces, act_at}
+use Rattle.mp_split.proofs.Basics.{◌≡◌, ℕ, ◌<◌, List, [], ◌∷◌, map, length, All, refl, sym, slice_index_or, AllByRecursion, All-head, All-tail, Act, ActFits, AllLess, ArePlaces, act_at}
 use Rattle.mp_split.proofs.Each.{each_of_all}
 
 module _ (numbers : List ℕ) (places : ArePlaces numbers) where

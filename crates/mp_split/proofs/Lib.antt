@@ -1,4 +1,6 @@
 -- what holds of each item of a list
+-- what the proofs cite of other places
+mod Basics
 pub mod Each
 -- the numbers of texts are their places in a table that is in the order of bytes
 pub mod Numbering

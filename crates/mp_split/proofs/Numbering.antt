@@ -1,19 +1,12 @@
 -- The numbers of texts are their places in a table that is in the order of bytes.
-use Rattle.std.proofs.Common.{arith, ◌≡◌, ℕ, suc, ◌+◌, Bool, true, false, cond, ◌||◌, List, [], ◌∷◌, map, length, Some, refl, sym, ap, subst, ◌∙◌, Less}
-use Rattle.std.specs.Cmp.Lexicographic.{slice_cmp, nat_list_cmp_total, texts_ties}
-use Rattle.std.specs.List.{AllByRecursion, position_from}
-use Rattle.std.specs.List.Sorted.{IsStrictlySortedBy}
-use Rattle.std.specs.Option.{option_map_or}
-use Rattle.std.specs.Ordering.{is_eq, nat_cmp}
+use Rattle.mp_split.proofs.Basics.{arith, ◌≡◌, ℕ, suc, ◌+◌, Bool, true, false, cond, ◌||◌, List, [], ◌∷◌, map, length, Some, refl, sym, ap, subst, ◌∙◌, Less, slice_cmp, nat_list_cmp_total, AllByRecursion, position_from, IsStrictlySortedBy}
+use Rattle.mp_split.proofs.Basics.{option_map_or, nat_cmp, bytes_eq, number_in, numbers_where, Text, is_listed, text_places_in}
+use Rattle.std.specs.Cmp.Lexicographic.{texts_ties}
+use Rattle.std.specs.Ordering.{is_eq}
 use Rattle.std.proofs.lemmas.Cmp.{tied_itself}
-use Rattle.std.specs.Str.{bytes_eq}
 use Rattle.std.proofs.lemmas.Bool.{false≢true}
 use Rattle.std.proofs.lemmas.Map.Keys.{sorted_head, sorted_tail}
-use Rattle.mp_sexp.specs.Numbers.{number_in}
 use Rattle.mp_sexp.proofs.Places.{equal, swapped}
-use Rattle.mp_typing.specs.Places.{numbers_where}
-use Rattle.mp_joint.specs.Fact.{Text, is_listed}
-use Rattle.mp_ground.specs.Places.{text_places_in}
 use Rattle.mp_split.proofs.Each.{each, each_both, mapped_alike}
 
 -- a list of texts in the order of their bytes, each once

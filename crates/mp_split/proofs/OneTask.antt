@@ -1,19 +1,8 @@
 -- The task of one agent: its own actions by the team's numbers, and its limits.
-use Rattle.std.proofs.Common.{arith, ◌≡◌, ℕ, ◌<◌, ◌==◌, not, List, map, length, All, refl, sym, ap, subst, ◌∙◌}
-use Rattle.std.proofs.lemmas.List.{length-map}
-use Rattle.std.specs.List.{AllByRecursion}
-use Rattle.std.proofs.lemmas.List.Elements.{All-from_recursion}
-use Rattle.std.proofs.lemmas.Map.Keys.{sorted_from_strictly_increasing}
-use Rattle.mp_joint.specs.Fact.{Text, is_listed}
-use Rattle.mp_sexp.specs.Numbers.{number_in}
-use Rattle.mp_task.specs.declared.act.Act.{Act}
+use Rattle.mp_split.proofs.Basics.{arith, ◌≡◌, ℕ, ◌<◌, ◌==◌, not, List, map, length, All, refl, sym, ap, subst, ◌∙◌, length-map, AllByRecursion, All-from_recursion, sorted_from_strictly_increasing, Text, is_listed, number_in, Act, ActFits, AllLess}
+use Rattle.mp_split.proofs.Basics.{FarFits, Ground, text_places_in, Common, texts_at, ActRises, AreOf, IsOfTeam, act_at, act_in, of_others, task_from, task_with}
 use Rattle.mp_task.specs.declared.act.Far.{Far}
-use Rattle.mp_task.specs.Limits.{ActFits, AllLess, FarFits, IsWithinLimits}
-use Rattle.mp_ground.specs.declared.grounded.Ground.{Ground}
-use Rattle.mp_ground.specs.Places.{text_places_in}
-use Rattle.mp_split.specs.declared.common.Common.{Common}
-use Rattle.mp_split.specs.Closed.{texts_at}
-use Rattle.mp_split.specs.Common.{ActRises, AreOf, IsOfTeam, act_at, act_in, of_others, task_from, task_with}
+use Rattle.mp_task.specs.Limits.{IsWithinLimits}
 use Rattle.mp_split.proofs.Each.{each, each_both, each_filtered, each_mapped, each_of_all, mapped_alike}
 use Rattle.mp_split.proofs.Numbering.{Rises, numbered}
 use Rattle.mp_split.proofs.Renumbering.{renumbered, where_below}

@@ -1,17 +1,9 @@
 -- Rising numbers of an agent's own texts, and the places of these texts in a table that has them all.
-use Rattle.std.proofs.Common.{arith, ◌≡◌, ℕ, zero, suc, ◌+◌, ◌<◌, ◌≤◌, Bool, true, false, cond, List, [], ◌∷◌, map, length, refl, sym, ap, ◌∙◌, Less}
-use Rattle.std.specs.Prelude.{slice_index_or}
-use Rattle.std.specs.Cmp.Lexicographic.{slice_cmp}
-use Rattle.std.specs.List.{AllByRecursion}
-use Rattle.std.specs.List.Sorted.{IsStrictlySortedBy}
-use Rattle.std.specs.Ordering.{nat_cmp}
+use Rattle.mp_split.proofs.Basics.{arith, ◌≡◌, ℕ, zero, suc, ◌+◌, ◌<◌, ◌≤◌, Bool, true, false, cond, List, [], ◌∷◌, map, length, refl, sym, ap, ◌∙◌, Less, slice_index_or, slice_cmp, AllByRecursion, IsStrictlySortedBy, nat_cmp, number_in}
+use Rattle.mp_split.proofs.Basics.{numbers_where, Text, is_listed, text_places_in}
 use Rattle.std.specs.Cmp.{nat_cmp_is}
 use Rattle.std.proofs.lemmas.Cmp.{ranked}
 use Rattle.std.proofs.lemmas.Map.Keys.{Less-from_sorted}
-use Rattle.mp_sexp.specs.Numbers.{number_in}
-use Rattle.mp_typing.specs.Places.{numbers_where}
-use Rattle.mp_joint.specs.Fact.{Text, is_listed}
-use Rattle.mp_ground.specs.Places.{text_places_in}
 use Rattle.mp_split.proofs.Each.{each, each_both, each_at, each_mapped, mapped_alike}
 use Rattle.mp_split.proofs.Numbering.{Rises, AreIn, numbered}
 

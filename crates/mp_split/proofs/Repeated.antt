@@ -1,19 +1,11 @@
 -- The parts of actions of which an action that shows what the one before it showed is left out.
-use Rattle.std.proofs.Common.{◌≡◌, ℕ, ◌+◌, ◌<◌, length, get_or, take, true, List, [], ◌∷◌, ◌++◌, map, filter, inl, inr, sym, ap, ◌∙◌, append_assoc, Option, None, Some, IfSome, IsSomeAnd}
+use Rattle.mp_split.proofs.Basics.{◌≡◌, ℕ, ◌+◌, ◌<◌, length, get_or, take, true, List, [], ◌∷◌, ◌++◌, map, inl, inr, sym, ap, ◌∙◌, append_assoc, Option, None, Some, filter-append, IsTotalOrder, on_total, nat_list_cmp_total, Act, is_public, Text}
+use Rattle.mp_split.proofs.Basics.{Part, part_line, part_cmp, sorted_parts, part_of}
+use Rattle.std.proofs.Common.{filter, IfSome, IsSomeAnd}
 use Rattle.std.proofs.lemmas.Bool.{cases_Bool}
 use Rattle.std.proofs.lemmas.List.{append-nil, map-append}
-use Rattle.std.proofs.lemmas.List.Elements.{filter-append}
-use Rattle.std.specs.Cmp.{IsTotalOrder, on_total}
-use Rattle.std.specs.Cmp.Lexicographic.{nat_list_cmp_total}
-use Rattle.mp_task.specs.declared.act.Act.{Act}
-use Rattle.mp_task.specs.Public.{is_public}
-use Rattle.mp_joint.specs.Fact.{Text}
-use Rattle.mp_views.specs.declared.view.Part.{Part}
-use Rattle.mp_views.specs.Lines.{part_line}
-use Rattle.mp_views.specs.Parts.{part_cmp, sorted_parts}
 use Rattle.mp_views.proofs.SortedLemmas.{sorted_twice}
 use Rattle.mp_lifted.proofs.Growing.{one_more}
-use Rattle.mp_split.specs.Closed.{part_of}
 
 -- the public parts of the public ones of some actions
 abbrev pub shown : List Text → List Act → List Part

@@ -1,31 +1,15 @@
 -- What an agent shows has the texts of its public facts in their order, and as many parts as it has actions at most.
-use Rattle.std.proofs.Common.{arith, ◌≡◌, ℕ, ◌<◌, ◌≤◌, Bool, true, List, map, length, sym, subst}
-use Rattle.std.proofs.lemmas.List.{length-map}
-use Rattle.std.specs.Prelude.{not, filter}
-use Rattle.std.specs.Cmp.{IsTotalOrder, on_total}
-use Rattle.std.specs.Cmp.Lexicographic.{nat_list_cmp_total}
-use Rattle.std.specs.List.{AllByRecursion}
-use Rattle.std.specs.List.Sorted.{IsStrictlyIncreasing}
-use Rattle.std.specs.Ordering.{nat_cmp}
+use Rattle.mp_split.proofs.Basics.{arith, ◌≡◌, ℕ, ◌<◌, ◌≤◌, Bool, true, List, map, length, sym, subst, length-map, filter, IsTotalOrder, on_total, nat_list_cmp_total, AllByRecursion, IsStrictlyIncreasing, nat_cmp, sorted_from_strictly_increasing}
+use Rattle.mp_split.proofs.Basics.{IsStrictlyIncreasing-from_sorted, Text, is_listed, Act, ActFits, is_public, part_line, part_cmp, texts_rise, Ground, IsGrounded, Known, KeepsLimits, texts_at, is_number_in, part_of, closed_view, ActRises, AreOf}
+use Rattle.mp_split.proofs.Basics.{IsReady, PartFits}
+use Rattle.std.specs.Prelude.{not}
 use Rattle.std.proofs.lemmas.List.Kept.{IsStrictlySortedBy-filter}
-use Rattle.std.proofs.lemmas.Map.Keys.{sorted_from_strictly_increasing, IsStrictlyIncreasing-from_sorted}
 use Rattle.mp_joint.specs.declared.fact.SignedFact.{SignedFact}
-use Rattle.mp_joint.specs.Fact.{Text, is_listed}
 use Rattle.mp_lifted.specs.Texts.{signed_text}
-use Rattle.mp_task.specs.declared.act.Act.{Act}
-use Rattle.mp_task.specs.Limits.{ActFits}
-use Rattle.mp_task.specs.Public.{is_public}
-use Rattle.mp_views.specs.Lines.{part_line}
-use Rattle.mp_views.specs.Parts.{part_cmp}
 use Rattle.mp_views.specs.Public.{is_public as is_public_fact}
-use Rattle.mp_views.proofs.SortedLaws.{texts_rise}
 use Rattle.mp_grounder.specs.Grounding.{GroundedInstance}
-use Rattle.mp_ground.specs.declared.grounded.Ground.{Ground}
-use Rattle.mp_ground.specs.Grounded.{IsGrounded, Known, act_of, counted, instances_by_name, setting}
-use Rattle.mp_ground.specs.Limits.{KeepsLimits}
+use Rattle.mp_ground.specs.Grounded.{act_of, counted, instances_by_name, setting}
 use Rattle.mp_ground.specs.Places.{public_places_in}
-use Rattle.mp_split.specs.Closed.{texts_at, is_number_in, part_of, closed_view}
-use Rattle.mp_split.specs.Common.{ActRises, AreOf, IsReady, PartFits}
 use Rattle.mp_split.proofs.Each.{each_always, each_both, each_filtered, each_mapped, each_of_all, filtered_short}
 use Rattle.mp_split.proofs.InOrder.{each_in_order, in_order_short}
 use Rattle.mp_split.proofs.Numbering.{AreIn, Rises}

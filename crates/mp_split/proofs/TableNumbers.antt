@@ -1,21 +1,9 @@
 -- Numbers of texts in a table as the code finds them, and places of marks.
-use Rattle.std.proofs.Common.{arith, ◌≡◌, ℕ, suc, not, ◌||◌, ◌<◌, ◌≤◌, Bool, true, false, cond, List, [], ◌∷◌, map, length, All, Result, Ok, Err, IfOk, Option, Some, None, refl, sym, ap, subst, ◌∙◌}
-use Rattle.std.specs.Prelude.{slice_index_or}
-use Rattle.std.specs.List.{flat_map, position_from}
-use Rattle.std.specs.List.Sorted.{IsStrictlyIncreasing}
-use Rattle.std.specs.Option.{is_some, option_map_or}
-use Rattle.std.proofs.lemmas.List.Folds.{list_any-append}
-use Rattle.std.specs.Str.{bytes_eq}
-use Rattle.std.proofs.lemmas.Map.Keys.{sorted_from_strictly_increasing, IsStrictlyIncreasing-from_sorted}
-use Rattle.mp_sexp.specs.Numbers.{is_named, number_in}
+use Rattle.mp_split.proofs.Basics.{arith, ◌≡◌, ℕ, suc, not, ◌||◌, ◌<◌, ◌≤◌, Bool, true, false, cond, List, [], ◌∷◌, map, length, All, Option, Some, None, refl, sym, ap, subst, ◌∙◌, slice_index_or, flat_map, position_from, IsStrictlyIncreasing}
+use Rattle.mp_split.proofs.Basics.{is_some, option_map_or, list_any-append, bytes_eq, sorted_from_strictly_increasing, IsStrictlyIncreasing-from_sorted, number_in, has_place, numbers_where, Text, is_listed, text_places_in, View, AreOf, is_goal}
+use Rattle.std.proofs.Common.{Result, Ok, Err, IfOk}
+use Rattle.mp_sexp.specs.Numbers.{is_named}
 use Rattle.mp_sexp.proofs.NamesAt.{number_below}
-use Rattle.mp_sexp.proofs.Places.{has_place}
-use Rattle.mp_typing.specs.Places.{numbers_where}
-use Rattle.mp_joint.specs.Fact.{Text, is_listed}
-use Rattle.mp_ground.specs.Places.{text_places_in}
-use Rattle.mp_views.specs.declared.view.View.{View}
-use Rattle.mp_split.specs.Common.{AreOf}
-use Rattle.mp_split.specs.TaskOf.{is_goal}
 use Rattle.mp_split.proofs.Each.{each_always, each_of_all, mapped_alike}
 use Rattle.mp_split.proofs.Numbering.{Rises, numbered}
 use Rattle.mp_split.proofs.Renumbering.{renumbered_rise, where_rises}

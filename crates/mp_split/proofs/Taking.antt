@@ -1,6 +1,6 @@
 -- A list that is made of what is taken from another one, item by item.
-use Rattle.std.proofs.Common.{arith, ◌≡◌, List, [], ◌∷◌, ◌++◌, map, length, All, sym, ap, subst, ◌∙◌, append_assoc, append-nil}
-use Rattle.std.proofs.lemmas.List.Elements.{All-head, All-tail}
+use Rattle.mp_split.proofs.Basics.{arith, ◌≡◌, List, [], ◌∷◌, ◌++◌, map, length, All, sym, ap, subst, ◌∙◌, append_assoc, All-head, All-tail}
+use Rattle.std.proofs.Common.{append-nil}
 
 pub begun : {X Y : Type 0} (f : X → Y) (made : List Y) (rest all : List X) → made ≡ [] → rest ≡ all → made ++ map f rest ≡ map f all
 begun f made rest all none same = λ i. none i ++ map f (same i)

@@ -1,26 +1,13 @@
 -- What the agents of a team show together: the table of their public facts, and the parts of their actions.
-use Rattle.std.proofs.Common.{arith, ◌≡◌, ℕ, ◌+◌, ◌*◌, ◌<◌, ◌≤◌, ◌==◌, Bool, true, false, cond, not, ◌||◌, List, [], ◌∷◌, ◌++◌, map, length, All, refl, sym, ap, subst, ◌∙◌, length-append, inl, inr}
-use Rattle.std.proofs.lemmas.List.{length-map}
-use Rattle.std.proofs.lemmas.Bool.{cases_lt}
+use Rattle.mp_split.proofs.Basics.{arith, ◌≡◌, ℕ, ◌+◌, ◌<◌, ◌≤◌, ◌==◌, Bool, true, false, cond, not, ◌||◌, List, [], ◌∷◌, ◌++◌, map, length, All, refl, sym, ap, subst, ◌∙◌, length-append, inl, inr, length-map, cases_lt, nat_list_cmp_total}
+use Rattle.mp_split.proofs.Basics.{AllByRecursion, flat_map, bytes_eq, All-from_recursion, filter-append, list_any-append, numbers_where, Text, is_listed, AllLess, FarFits, Part, View, sorted_once, texts_rise, Ground, KeepsLimits, text_places_in}
+use Rattle.mp_split.proofs.Basics.{closed_view, AreReadyFrom, IsOfTeam, IsReady, PartFits, act_in, common_of, far_in, of_others, task_with, Shown, is_goal, is_true, table, task_of}
+use Rattle.std.proofs.Common.{◌*◌}
 use Rattle.std.proofs.lemmas.Bool.Decides.{Decides-eqb}
-use Rattle.std.specs.Cmp.Lexicographic.{nat_list_cmp_total}
-use Rattle.std.specs.List.{AllByRecursion, enumerate_from, flat_map}
-use Rattle.std.specs.Str.{bytes_eq}
-use Rattle.std.proofs.lemmas.List.Elements.{All-from_recursion, filter-append}
-use Rattle.std.proofs.lemmas.List.Folds.{list_any-append}
-use Rattle.mp_typing.specs.Places.{numbers_where}
-use Rattle.mp_joint.specs.Fact.{Text, is_listed}
-use Rattle.mp_task.specs.Limits.{AllLess, FarFits}
-use Rattle.mp_views.specs.declared.view.Part.{Part}
-use Rattle.mp_views.specs.declared.view.View.{View}
-use Rattle.mp_views.specs.Sorted.{sorted_once}
-use Rattle.mp_views.proofs.SortedLaws.{same_texts, texts_rise}
-use Rattle.mp_ground.specs.declared.grounded.Ground.{Ground}
-use Rattle.mp_ground.specs.Limits.{KeepsLimits}
-use Rattle.mp_ground.specs.Places.{text_places_in}
-use Rattle.mp_split.specs.Closed.{closed_view}
-use Rattle.mp_split.specs.Common.{AreReadyFrom, IsOfTeam, IsReady, PartFits, act_in, common_of, far_in, of_others, parts_in, task_with}
-use Rattle.mp_split.specs.TaskOf.{Shown, is_goal, is_true, parts_for, table, task_of}
+use Rattle.std.specs.List.{enumerate_from}
+use Rattle.mp_views.proofs.SortedLaws.{same_texts}
+use Rattle.mp_split.specs.Common.{parts_in}
+use Rattle.mp_split.specs.TaskOf.{parts_for}
 use Rattle.mp_split.proofs.Each.{each, each_append, each_both, each_mapped}
 use Rattle.mp_split.proofs.InOrder.{in_order_short}
 use Rattle.mp_split.proofs.Numbering.{AreIn, same_text}

@@ -1,18 +1,6 @@
 -- The tasks of a team from the table of its public facts and from what they have in common.
-use Rattle.std.proofs.Common.{arith, ◌≡◌, ◌≤◌, List, map, length, All, refl, sym, ap, subst, ◌∙◌}
-use Rattle.std.proofs.lemmas.List.{length-map}
-use Rattle.std.specs.List.{AllByRecursion, flat_map}
-use Rattle.std.proofs.lemmas.List.Elements.{All-from_recursion}
-use Rattle.mp_joint.specs.Fact.{Text}
-use Rattle.mp_views.specs.declared.view.View.{View}
-use Rattle.mp_views.specs.Sorted.{sorted_once}
-use Rattle.mp_views.proofs.SortedLaws.{texts_rise}
-use Rattle.mp_ground.specs.declared.grounded.Ground.{Ground}
-use Rattle.mp_ground.specs.Limits.{KeepsLimits}
-use Rattle.mp_split.specs.declared.common.Common.{Common}
-use Rattle.mp_split.specs.Closed.{closed_view}
-use Rattle.mp_split.specs.Common.{AreReadyFrom, IsOfTeam, PartFits, common_of, task_with}
-use Rattle.mp_split.specs.TaskOf.{Shown, table, task_of}
+use Rattle.mp_split.proofs.Basics.{arith, ◌≡◌, ◌≤◌, List, map, length, All, refl, sym, ap, subst, ◌∙◌, length-map, AllByRecursion, flat_map, All-from_recursion, Text, View, sorted_once, texts_rise, Ground, KeepsLimits, Common, closed_view}
+use Rattle.mp_split.proofs.Basics.{AreReadyFrom, IsOfTeam, PartFits, common_of, task_with, Shown, table, task_of}
 use Rattle.mp_split.proofs.Each.{each, each_always, mapped_alike}
 use Rattle.mp_split.proofs.Numbering.{Rises}
 use Rattle.mp_split.proofs.Together.{limits_each, of_one_team, same_task, table_few, views_fit}

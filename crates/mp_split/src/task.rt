@@ -26,18 +26,11 @@ fn act_of(
     requires { ActFits (length numbers.now) privates act }
     ensures { IfOk result (λ made. made ≡ act_at numbers.now act) }
 {
-    let pre_pub = numbers_at(alloc, scratch, numbers, &act.pre_pub)?;
-    let add_pub = numbers_at(alloc, scratch, numbers, &act.add_pub)?;
-    let del_pub = numbers_at(alloc, scratch, numbers, &act.del_pub)?;
-    Ok(Act {
-        pre_pub,
-        pre_priv: act.pre_priv,
-        add_pub,
-        add_priv: act.add_priv,
-        del_pub,
-        del_priv: act.del_priv,
-        cost: act.cost,
-    })
+    let mut made = act;
+    made.pre_pub = numbers_at(alloc, scratch, numbers, &made.pre_pub)?;
+    made.add_pub = numbers_at(alloc, scratch, numbers, &made.add_pub)?;
+    made.del_pub = numbers_at(alloc, scratch, numbers, &made.del_pub)?;
+    Ok(made)
 }
 
 /// Whether the number at each place is that place.
@@ -172,7 +165,7 @@ fn add_task(
 {
     let acts = mem::replace(&mut ground.acts, List::new(alloc));
     tasks.push(task_of(alloc, table, common, &ground, acts)?)?;
-    steps.push(ground.steps)?;
+    steps.push(ground.into_steps())?;
     Ok(())
 }
 

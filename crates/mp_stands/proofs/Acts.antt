@@ -17,7 +17,8 @@ use Rattle.mp_stands.specs.Numbering.{Numbering, AreNumbersOf, privates_of, step
 use Rattle.mp_stands.specs.Stands.{AreActionsOf, IsActionOf}
 use Rattle.mp_stands.specs.Touched as levels
 use Rattle.mp_stands.specs.Touched.{factor_of, IsGrounded as IsGroundedStep}
-use Rattle.mp_stands.proofs.MemberLists.{contains_map, from_map, mapped}
+use Rattle.mp_stands.proofs.MemberLists.{mapped}
+use Rattle.mp_list.proofs.Members.{to_map, from_map}
 use Rattle.mp_grounder.specs.Checked.{IsChecked}
 use Rattle.mp_grounder.specs.Counted.{named_goals, touched_by}
 use Rattle.mp_grounder.specs.Grounding.{GroundedStep, GroundedInstance, grounded, grounded_instance}
@@ -67,7 +68,7 @@ module _ (team : List Factor) (grounds : List Ground) (all : All IsChecked team)
   counts s listed x touched =
       let instances = map (grounded_instance setting) steps in
       Contains-append_left (flat_map touched_by instances) (named_goals (place + 1) factor) x
-      (in_parts touched_by instances (grounded_instance setting s) x (contains_map (grounded_instance setting) steps s listed) touched)
+      (in_parts touched_by instances (grounded_instance setting s) x (to_map (grounded_instance setting) steps s listed) touched)
 
   abbrev shown_texts : List SignedFact → List (List ℕ)
   shown_texts facts = texts_at g.publics (public_places_in g.publics facts)
@@ -131,7 +132,7 @@ module _ (team : List Factor) (grounds : List Ground) (all : All IsChecked team)
   listed_step step f i mine h =
       let factors : f ≡ factor = same_Some f factor (sym h.factor_is ∙ ap (factor_of team) mine ∙ has_agent.at) in
       let s : GroundedStep = record { step = step; instance = i } in
-      contains_map step_in steps s
+      to_map step_in steps s
       (from_team team (place + 1) factor has_agent s (record { mine = mine; is = subst (λ o. IsGroundedStep team step o i) factors h }))
 
   pub are_actions : AreActionsOf team numbering (place + 1) (map (numbered_act (shown_by team grounds) g.publics) g.acts)

@@ -14,7 +14,7 @@ use Rattle.mp_joint.specs.Instance as named
 use Rattle.mp_joint.specs.Instance.{Instance, State, holds}
 use Rattle.mp_joint.specs.Static.{is_changed_in}
 use Rattle.mp_stands.specs.Touched.{factor_of, is_static_fact, has_complement, added, deleted}
-use Rattle.mp_stands.proofs.SameFacts.{Decides-among}
+use Rattle.mp_joint.proofs.SameFacts.{Decides-among}
 use Rattle.mp_stands.proofs.Owners.{IsFactOf, own_so, so_alike, same_agent}
 use Rattle.mp_stands.proofs.Contributed.{IsSound}
 use Rattle.mp_stands.proofs.Counted.{IsHad, negated_for}

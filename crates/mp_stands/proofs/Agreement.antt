@@ -8,7 +8,7 @@ use Rattle.std.specs.FinSet as set
 use Rattle.std.specs.List.{enumerate_from, flat_map, list_all, range_with_len}
 use Rattle.std.specs.Option.{option_map}
 use Rattle.std.specs.Prelude.{Contains}
-use Rattle.mp_list.proofs.Members.{contains_head, contains_tail, contains_cases, no_member}
+use Rattle.mp_list.proofs.Members.{contains_head, contains_tail, contains_cases, no_member, to_map, from_map, from_flat_map}
 use Rattle.mp_factor.specs.declared.factor.Factor.{Factor}
 use Rattle.mp_task.specs.declared.act.Act.{Act}
 use Rattle.mp_task.specs.declared.act.Far.{Far}
@@ -18,7 +18,7 @@ use Rattle.mp_task.specs.Met.{is_met, met_at_start}
 use Rattle.mp_task.specs.Public as task
 use Rattle.mp_task.proofs.Agreeing.{Contains-slice_get}
 use Rattle.mp_views.specs.declared.view.View.{View}
-use Rattle.mp_stands.proofs.MemberLists.{contains_map, from_map, from_flat_map, has_place, mapped}
+use Rattle.mp_stands.proofs.MemberLists.{has_place, mapped}
 use Rattle.mp_grounder.specs.Checked.{IsChecked}
 use Rattle.mp_ground.specs.declared.grounded.Ground.{Ground}
 use Rattle.mp_split.specs.Closed.{closed_view, part_of}
@@ -117,10 +117,10 @@ module _ (team : List Factor) (grounds : List Ground) (all : All IsChecked team)
         let act = numbered_act shown g.publics of.act in
         record {
           other = task_of shown g;
-          in_team = contains_map (task_of shown) grounds g (Contains-slice_get grounds k g ground_at);
+          in_team = to_map (task_of shown) grounds g (Contains-slice_get grounds k g ground_at);
           another = λ same. other (agent ∙ same);
           act = act;
-          own = contains_map (numbered_act shown g.publics) g.acts of.act of.listed;
+          own = to_map (numbered_act shown g.publics) g.acts of.act of.listed;
           public = same_public shown g.publics (own_within team grounds all are k factor.0 g factor.1 ground_at) of.act named ∙ of.public;
           is =
               sym from.2 ∙ ap (far_part shown m) (sym of.is) ∙ same_far g.publics of.act named shown m
@@ -162,7 +162,7 @@ module _ (team : List Factor) (grounds : List Ground) (all : All IsChecked team)
         sym (same_public shown g.publics (own_within team grounds all are place factor.0 g factor.1 ground_at) a named) ∙ ap task.is_public from.2 ∙ public in
         let m = 1 + place in
         let agent : m ≡ g.me = omega (arith, me_at place g ground_at) in
-        let listed = contains_map (far_part shown m) (closed_view g).acts (part_of g.publics a)
+        let listed = to_map (far_part shown m) (closed_view g).acts (part_of g.publics a)
         (to_acts team grounds all are place factor.0 g factor.1 ground_at a from.1 own_public) in
         let part = far_part shown m (part_of g.publics a) in
         let there : Contains far part =

@@ -7,7 +7,7 @@ use Rattle.std.specs.List.{list_any, find}
 use Rattle.std.specs.Option.{option_map, option_and_then}
 use Rattle.std.specs.Prelude.{Contains, slice_get}
 use Rattle.std.specs.Str.{bytes_eq}
-use Rattle.mp_list.proofs.Members.{any_from}
+use Rattle.mp_list.proofs.Members.{any_from, from_map, from_flat_map}
 use Rattle.mp_factor.specs.declared.factor.Factor.{Factor}
 use Rattle.mp_factor.specs.declared.typed_values.Typed.{Typed}
 use Rattle.mp_factor.specs.declared.atom_values.Atom.{Atom}
@@ -21,7 +21,7 @@ use Rattle.mp_joint.specs.Instance.{Instance}
 use Rattle.mp_joint.specs.Plan.{Contribution, contribution_of, instance_of, joint_goal, joint_never}
 use Rattle.mp_joint.specs.Static.{stands_in, is_changed_in, is_under_not_in}
 use Rattle.mp_stands.specs.Touched.{factor_of, IsGrounded}
-use Rattle.mp_stands.proofs.MemberLists.{from_map, from_flat_map, found_in, has_place, chosen, mapped}
+use Rattle.mp_stands.proofs.MemberLists.{found_in, has_place, chosen, mapped}
 use Rattle.mp_stands.proofs.Owners.{IsFactOf}
 
 -- the fact is that of an agent, and one of these atoms has its predicate

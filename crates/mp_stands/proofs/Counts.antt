@@ -9,7 +9,7 @@ use Rattle.mp_joint.specs.FactorContribution.{factor_contribution, team_of}
 use Rattle.mp_joint.specs.Plan.{Contribution, joint_goal, joint_never}
 use Rattle.mp_stands.specs.Touched.{needed, added, deleted, goals, IsCounted}
 use Rattle.mp_stands.proofs.Contributed.{contributed}
-use Rattle.mp_stands.proofs.MemberLists.{contains_map, from_map, from_flat_map}
+use Rattle.mp_list.proofs.Members.{to_map, from_map, from_flat_map}
 use Rattle.mp_stands.proofs.Signed.{signed_cases, among_plain, among_complement}
 use Rattle.mp_grounder.specs.Checked.{IsChecked}
 use Rattle.mp_grounder.specs.Counted.{touched_by, named_goals}
@@ -109,7 +109,7 @@ counts_one team x all h =
             at = by.grounded.factor_is;
             counts = Contains-append_left (flat_map touched_by (instances team me factor)) (named_goals me factor) x
                 (in_parts touched_by (instances team me factor) (grounded_instance setting g) x
-                (contains_map (grounded_instance setting) (grounded me factor setting) g listed) there);
+                (to_map (grounded_instance setting) (grounded me factor setting) g listed) there);
           }
       | inr goal ↦
           let one = goal_of_one team x goal in

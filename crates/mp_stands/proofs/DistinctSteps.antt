@@ -2,7 +2,7 @@
 use Rattle.std.proofs.Common.{◌≡◌, ℕ, List, [], ◌∷◌, map, filter, Some, sym, ap, subst}
 use Rattle.std.proofs.lemmas.Option.{option_and_then_some, same_Some}
 use Rattle.std.specs.Prelude.{Contains, ◌≢◌, AllPairs}
-use Rattle.mp_list.proofs.Members.{contains_head, contains_tail, no_member}
+use Rattle.mp_list.proofs.Members.{contains_head, contains_tail, no_member, from_map}
 use Rattle.mp_factor.specs.declared.typed_values.Typed.{Typed}
 use Rattle.mp_factor.specs.declared.schema_values.Schema.{Schema}
 use Rattle.mp_factor.specs.declared.factor.Factor.{Factor}
@@ -14,7 +14,7 @@ use Rattle.mp_joint.specs.Fact.{Text}
 use Rattle.mp_joint.specs.FactorContribution.{instance_of_schema}
 use Rattle.mp_joint.specs.Grounded.{Setting, suits_start}
 use Rattle.mp_bindings.specs.Bindings.{product}
-use Rattle.mp_stands.proofs.MemberLists.{from_map, chosen}
+use Rattle.mp_stands.proofs.MemberLists.{chosen}
 use Rattle.mp_grounder.specs.Checked.{IsChecked}
 use Rattle.mp_grounder.specs.Grounding.{GroundedStep, members_by_name, step_with, grounded_at, grounded_of, grounded}
 use Rattle.mp_grounder.proofs.Facts.{objects_distinct}

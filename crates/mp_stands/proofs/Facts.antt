@@ -16,7 +16,7 @@ use Rattle.mp_lifted.specs.Views.{setting_of}
 use Rattle.mp_lifted.specs.Vocabulary.{vocabulary_of}
 use Rattle.mp_instances.specs.Instances.{instances}
 use Rattle.mp_ground_facts.specs.Touched.{counted}
-use Rattle.mp_stands.proofs.MemberLists.{from_map}
+use Rattle.mp_list.proofs.Members.{from_map}
 use Rattle.mp_stands.proofs.Owners.{IsFactOf}
 use Rattle.mp_grounder.specs.Checked.{IsChecked}
 use Rattle.mp_grounder.specs.Counted.{counted_facts}

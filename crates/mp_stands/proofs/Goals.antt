@@ -6,7 +6,7 @@ use Rattle.std.proofs.lemmas.Option.{same_Some}
 use Rattle.std.specs.List.{list_any}
 use Rattle.std.specs.Option.{option_map_or, is_none}
 use Rattle.std.specs.Prelude.{Contains}
-use Rattle.mp_list.proofs.Members.{any_from, some_member}
+use Rattle.mp_list.proofs.Members.{any_from, some_member, to_map, from_map}
 use Rattle.mp_factor.specs.declared.factor.Factor.{Factor}
 use Rattle.mp_typing.specs.Places.{numbers_where}
 use Rattle.mp_typing.proofs.Passing.{taken_passes, taken_from_passes}
@@ -22,7 +22,7 @@ use Rattle.mp_views.specs.declared.view.View.{View}
 use Rattle.mp_stands.specs.Numbering.{AreNumbersOf, HasNumberAmong, StandsForOneOf}
 use Rattle.mp_stands.specs.Stands.{AreTrueAtStart, is_known_to}
 use Rattle.mp_stands.specs.Touched.{factor_of, goals}
-use Rattle.mp_stands.proofs.MemberLists.{contains_map, from_map, has_place}
+use Rattle.mp_stands.proofs.MemberLists.{has_place}
 use Rattle.mp_stands.proofs.Owners.{same_agent}
 use Rattle.mp_grounder.specs.Checked.{IsChecked}
 use Rattle.mp_grounder.specs.Counted.{counted_facts, named_goals}
@@ -103,7 +103,7 @@ module _ (team : List Factor) (grounds : List Ground) (all : All IsChecked team)
         ∙ any_from (λ (o : Ground). is_listed text (texts_at o.publics o.goal_pub)) grounds g (Contains-slice_get grounds place g ground_at)
         (shown_goals text
         ∙ and_from (is_listed text goal_texts) (is_listed text g.publics)
-        (member_listed text goal_texts (contains_map signed_text (filter is_public (named_goals (place + 1) factor)) x
+        (member_listed text goal_texts (to_map signed_text (filter is_public (named_goals (place + 1) factor)) x
         (taken_from_passes is_public (named_goals (place + 1) factor) x found public)))
         (in_publics team grounds all are place factor g at ground_at x public (goal_counted (place + 1) factor x found)))
 

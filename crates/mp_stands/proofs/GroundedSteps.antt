@@ -22,7 +22,8 @@ use Rattle.mp_joint.specs.Plan.{Contribution, contribution_of, instance_of}
 use Rattle.mp_stands.specs.Touched as levels
 use Rattle.mp_stands.specs.Touched.{factor_of, IsGrounded}
 use Rattle.mp_stands.proofs.Contributed.{contribution_is}
-use Rattle.mp_stands.proofs.MemberLists.{from_flat_map, found_in, chosen, mapped}
+use Rattle.mp_stands.proofs.MemberLists.{found_in, chosen, mapped}
+use Rattle.mp_list.proofs.Members.{from_flat_map}
 use Rattle.mp_stands.proofs.Owners.{factor_in_team}
 use Rattle.mp_bindings.specs.Bindings.{product}
 use Rattle.mp_grounder.specs.Checked.{IsChecked}

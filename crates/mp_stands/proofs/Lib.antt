@@ -1,8 +1,7 @@
--- in reading order: lists; facts that are the same; whose facts facts are; what factors contribute; facts and
+-- in reading order: lists; whose facts facts are; what factors contribute; facts and
 -- complements; what is counted; numbers; states that match; what holds after an instance; own actions; starts and goals;
 -- steps; what answers a step; simulations; plans that are named
 pub mod MemberLists
-pub mod SameFacts
 pub mod Owners
 pub mod Contributed
 pub mod Signed

@@ -5,8 +5,7 @@ use Rattle.std.specs.List.Sorted.{IsStrictlySortedBy}
 use Rattle.std.specs.Ordering.{is_lt}
 use Rattle.std.specs.Prelude.{Contains}
 use Rattle.std.proofs.lemmas.Bool.{false≢true}
-use Rattle.mp_list.proofs.Members.{contains_head, contains_tail, contains_cases, no_member}
-use Rattle.mp_stands.proofs.MemberLists.{contains_map}
+use Rattle.mp_list.proofs.Members.{contains_head, contains_tail, contains_cases, no_member, to_map}
 use Rattle.mp_stands.proofs.Once.{AreOnce}
 
 pub record HasList {X : Type 0} (n : ℕ) (P : ℕ → X → Type 0) : Type 0 where
@@ -73,4 +72,4 @@ rising_once order (x ∷ xs) tied h = (apart order x xs h.0 tied, rising_once or
 -- where what becomes of the items is different, so are they
 pub once_from_map : {X Y : Type 0} (f : X → Y) (xs : List X) → AreOnce itself (map f xs) → AreOnce itself xs
 once_from_map f [] h = tt
-once_from_map f (x ∷ xs) h = (λ y found same. h.0 (f y) (contains_map f xs y found) (ap f same), once_from_map f xs h.1)
+once_from_map f (x ∷ xs) h = (λ y found same. h.0 (f y) (to_map f xs y found) (ap f same), once_from_map f xs h.1)

@@ -1,36 +1,11 @@
 -- Members of mapped, filtered and joined lists, and places in a list.
-use Rattle.std.proofs.Common.{◌≡◌, ℕ, List, [], ◌∷◌, map, Bool, true, false, cond, eqb, refl, ap, sym, ◌∙◌, subst, inl, inr, Option, Some, None}
+use Rattle.std.proofs.Common.{◌≡◌, ℕ, List, [], ◌∷◌, Bool, true, false, cond, eqb, refl, ap, sym, ◌∙◌, subst, inl, inr, Option, Some, None}
 use Rattle.std.proofs.lemmas.Bool.{and_from, cases_order, eqb-true, eq-eqb}
-use Rattle.std.proofs.lemmas.List.Elements.{Contains-append_cases}
 use Rattle.std.proofs.lemmas.Option.{none-some, same_Some, slice_get_within, slice_get-get_or, get_or_from_slice_get}
-use Rattle.std.specs.List.{list_all, list_any, flat_map, find, AllPairs}
+use Rattle.std.specs.List.{list_all, list_any, find, AllPairs}
 use Rattle.std.specs.Option.{option_map}
 use Rattle.std.specs.Prelude.{◌≢◌, Contains, Decides, slice_get}
-use Rattle.mp_list.proofs.Members.{contains_head, contains_tail, contains_cases, no_member, some_member, any_from}
-
-pub contains_map : {X Y : Type 0} (f : X → Y) (xs : List X) (x : X) → Contains xs x → Contains (map f xs) (f x)
-contains_map f [] x found = absurd (no_member x found)
-contains_map f (y ∷ ys) x found =
-    elim (contains_cases y ys x found) [
-      | inl here ↦ subst (Contains (f y ∷ map f ys)) (ap f here) (contains_head (f y) (map f ys))
-      | inr there ↦ contains_tail (f y) (map f ys) (f x) (contains_map f ys x there)
-    ]
-
-pub from_map : {X Y : Type 0} (f : X → Y) (xs : List X) (y : Y) → Contains (map f xs) y → (x : X) × Contains xs x × (f x ≡ y)
-from_map f [] y found = absurd (no_member y found)
-from_map f (x ∷ xs) y found =
-    elim (contains_cases (f x) (map f xs) y found) [
-      | inl here ↦ (x, contains_head x xs, here)
-      | inr there ↦ let rest = from_map f xs y there in (rest.0, contains_tail x xs rest.0 rest.1, rest.2)
-    ]
-
-pub from_flat_map : {X Y : Type 0} (f : X → List Y) (xs : List X) (y : Y) → Contains (flat_map f xs) y → (x : X) × Contains xs x × Contains (f x) y
-from_flat_map f [] y found = absurd (no_member y found)
-from_flat_map f (x ∷ xs) y found =
-    elim (Contains-append_cases (f x) (flat_map f xs) y found) [
-      | inl here ↦ (x, contains_head x xs, here)
-      | inr there ↦ let rest = from_flat_map f xs y there in (rest.0, contains_tail x xs rest.0 rest.1, rest.2)
-    ]
+use Rattle.mp_list.proofs.Members.{contains_head, contains_tail, some_member, any_from}
 
 -- what each item passes, all pass
 pub all_from : {X : Type 0} (test : X → Bool) (xs : List X) → ((x : X) → Contains xs x → test x ≡ true) → list_all test xs ≡ true

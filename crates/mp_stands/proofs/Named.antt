@@ -7,7 +7,7 @@ use Rattle.std.specs.List.{list_any, list_all, find}
 use Rattle.std.specs.Option.{option_map_or}
 use Rattle.std.specs.Prelude.{Contains}
 use Rattle.std.specs.Str.{bytes_eq}
-use Rattle.mp_list.proofs.Members.{contains_head, any_from}
+use Rattle.mp_list.proofs.Members.{contains_head, any_from, to_map}
 use Rattle.mp_factor.specs.declared.typed_values.Typed.{Typed}
 use Rattle.mp_factor.specs.declared.atom_values.Term.{Term}
 use Rattle.mp_factor.specs.declared.atom_values.Term.TheVariants.{Variable, Object}
@@ -23,7 +23,7 @@ use Rattle.mp_joint.specs.FactorContribution.{may_stand, may_stand_for}
 use Rattle.mp_joint.specs.Grounding.{standing_for, object_of, objects_of}
 use Rattle.mp_lifted.specs.Vocabulary.{vocabulary_of}
 use Rattle.mp_bindings.specs.Bindings.{product}
-use Rattle.mp_stands.proofs.MemberLists.{contains_map, found_in}
+use Rattle.mp_stands.proofs.MemberLists.{found_in}
 use Rattle.mp_grounder.specs.Grounding.{members_by_name}
 use Rattle.mp_grounder.proofs.Atoms.{object_stands}
 use Rattle.mp_grounder.proofs.Parts.{IsDeclared, IsAtom}
@@ -67,12 +67,12 @@ member_named factor p name h =
     let test = is_of_type factor.domain.types (names_of p.types) in
     let objects = object_list factor.domain factor.problem in
     subst (Contains (members_by_name factor p)) h.called
-    (contains_map (λ (o : Typed). o.word.name) (filter test objects) h.object (taken_from_passes test objects h.object h.listed h.passes))
+    (to_map (λ (o : Typed). o.word.name) (filter test objects) h.object (taken_from_passes test objects h.object h.listed h.passes))
 
 object_named : (factor : Factor) (p : Typed) (name : Text) → IsStanding factor p name → is_object_name factor name ≡ true
 object_named factor p name h =
     any_from (λ n. bytes_eq name n) (vocabulary_of factor).objects h.object.word.name
-    (contains_map (λ (o : Typed). o.word.name) (object_list factor.domain factor.problem) h.object h.listed)
+    (to_map (λ (o : Typed). o.word.name) (object_list factor.domain factor.problem) h.object h.listed)
     ((bytes_eq-Decides name h.object.word.name).1 (sym h.called))
 
 pub are_standing : (factor : Factor) (params : List Typed) (objects : List Text) → may_stand_for factor params objects ≡ true → AreStanding factor params objects
@@ -99,7 +99,7 @@ is_choice factor (p ∷ ps) (o ∷ os) h =
     let others = product (map (members_by_name factor) ps) in
     in_parts (λ name. map (λ rest. name ∷ rest) others) (members_by_name factor p) o (o ∷ os)
     (member_named factor p o (standing factor p o parts.0))
-    (contains_map (λ rest. o ∷ rest) others os (is_choice factor ps os parts.1))
+    (to_map (λ rest. o ∷ rest) others os (is_choice factor ps os parts.1))
 
 -- ---- terms and atoms
 

@@ -7,9 +7,8 @@ use Rattle.std.proofs.lemmas.Slice.Eq.{bytes_eq-Decides}
 use Rattle.std.specs.List.{find, flat_map, filter_map, cons_option, AllPairs}
 use Rattle.std.specs.Prelude.{◌≢◌, Contains}
 use Rattle.std.specs.Str.{bytes_eq}
-use Rattle.mp_list.proofs.Members.{contains_head, contains_tail, contains_cases, no_member, any_from}
+use Rattle.mp_list.proofs.Members.{contains_head, contains_tail, contains_cases, no_member, any_from, to_map, from_map}
 use Rattle.mp_joint.specs.Fact.{Text}
-use Rattle.mp_stands.proofs.MemberLists.{contains_map, from_map}
 use Rattle.mp_typing.proofs.Passing.{taken_passes}
 use Rattle.mp_grounder.proofs.Distinct.{AreDistinct}
 use Rattle.mp_stands.proofs.JoinedLists.{from_given}
@@ -91,7 +90,7 @@ distinct_once name [] h = tt
 distinct_once name (x ∷ xs) h = (
   λ y found same.
       true≢false
-      (sym (any_from (λ n. bytes_eq (name x) n) (map name xs) (name y) (contains_map name xs y found) ((bytes_eq-Decides (name x) (name y)).1 same))
+      (sym (any_from (λ n. bytes_eq (name x) n) (map name xs) (name y) (to_map name xs y found) ((bytes_eq-Decides (name x) (name y)).1 same))
       ∙ h.0),
   distinct_once name xs h.1,
 )

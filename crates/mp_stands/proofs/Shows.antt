@@ -8,7 +8,7 @@ use Rattle.std.specs.Cmp.Lexicographic.{slice_cmp, texts_ties}
 use Rattle.std.specs.List.Sorted.{IsStrictlySortedBy}
 use Rattle.std.specs.Ordering.{nat_cmp, eq_by_cmp}
 use Rattle.std.specs.Prelude.{Contains}
-use Rattle.mp_list.proofs.Members.{any_from, some_member, contains_head, contains_tail}
+use Rattle.mp_list.proofs.Members.{any_from, some_member, contains_head, contains_tail, to_map, from_map}
 use Rattle.mp_factor.specs.declared.factor.Factor.{Factor}
 use Rattle.mp_typing.proofs.Passing.{taken_passes, taken_from_passes}
 use Rattle.mp_task.specs.declared.act.Act.{Act}
@@ -22,7 +22,6 @@ use Rattle.mp_views.specs.Lines.{part_line}
 use Rattle.mp_views.specs.Parts.{part_cmp, sorted_parts}
 use Rattle.mp_views.specs.Public.{is_public}
 use Rattle.mp_views.proofs.SortedLaws.{rises, same_members, texts_rise}
-use Rattle.mp_stands.proofs.MemberLists.{contains_map, from_map}
 use Rattle.mp_grounder.specs.Checked.{IsChecked}
 use Rattle.mp_ground.specs.declared.grounded.Ground.{Ground}
 use Rattle.mp_ground.specs.Grounded.{IsGrounded, act_of, counted, instances_by_name}
@@ -130,7 +129,7 @@ module _ (team : List Factor) (grounds : List Ground) (all : All IsChecked team)
   pub to_acts : (a : Act) → Contains g.acts a → is_public_act a ≡ true → Contains (closed_view g).acts (part_of g.publics a)
   to_acts a found public =
       let p = part_of g.publics a in
-      let there : Contains parts p = contains_map (part_of g.publics) (filter is_public_act g.acts) a (taken_from_passes is_public_act g.acts a found public) in
+      let there : Contains parts p = to_map (part_of g.publics) (filter is_public_act g.acts) a (taken_from_passes is_public_act g.acts a found public) in
       let itself_tied : eq_by_cmp part_cmp p p ≡ true =
       sym (texts_ties (part_line p) (part_line p)) ∙ (bytes_eq-Decides (part_line p) (part_line p)).1 refl in
       let tied = some_member (eq_by_cmp part_cmp p) (sorted_parts parts)

@@ -6,7 +6,7 @@ use Rattle.std.specs.Prelude.{Contains}
 use Rattle.mp_joint.specs.declared.fact.NamedFact.{NamedFact}
 use Rattle.mp_joint.specs.declared.fact.SignedFact.{SignedFact}
 use Rattle.mp_joint.specs.Fact.{plain, complement}
-use Rattle.mp_stands.proofs.MemberLists.{contains_map, from_map}
+use Rattle.mp_list.proofs.Members.{to_map, from_map}
 
 -- what stands among facts and complements is the one or the other
 pub signed_cases : (facts others : List NamedFact) (x : SignedFact) → Contains (map plain facts ++ map complement others) x
@@ -32,7 +32,7 @@ complement_among facts others f here =
     ]
 
 pub among_plain : (facts others : List NamedFact) (f : NamedFact) → Contains facts f → Contains (map plain facts ++ map complement others) (plain f)
-among_plain facts others f here = Contains-append_left (map plain facts) (map complement others) (plain f) (contains_map plain facts f here)
+among_plain facts others f here = Contains-append_left (map plain facts) (map complement others) (plain f) (to_map plain facts f here)
 
 pub among_complement : (facts others : List NamedFact) (f : NamedFact) → Contains others f → Contains (map plain facts ++ map complement others) (complement f)
-among_complement facts others f here = Contains-append_right (map plain facts) (map complement others) (complement f) (contains_map complement others f here)
+among_complement facts others f here = Contains-append_right (map plain facts) (map complement others) (complement f) (to_map complement others f here)

@@ -4,7 +4,7 @@ use Rattle.std.proofs.lemmas.Bool.{and_parts, and_from}
 use Rattle.std.proofs.lemmas.List.Elements.{All-contains, Contains-append_cases}
 use Rattle.std.specs.List.{list_all}
 use Rattle.std.specs.Prelude.{Contains, IsTrue}
-use Rattle.mp_list.proofs.Members.{contains_head, contains_tail, contains_cases}
+use Rattle.mp_list.proofs.Members.{contains_head, contains_tail, contains_cases, from_map}
 use Rattle.mp_factor.specs.Kinds.{is_name}
 use Rattle.mp_factor.specs.Words.{is_name_byte, begins_with_letter}
 use Rattle.mp_factor.specs.Named.{IsName, IsTypedOf, IsSignatureOf, IsVariable}
@@ -15,7 +15,6 @@ use Rattle.mp_typing.specs.ObjectList.{first_declared, object_list}
 use Rattle.mp_typing.proofs.Passing.{taken_passes}
 use Rattle.mp_joint.specs.Fact.{Text, is_listed}
 use Rattle.mp_lifted.specs.Vocabulary.{vocabulary_of}
-use Rattle.mp_stands.proofs.MemberLists.{from_map}
 use Rattle.mp_grounder.specs.Checked.{IsChecked}
 use Rattle.mp_stands.specs.Declared.{AreDeclared}
 use Rattle.mp_stands.proofs.JoinedLists.{listed_member}

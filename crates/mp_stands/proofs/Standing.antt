@@ -9,7 +9,8 @@ use Rattle.mp_lifted.specs.Texts.{signed_text}
 use Rattle.mp_stands.specs.Numbering.{Numbering, AreNumbersOf, AreNumbersFor, privates_of}
 use Rattle.mp_stands.specs.Stands.{AreCounted, AreActionsOf, AreTrueAtStart, is_known_to}
 use Rattle.mp_stands.specs.Touched.{goals}
-use Rattle.mp_stands.proofs.MemberLists.{from_map, has_place}
+use Rattle.mp_stands.proofs.MemberLists.{has_place}
+use Rattle.mp_list.proofs.Members.{from_map}
 use Rattle.mp_grounder.specs.Checked.{IsChecked}
 use Rattle.mp_ground.specs.declared.grounded.Ground.{Ground}
 use Rattle.mp_split.specs.TaskOf.{task_of}

@@ -8,7 +8,7 @@ use Rattle.std.specs.Option.{option_map}
 use Rattle.std.specs.Prelude.{Contains}
 use Rattle.std.specs.Str.{bytes_eq}
 use Rattle.mp_list.proofs.Bools.{same_tests}
-use Rattle.mp_list.proofs.Members.{any_from, some_member}
+use Rattle.mp_list.proofs.Members.{any_from, some_member, from_map}
 use Rattle.mp_factor.specs.declared.atom_values.Atom.{Atom}
 use Rattle.mp_factor.specs.declared.factor.Factor.{Factor}
 use Rattle.mp_task.proofs.Agreeing.{Contains-slice_get}
@@ -23,9 +23,8 @@ use Rattle.mp_views.specs.Opened.{open_view, public_init}
 use Rattle.mp_views.proofs.SortedLaws.{same_texts}
 use Rattle.mp_stands.specs.Touched.{factor_of}
 use Rattle.mp_stands.proofs.Contributed.{contribution_is, contributed}
-use Rattle.mp_stands.proofs.MemberLists.{from_map}
 use Rattle.mp_stands.proofs.Owners.{IsFactOf, owner_is, same_agent}
-use Rattle.mp_stands.proofs.SameFacts.{Decides-among}
+use Rattle.mp_joint.proofs.SameFacts.{Decides-among}
 use Rattle.mp_grounder.specs.Checked.{IsChecked}
 use Rattle.mp_grounder.proofs.Parts.{IsAtom, parts_of}
 use Rattle.mp_split.specs.Team.{open_views}

@@ -8,7 +8,7 @@ use Rattle.std.specs.Option.{is_none}
 use Rattle.std.specs.Ordering.{nat_cmp}
 use Rattle.std.specs.Prelude.{Contains}
 use Rattle.std.specs.Str.{bytes_eq}
-use Rattle.mp_list.proofs.Members.{any_from, some_member}
+use Rattle.mp_list.proofs.Members.{any_from, some_member, to_map, from_map}
 use Rattle.mp_factor.specs.declared.factor.Factor.{Factor}
 use Rattle.mp_typing.proofs.Passing.{taken_passes, taken_from_passes}
 use Rattle.mp_task.proofs.Agreeing.{Contains-slice_get}
@@ -19,7 +19,7 @@ use Rattle.mp_views.specs.Public.{is_public}
 use Rattle.mp_views.proofs.SortedLaws.{same_texts, texts_rise}
 use Rattle.mp_stands.specs.Stands.{AreCounted}
 use Rattle.mp_stands.specs.Touched.{factor_of}
-use Rattle.mp_stands.proofs.MemberLists.{contains_map, from_map, has_place}
+use Rattle.mp_stands.proofs.MemberLists.{has_place}
 use Rattle.mp_grounder.specs.Checked.{IsChecked}
 use Rattle.mp_grounder.specs.Counted.{counted_facts}
 use Rattle.mp_ground.specs.declared.grounded.Ground.{Ground}
@@ -106,7 +106,7 @@ module _ (team : List Factor) (grounds : List Ground) (all : All IsChecked team)
   in_publics place factor g at ground_at x public found =
       publics_of place factor g at ground_at (signed_text x)
       ∙ member_listed (signed_text x) (map signed_text (filter is_public (counted (known_at team place factor))))
-      (contains_map signed_text (filter is_public (counted (known_at team place factor))) x
+      (to_map signed_text (filter is_public (counted (known_at team place factor))) x
       (taken_from_passes is_public (counted (known_at team place factor)) x found public))
 
   pub in_texts : (place : ℕ) (g : Ground) (text : Text) → slice_get grounds place ≡ Some g → is_listed text g.publics ≡ true → is_listed text texts ≡ true

@@ -1,27 +1,25 @@
 -- The numbers of facts in a task are those of the facts that they are made of.
-use Rattle.std.proofs.Common.{◌≡◌, ℕ, Bool, true, false, ◌&&◌, List, [], ◌∷◌, map, filter, All, Some, slice_get, sym, ap, ◌∙◌, subst, inl, inr}
-use Rattle.std.proofs.lemmas.Bool.{cases_Bool, and_parts, and_from, or_left, not_from_false, false≢true}
+use Rattle.std.proofs.Common.{◌≡◌, ℕ, Bool, true, ◌&&◌, List, [], map, filter, All, Some, slice_get, sym, ap, ◌∙◌, subst, inl, inr}
+use Rattle.std.proofs.lemmas.Bool.{cases_Bool, and_parts, and_from, not_from_false}
 use Rattle.std.proofs.lemmas.Option.{slice_get-map}
 use Rattle.std.specs.Option.{option_map}
 use Rattle.std.specs.Prelude.{Contains}
-use Rattle.mp_list.proofs.Bools.{or_false}
-use Rattle.mp_list.proofs.Members.{contains_head, contains_one, any_from, some_member}
+use Rattle.mp_list.proofs.Members.{any_from, some_member, to_map, from_map}
 use Rattle.mp_factor.specs.declared.factor.Factor.{Factor}
 use Rattle.mp_typing.specs.Places.{numbers_where}
 use Rattle.mp_typing.proofs.Passing.{taken_passes, taken_from_passes}
 use Rattle.mp_task.proofs.Agreeing.{Contains-slice_get}
-use Rattle.mp_joint.specs.declared.fact.NamedFact.{NamedFact}
 use Rattle.mp_joint.specs.declared.fact.SignedFact.{SignedFact}
-use Rattle.mp_joint.specs.Fact.{Text, is_listed, same_fact}
+use Rattle.mp_joint.specs.Fact.{Text, is_listed}
 use Rattle.mp_lifted.specs.Texts.{signed_text}
 use Rattle.mp_views.specs.Public.{is_public}
 use Rattle.mp_stands.specs.Numbering.{HasNumberAmong, StandsForOneOf, AreNumbersOf}
-use Rattle.mp_stands.proofs.MemberLists.{contains_map, from_map, has_place, mapped}
-use Rattle.mp_stands.proofs.SameFacts.{Decides-among}
+use Rattle.mp_stands.proofs.MemberLists.{has_place, mapped}
 use Rattle.mp_grounder.specs.Checked.{IsChecked}
 use Rattle.mp_ground.specs.declared.grounded.Ground.{Ground}
 use Rattle.mp_ground.specs.Grounded.{IsGrounded, counted}
 use Rattle.mp_ground.specs.Places.{same_signed, is_one_of, places_in, public_places_in}
+use Rattle.mp_ground.proofs.SameFacts.{same_signed_is, signed_itself}
 use Rattle.mp_split.specs.Closed.{texts_at}
 use Rattle.mp_split.specs.TaskOf.{numbers}
 use Rattle.mp_split.specs.Team.{AreGrounded, known_at, shown_by}
@@ -29,31 +27,6 @@ use Rattle.mp_stands.proofs.Facts.{signed_tells, nobody}
 use Rattle.mp_stands.proofs.JoinedLists.{listed_some, member_listed, listed_member}
 use Rattle.mp_stands.proofs.Places.{from_places, to_places, items_at_places, from_start}
 use Rattle.mp_stands.proofs.Tables.{texts, one_told, IsPublicOfOne, in_facts, in_publics, counts_at}
-
--- ---- signed facts that are the same
-
-same_fact_is : (f g : NamedFact) → same_fact f g ≡ true → f ≡ g
-same_fact_is f g h = contains_one g f ((Decides-among f (g ∷ [])).0 (or_left (same_fact f g) false h))
-
-fact_itself : (f : NamedFact) → same_fact f f ≡ true
-fact_itself f = sym (or_false (same_fact f f)) ∙ (Decides-among f (f ∷ [])).1 (contains_head f [])
-
-same_signed_is : (x y : SignedFact) → same_signed x y ≡ true → x ≡ y
-same_signed_is x y h = by x.positive y.positive x.fact y.fact h
-  where
-    by : (a b : Bool) (f g : NamedFact) → same_signed (record { positive = a; fact = f }) (record { positive = b; fact = g }) ≡ true
-        → ◌≡◌ {A = SignedFact} (record { positive = a; fact = f }) (record { positive = b; fact = g })
-    by true true f g h = ap (λ k. record { positive = true; fact = k }) (same_fact_is f g h)
-    by true false f g h = absurd (false≢true h)
-    by false true f g h = absurd (false≢true h)
-    by false false f g h = ap (λ k. record { positive = false; fact = k }) (same_fact_is f g h)
-
-signed_itself : (x : SignedFact) → same_signed x x ≡ true
-signed_itself x = by x.positive x.fact
-  where
-    by : (a : Bool) (f : NamedFact) → same_signed (record { positive = a; fact = f }) (record { positive = a; fact = f }) ≡ true
-    by true f = fact_itself f
-    by false f = fact_itself f
 
 -- ---- private numbers
 
@@ -140,7 +113,7 @@ module _ (team : List Factor) (grounds : List Ground) (all : All IsChecked team)
     own_text x found public =
         own_listed (signed_text x)
         ∙ and_from (is_listed (signed_text x) public_ones) (is_listed (signed_text x) g.publics)
-        (member_listed (signed_text x) public_ones (contains_map signed_text (filter is_public facts) x (taken_from_passes is_public facts x found public)))
+        (member_listed (signed_text x) public_ones (to_map signed_text (filter is_public facts) x (taken_from_passes is_public facts x found public)))
         (in_publics team grounds all are place factor g at ground_at x public (counts x found))
 
     text_source : (text : Text) → is_listed text own_texts ≡ true

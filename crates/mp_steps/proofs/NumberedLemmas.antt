@@ -4,18 +4,18 @@ use Rattle.std.specs.List.{list_any, slice_get}
 use Rattle.std.specs.Option.{option_map, option_map_or}
 use Rattle.std.proofs.lemmas.Bool.{cases_lt, eqb-true}
 use Rattle.std.proofs.lemmas.List.{take_more, map_push, length-map, length_push}
-use Rattle.std.proofs.lemmas.Option.{none-some, same_Some, slice_get-map, slice_get_within, get_or_from_slice_get}
+use Rattle.std.proofs.lemmas.Option.{same_Some, slice_get-map, slice_get_within, get_or_from_slice_get}
 use Rattle.mp_steps.specs.declared.facts.FactMarks.{FactMarks}
 use Rattle.mp_steps.specs.declared.mark.Mark.{Mark}
 use Rattle.mp_checker.specs.Steps.{NumberedStep}
 use Rattle.mp_steps.specs.declared.role.Role.{Role}
 use Rattle.mp_steps.specs.declared.role.Role.TheVariants.{Needed, Added, Deleted}
 use Rattle.mp_steps.specs.Levels.{level_at}
-use Rattle.mp_steps.specs.Marks.{no_mark, better, IsBest, AreMet, levels_after}
+use Rattle.mp_steps.specs.Marks.{no_mark, better, IsBest, levels_after}
 use Rattle.mp_steps.specs.Numbered.{is_in, facts_in, has, has_against, meets, clashes, step_at, clash_at, marks_at, mark_in, mark_against, with_mark, best_against, marked_in, marked_by, met_by}
 use Rattle.mp_steps.specs.Levelled.{HasAgents, HasMarks, IsLevelled, of_agent}
 use Rattle.mp_steps.proofs.LevelLemmas.{level_kept, level_new}
-use Rattle.mp_steps.proofs.MarkLemmas.{twice_better, best_of_none, best_same, best_merge, best_over, best_without, best_with}
+use Rattle.mp_steps.proofs.MarkLemmas.{twice_better, best_same, best_merge, best_over, best_without, best_with}
 use Rattle.mp_steps.proofs.MemberLemmas.{item_left, item_end, item_there}
 
 -- ---- marks that are put at facts, one after another
@@ -165,20 +165,6 @@ module _ (level more : ℕ → ℕ) (n l : ℕ) (at : ℕ → Option NumberedSte
       same false e = refl
 
 -- ---- levels, action by action
-
-pub levelled_none : (steps : List NumberedStep) → IsLevelled steps 0 [] [] []
-levelled_none steps = record {
-  long = refl;
-  low = λ k m e. absurd (none-some m e);
-  met = λ k m e. absurd (none-some m e);
-  facts = λ role f. nothing role f;
-  own = λ a. best_of_none (level_at []) (of_agent (step_at steps) a);
-}
-  where
-    nothing : (role : Role) (f : ℕ) → IsBest (level_at []) 0 (λ t. has role (step_at steps t) f) (mark_in role (marks_at [] f))
-    nothing Needed f = best_of_none (level_at []) (λ t. has Needed (step_at steps t) f)
-    nothing Added f = best_of_none (level_at []) (λ t. has Added (step_at steps t) f)
-    nothing Deleted f = best_of_none (level_at []) (λ t. has Deleted (step_at steps t) f)
 
 best_kept : (level more : ℕ → ℕ) (n : ℕ) (p : ℕ → Bool) (b : Mark) → ((t : ℕ) → t ≤ n → more t ≡ level t) → IsBest level n p b → IsBest more n p b
 best_kept level more n p b kept h = record {

@@ -8,7 +8,7 @@ use Rattle.std.specs.Cmp.{IsTotalOrder, nat_cmp_total, on_total, then_total, uns
 use Rattle.std.proofs.lemmas.Bool.{and_parts, eqb-true, false≢true, lt-ltb}
 use Rattle.std.proofs.lemmas.Bool.Decides.{nat_tests}
 use Rattle.std.specs.declared.cmp.Reverse.{Reverse}
-use Rattle.std.proofs.lemmas.List.{get_or-map, get_or_default, length-map}
+use Rattle.std.proofs.lemmas.List.{get_or_default}
 use Rattle.std.proofs.lemmas.List.Elements.{All-cons, All-contains, All-contains_itself, All-filter, All-nil, filter_passes}
 use Rattle.std.proofs.lemmas.List.FromFn.{get_or-enumerate_from, length-enumerate_from}
 use Rattle.mp_list.specs.First.{IsFirst, IsStrictOrder, IsTotal, leftmost}
@@ -21,6 +21,7 @@ use Rattle.mp_store.specs.Minima.{Numbered, cheaper_cmp, first_open, is_cheaper,
 use Rattle.mp_store.specs.OpenFields.{from_first}
 use Rattle.mp_store.specs.Ranks.{first_rank, is_sooner, rank_cmp, rank_of}
 use Rattle.mp_store.specs.Record.{f, is_open}
+use Rattle.mp_list.proofs.Members.{to_map}
 
 pub rank_total : IsTotalOrder rank_cmp
 rank_total = then_total (on_total (λ q. q.f) nat_cmp_total) (then_total (on_total (λ q. q.h) nat_cmp_total) (on_total (λ q. q.number) nat_cmp_total))
@@ -148,9 +149,6 @@ first_open_none es none = none_found is_nearer (those (λ e. is_open e.mark) es)
 pub first_rank_is : (ranks : List Rank) (q : Rank) → IsFirst is_sooner ranks q → first_rank ranks ≡ Some q
 first_rank_is ranks q is = first_of is_sooner sooner_strict ranks q is (λ p found h k. sooner_total p q h k)
 
-contains_map : {X Y : Type 0} (g : X → Y) (xs : List X) (x : X) → Contains xs x → Contains (map g xs) (g x)
-contains_map g xs x (k, lt, is) = (k, (let len = length-map xs g in omega (arith, lt)), get_or-map g xs k x (g x) lt ∙ ap g is)
-
 none_sooner : (x : Reverse Rank) (xs : List (Reverse Rank)) → IsUpperBound from_first x xs → All (λ (q : Rank). is_sooner q x.0 ≡ false) (map (λ (y : Reverse Rank). y.0) xs)
 none_sooner x [] h = All-nil (λ (q : Rank). is_sooner q x.0 ≡ false)
 none_sooner x (y ∷ ys) h = All-cons (λ (q : Rank). is_sooner q x.0 ≡ false) y.0 (map (λ (z : Reverse Rank). z.0) ys) h.0 (none_sooner x ys h.1)
@@ -160,7 +158,7 @@ pub top_is_first : (x : Reverse Rank) (xs : List (Reverse Rank)) → Contains xs
 top_is_first x xs among above =
     let ranks = map (λ (y : Reverse Rank). y.0) xs in
     first_rank_is ranks x.0 (record {
-      among = contains_map (λ (y : Reverse Rank). y.0) xs x among;
+      among = to_map (λ (y : Reverse Rank). y.0) xs x among;
       least = λ q found. All-contains (λ (p : Rank). is_sooner p x.0 ≡ false) ranks q (none_sooner x xs above) found;
     })
 

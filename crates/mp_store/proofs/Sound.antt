@@ -5,7 +5,7 @@ use Rattle.std.specs.List.{list_any}
 use Rattle.std.specs.Option.{option_map_or}
 use Rattle.std.proofs.lemmas.List as within
 use Rattle.std.proofs.lemmas.Bool.{and_parts, cases_lt, cases_eq, false≢true, leb-false, false_from_ne_true}
-use Rattle.std.proofs.lemmas.List.{length-map, length_push, length-set, get_or_append_left, get_or_push, get_or_past, get_or-set_same, get_or-set_other, get_or_default}
+use Rattle.std.proofs.lemmas.List.{length-map, length_push, length-set, get_or_append_left, get_or_push, get_or_past, get_or-set_same, get_or-set_other}
 use Rattle.std.proofs.lemmas.List.Elements.{All-push}
 use Rattle.std.proofs.lemmas.List.Folds.{list_any_at}
 use Rattle.std.proofs.lemmas.Option.{slice_get_within}

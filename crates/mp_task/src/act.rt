@@ -4,7 +4,6 @@ use mp_list::{Copied, List, OutOfMemory};
 use mp_sets::{Agent, FactList};
 
 /// An own action: a ground action of STRIPS whose facts are public or private to the agent.
-#[derive(Drop)]
 pub struct Act {
     /// The public preconditions; the action may be applied where these and the private ones are true.
     pub pre_pub: FactList,
@@ -20,6 +19,20 @@ pub struct Act {
     pub del_priv: FactList,
     /// What it costs.
     pub cost: u64,
+}
+
+impl Drop for Act {
+    fn drop(self) {
+        let Act {
+            pre_pub: _,
+            pre_priv: _,
+            add_pub: _,
+            add_priv: _,
+            del_pub: _,
+            del_priv: _,
+            cost: _,
+        } = self;
+    }
 }
 
 /// Own actions by their numbers.
@@ -53,20 +66,6 @@ impl Drop for Far {
 
 /// Parts of other agents' actions.
 pub type FarList = List<Far>;
-
-impl Copied for Act {
-    fn copy(&self) -> Result<Act, OutOfMemory> {
-        Ok(Act {
-            pre_pub: self.pre_pub.copy()?,
-            pre_priv: self.pre_priv.copy()?,
-            add_pub: self.add_pub.copy()?,
-            add_priv: self.add_priv.copy()?,
-            del_pub: self.del_pub.copy()?,
-            del_priv: self.del_priv.copy()?,
-            cost: self.cost,
-        })
-    }
-}
 
 impl Copied for Far {
     fn copy(&self) -> Result<Far, OutOfMemory> {

@@ -4,7 +4,7 @@ ghost use Rattle.std.specs.Prelude.{◌≡◌, ◌<◌, length, slice_get, IsSom
 ghost use Rattle.mp_task.specs.Public.{is_public};
 
 use crate::act::{ActList, FarList};
-use mp_list::{Copied, List, OutOfMemory};
+use mp_list::List;
 use mp_sets::{Agent, FactList};
 use std::marker::Model;
 
@@ -82,23 +82,5 @@ impl Task {
     {
         let act = &self.acts.as_slice()[action as usize];
         act.pre_pub.len() > 0 || act.add_pub.len() > 0 || act.del_pub.len() > 0
-    }
-}
-
-impl Copied for Task {
-    fn copy(&self) -> Result<Task, OutOfMemory> {
-        Ok(Task {
-            me: self.me,
-            agents: self.agents,
-            publics: self.publics,
-            privates: self.privates,
-            start_pub: self.start_pub.copy()?,
-            start_priv: self.start_priv.copy()?,
-            goal_pub: self.goal_pub.copy()?,
-            goal_priv: self.goal_priv.copy()?,
-            acts: self.acts.copy()?,
-            far: self.far.copy()?,
-            met: self.met.copy()?,
-        })
     }
 }

@@ -2,7 +2,7 @@
 use Rattle.std.proofs.Common.{◌≡◌, ◌≢◌, ◌⊎◌, inl, inr, ℕ, zero, suc, ◌+◌, ◌-◌, ◌<◌, List, [], ◌∷◌, length, map, get_or, get_or-set_same, get_or-set_other, set, Some, None, refl, sym, ap, ◌∙◌, arith, subst}
 use Rattle.std.specs.Prelude.{Option, replicate}
 use Rattle.std.specs.Option.{option_map}
-use Rattle.std.proofs.lemmas.List.{length-replicate, length-set, set-get_or}
+use Rattle.std.proofs.lemmas.List.{length-replicate, length-set}
 use Rattle.std.proofs.lemmas.Option.{none-some}
 use Rattle.mp_world.specs.Values.{Values}
 use lib.ListN.{length-map}
@@ -211,7 +211,3 @@ module _ (value : Values) (agents : ℕ) where
             ∙ (sym (ap (option_map orders) own_alone)
             ∙ (ap (λ (i : ℕ). option_map orders (get_or alone i None)) (sym same) ∙ e))))
             (λ other. absurd (none-some o (sym (ap (option_map orders) (other_alone k other)) ∙ e)))
-
--- an empty place that is emptied
-pub still_empty : (ns : Places) (at : ℕ) → None ≡ get_or ns at None → set ns at None ≡ ns
-still_empty ns at none = ap (set ns at) none ∙ set-get_or ns at None

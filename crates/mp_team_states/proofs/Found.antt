@@ -13,7 +13,8 @@ use Rattle.mp_world.specs.SearchWords.{Entry, AgentState, receivers}
 use Rattle.mp_world.specs.World.{AreNumbered, IsTeamWorld, World, agent_at, under_way}
 use Rattle.mp_world.proofs.Agents.{member_of}
 use Rattle.mp_team_states.specs.TeamFound.{found_of, on_its_way, seen_entry, sent_by, sent_of, sent_to, state_read, states_between, states_from}
-use Rattle.mp_team_states.proofs.Members.{at_place, from_filter_map, from_flat_map, from_map, to_filter_map, to_flat_map, to_map}
+use Rattle.mp_team_states.proofs.Members.{at_place, from_filter_map, to_filter_map}
+use Rattle.mp_list.proofs.Members.{from_flat_map, from_map, to_flat_map, to_map}
 
 -- ---- entries
 

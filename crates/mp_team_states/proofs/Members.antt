@@ -1,39 +1,7 @@
 -- Members of mapped and joined lists.
-use Rattle.mp_world.proofs.Basics.{◌≡◌, ◌≢◌, ℕ, zero, suc, List, [], ◌∷◌, ◌++◌, length, map, Option, Some, None, refl, sym, ap, subst, ◌∙◌, inl, inr, ◌⊎◌, Contains, filter_map, slice_get, slice_set, cons_option, flat_map, Contains-append_cases, Contains-append_left}
-use Rattle.mp_world.proofs.Basics.{Contains-append_right, cases_eq, same_Some, none-some, slice_get-get_or}
+use Rattle.mp_world.proofs.Basics.{◌≡◌, ◌≢◌, ℕ, zero, suc, List, [], ◌∷◌, ◌++◌, length, Option, Some, None, refl, sym, ap, subst, ◌∙◌, inl, inr, ◌⊎◌, Contains, filter_map, slice_get, slice_set, cons_option}
+use Rattle.mp_world.proofs.Basics.{cases_eq, same_Some, none-some, slice_get-get_or}
 use Rattle.mp_list.proofs.Members.{contains_cases, contains_head, contains_tail, no_member}
-
-pub to_map : {X Y : Type 0} (f : X → Y) (xs : List X) (x : X) → Contains xs x → Contains (map f xs) (f x)
-to_map f [] x found = absurd (no_member x found)
-to_map f (y ∷ ys) x found =
-    elim (contains_cases y ys x found) [
-      | inl here ↦ subst (Contains (f y ∷ map f ys)) (ap f here) (contains_head (f y) (map f ys))
-      | inr there ↦ contains_tail (f y) (map f ys) (f x) (to_map f ys x there)
-    ]
-
-pub from_map : {X Y : Type 0} (f : X → Y) (xs : List X) (y : Y) → Contains (map f xs) y → (x : X) × Contains xs x × (f x ≡ y)
-from_map f [] y found = absurd (no_member y found)
-from_map f (x ∷ xs) y found =
-    elim (contains_cases (f x) (map f xs) y found) [
-      | inl here ↦ (x, contains_head x xs, here)
-      | inr there ↦ let rest = from_map f xs y there in (rest.0, contains_tail x xs rest.0 rest.1, rest.2)
-    ]
-
-pub to_flat_map : {X Y : Type 0} (f : X → List Y) (xs : List X) (x : X) (y : Y) → Contains xs x → Contains (f x) y → Contains (flat_map f xs) y
-to_flat_map f [] x y found inner = absurd (no_member x found)
-to_flat_map f (z ∷ zs) x y found inner =
-    elim (contains_cases z zs x found) [
-      | inl here ↦ Contains-append_left (f z) (flat_map f zs) y (subst (λ w. Contains (f w) y) (sym here) inner)
-      | inr there ↦ Contains-append_right (f z) (flat_map f zs) y (to_flat_map f zs x y there inner)
-    ]
-
-pub from_flat_map : {X Y : Type 0} (f : X → List Y) (xs : List X) (y : Y) → Contains (flat_map f xs) y → (x : X) × Contains xs x × Contains (f x) y
-from_flat_map f [] y found = absurd (no_member y found)
-from_flat_map f (x ∷ xs) y found =
-    elim (Contains-append_cases (f x) (flat_map f xs) y found) [
-      | inl here ↦ (x, contains_head x xs, here)
-      | inr there ↦ let rest = from_flat_map f xs y there in (rest.0, contains_tail x xs rest.0 rest.1, rest.2)
-    ]
 
 to_option : {X : Type 0} (o : Option X) (xs : List X) (x : X) → (o ≡ Some x) ⊎ Contains xs x → Contains (cons_option o xs) x
 to_option None xs x (inl here) = absurd (none-some x here)

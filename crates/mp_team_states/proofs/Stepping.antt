@@ -1,7 +1,7 @@
 -- What an event does to what its agent keeps and sent, and to the messages under way.
 use Rattle.mp_world.proofs.Basics.{◌≡◌, ℕ, ◌+◌, ◌<◌, ◌^◌, ◌⊎◌, Bool, true, List, [], ◌∷◌, map, Option, Some, refl, sym, ap, subst, ◌∙◌, inl, inr, Contains, drop, slice_get, slice_index_or, ◌==◌, if◌then◌else◌, filter, flat_map, and_parts, eq-eqb, All-contains}
 use Rattle.mp_world.proofs.Basics.{Contains-append_left, Contains-append_right}
-use Rattle.mp_list.proofs.Members.{contains_cases, no_member}
+use Rattle.mp_list.proofs.Members.{contains_cases, no_member, to_flat_map, to_map}
 use Rattle.mp_messages.specs.declared.message.Message.TheVariants as kinds
 use Rattle.mp_store.proofs.RankLemmas.{member_kept}
 use Rattle.mp_machine.specs.declared.event.Local.TheVariants as locals
@@ -23,7 +23,6 @@ use Rattle.mp_team_states.proofs.WorldsGrow.{search_holds}
 use Rattle.mp_team_states.proofs.Expanded.{HasExpanded, gone_on, has_expanded, received_continues}
 use Rattle.mp_team_states.proofs.Continuing.{continues_same}
 use Rattle.mp_team_states.proofs.SoundWorlds.{entry_room, task_in}
-use Rattle.mp_team_states.proofs.Members.{to_flat_map, to_map}
 
 -- What a step does: what its agent keeps and sent, and that each sending goes out to each agent that it is for.
 pub record HasStepped (value : Numbers → Numbers → Option ℕ) (r : AgentRecord) (s : Step) : Type 0 where

@@ -2,7 +2,7 @@
 -- expand fewer entries than there are states.
 use Rattle.mp_world.proofs.Basics.{◌≡◌, ℕ, ◌+◌, ◌-◌, ◌<◌, ◌≤◌, ◌^◌, ◌⊎◌, Bool, true, false, List, [], ◌∷◌, ◌++◌, length, map, Option, Some, refl, sym, ap, subst, ◌∙◌, arith, inl, inr, Contains, ◌==◌, if◌then◌else◌, slice_get, slice_index_or, option_map_or, cases_lt}
 use Rattle.mp_world.proofs.Basics.{eqb-true, false≢true, length-map, get_or_from_slice_get, none-some, same_Some, slice_get_within}
-use Rattle.mp_list.proofs.Members.{contains_cases, no_member}
+use Rattle.mp_list.proofs.Members.{contains_cases, no_member, from_map}
 use Rattle.mp_search.proofs.KeyedStates.{Decides-state}
 use Rattle.mp_world.specs.AgentWords.{AgentTask, Event, Expand, Take, Start, Spent, AgentRecord, given_verdict}
 use Rattle.mp_world.specs.SearchWords.{Entry, Expanded, Open, IsSound, is_open, AgentState, no_tag, same_state}
@@ -22,7 +22,6 @@ use Rattle.mp_team_states.proofs.StepsSound.{agent_sound, states_stay_sound}
 use Rattle.mp_team_states.specs.Expansions.{IsExpandedAt, nothing_known}
 use Rattle.mp_team_states.proofs.Continuing.{WasExpanded}
 use Rattle.mp_team_states.proofs.Heuristics.{heuristic_of}
-use Rattle.mp_team_states.proofs.Members.{from_map}
 use Rattle.mp_team_states.proofs.Once.{HaveRising, rising_in_runs}
 use Rattle.mp_team_states.proofs.SoundWorlds.{IsHeuristic, later_cheaper, states_known}
 use Rattle.mp_team_states.proofs.StillExpanded.{stays_expanded}

@@ -26,7 +26,8 @@ use Rattle.mp_team_states.proofs.StepsSound.{task_at}
 use Rattle.mp_team_states.specs.Estimates.{AreGoalsFlagged}
 use Rattle.mp_team_states.specs.TeamFound.{found_of}
 use Rattle.mp_team_states.proofs.Found.{found_entry, found_message}
-use Rattle.mp_team_states.proofs.Members.{from_filter_map, to_filter_map, to_map}
+use Rattle.mp_team_states.proofs.Members.{from_filter_map, to_filter_map}
+use Rattle.mp_list.proofs.Members.{to_map}
 use Rattle.mp_team_snapshots.specs.Found.{findings_in, least_state, least_under_way, state_f}
 use Rattle.mp_team_verdicts.proofs.LeastEntries.{bound_at_most, least_f_at_most}
 use Rattle.mp_team_verdicts.proofs.Least.{IsAtMost, at_most_more, least_at_most, lesser_first, lesser_second}

@@ -8,12 +8,11 @@ use Rattle.std.proofs.Math.Nat.{two-pow-succ}
 use Rattle.std.proofs.lemmas.Bool.{le-ltb}
 use Rattle.std.proofs.lemmas.Map.Steps.{length-le_from_distinct_below}
 use Rattle.std.proofs.lemmas.Nat.{pow_pos}
-use Rattle.mp_list.proofs.Members.{contains_head, contains_tail, some_member}
+use Rattle.mp_list.proofs.Members.{contains_head, contains_tail, some_member, from_map}
 use Rattle.mp_sets.specs.Compared.{binary_below}
 use Rattle.mp_sets.proofs.ComparedLemmas.{bit_at-binary_below, one_if}
 use Rattle.mp_sets.proofs.SetLemmas.{same_numbers}
 use Rattle.mp_world.specs.SearchWords.{Tag, AllBelow, Numbers, AgentState, no_tag}
-use Rattle.mp_team_states.proofs.Members.{from_map}
 
 -- ---- numbers of which no two are equal
 

@@ -1,7 +1,7 @@
 -- States go to other agents alone: none is under way from an agent to itself.
 use Rattle.mp_world.proofs.Basics.{◌≡◌, ◌≢◌, ℕ, ◌-◌, ◌≤◌, ◌⊎◌, Bool, true, false, List, [], length, Some, refl, sym, ap, subst, ◌∙◌, arith, inl, inr, Contains, replicate, ◌==◌, if◌then◌else◌, slice_index_or, filter, cases_eq, eqb-true, get_or-replicate}
 use Rattle.mp_world.proofs.Basics.{All-contains, Contains-append_cases}
-use Rattle.mp_list.proofs.Members.{no_member}
+use Rattle.mp_list.proofs.Members.{no_member, from_map}
 use Rattle.mp_messages.specs.declared.message.Message.TheVariants as kinds
 use Rattle.mp_store.proofs.RankLemmas.{member_passes}
 use Rattle.mp_world.specs.AgentWords.{AgentTask, Event, Expand, Take, Start, State, spelling, Out, in_bytes}
@@ -13,7 +13,6 @@ use Rattle.mp_world.proofs.Agents.{member_of, sender_of}
 use Rattle.mp_world.proofs.Mail.{agent_of_team, under_way-other}
 use Rattle.mp_world.proofs.Runs.{run_has}
 use Rattle.mp_world.proofs.Stepping.{team_lists, team_size}
-use Rattle.mp_team_states.proofs.Members.{from_map}
 use Rattle.mp_team_verdicts.proofs.Expansions.{GoesOut}
 use Rattle.mp_team_verdicts.proofs.Heard.{HearOthers, event_hears, start_hears}
 use Rattle.mp_team_verdicts.proofs.StepMessages.{local_goes}

@@ -16,7 +16,3 @@ pub behind-more : (known : List EventLine) (event : Event) (number : ℕ) (read 
     ≡ behind_events known (with_event event number read)
 behind-more known event number (Ok lines) = ap Ok (append_assoc known _ lines)
 behind-more known event number (Err refused) = refl
-
-pub behind-none : (read : Result (List EventLine) ℕ) → behind_events [] read ≡ read
-behind-none (Ok lines) = refl
-behind-none (Err refused) = refl

@@ -1,41 +1,8 @@
 -- Members of mapped, filtered and joined lists, and the first one that passes a test.
-use Rattle.std.proofs.Common.{◌≡◌, refl, sym, ap, ◌∙◌, subst, Bool, true, false, cond, List, [], ◌∷◌, map, Some, None, inl, inr}
+use Rattle.std.proofs.Common.{◌≡◌, refl, sym, ap, ◌∙◌, subst, Bool, true, false, cond, List, [], ◌∷◌, Some, None, inl, inr}
 use Rattle.std.specs.Prelude.{Contains}
-use Rattle.std.specs.List.{filter, find, flat_map}
-use Rattle.std.proofs.lemmas.List.Elements.{Contains-append_cases, Contains-append_left, Contains-append_right}
+use Rattle.std.specs.List.{filter, find}
 use Rattle.mp_list.proofs.Members.{contains_head, contains_tail, contains_cases, no_member}
-
-pub to_map : {X Y : Type 0} (f : X → Y) (xs : List X) (x : X) → Contains xs x → Contains (map f xs) (f x)
-to_map f [] x found = absurd (no_member x found)
-to_map f (y ∷ ys) x found =
-    elim (contains_cases y ys x found) [
-      | inl here ↦ subst (Contains (f y ∷ map f ys)) (ap f here) (contains_head (f y) (map f ys))
-      | inr there ↦ contains_tail (f y) (map f ys) (f x) (to_map f ys x there)
-    ]
-
-pub from_map : {X Y : Type 0} (f : X → Y) (xs : List X) (y : Y) → Contains (map f xs) y → (x : X) × Contains xs x × (f x ≡ y)
-from_map f [] y found = absurd (no_member y found)
-from_map f (x ∷ xs) y found =
-    elim (contains_cases (f x) (map f xs) y found) [
-      | inl here ↦ (x, contains_head x xs, here)
-      | inr there ↦ let rest = from_map f xs y there in (rest.0, contains_tail x xs rest.0 rest.1, rest.2)
-    ]
-
-pub to_flat_map : {X Y : Type 0} (f : X → List Y) (xs : List X) (x : X) (y : Y) → Contains xs x → Contains (f x) y → Contains (flat_map f xs) y
-to_flat_map f [] x y found inner = absurd (no_member x found)
-to_flat_map f (z ∷ zs) x y found inner =
-    elim (contains_cases z zs x found) [
-      | inl here ↦ Contains-append_left (f z) (flat_map f zs) y (subst (λ w. Contains (f w) y) (sym here) inner)
-      | inr there ↦ Contains-append_right (f z) (flat_map f zs) y (to_flat_map f zs x y there inner)
-    ]
-
-pub from_flat_map : {X Y : Type 0} (f : X → List Y) (xs : List X) (y : Y) → Contains (flat_map f xs) y → (x : X) × Contains xs x × Contains (f x) y
-from_flat_map f [] y found = absurd (no_member y found)
-from_flat_map f (x ∷ xs) y found =
-    elim (Contains-append_cases (f x) (flat_map f xs) y found) [
-      | inl here ↦ (x, contains_head x xs, here)
-      | inr there ↦ let rest = from_flat_map f xs y there in (rest.0, contains_tail x xs rest.0 rest.1, rest.2)
-    ]
 
 kept_by : {X : Type 0} (test : Bool) (y : X) (ys : List X) → Contains ys y → Contains (cond test (y ∷ ys) ys) y
 kept_by true y ys h = contains_tail y ys y h

@@ -4,23 +4,14 @@ use Rattle.std.specs.List.{filter_map}
 use Rattle.std.proofs.lemmas.Grind.{flat_map-append}
 use Rattle.std.proofs.lemmas.List.Sums.{take_while-cons}
 use Rattle.mp_messages.specs.History.{agent_of, event_of, part}
-use Rattle.mp_messages.specs.declared.history.Kind.{Kind}
 use Rattle.mp_messages.specs.declared.history.Entry.{Entry}
-use Rattle.mp_messages.specs.declared.history.Entry.TheVariants.{Act, Put, Took}
+use Rattle.mp_messages.specs.declared.history.Entry.TheVariants.{Put}
 use Rattle.mp_text.specs.Lines.{Text, text_of_lines}
 use Rattle.mp_text.specs.Trace.{is_put, lines_if_event, message_line, put_line, puts_before_event, trace_lines, trace_text}
 
 pub put_own : (agent from to : ℕ) (bytes : List ℕ) (later : List Entry) → (from == agent) ≡ true
     → puts_before_event agent (Put from to bytes ∷ later) ≡ Put from to bytes ∷ puts_before_event agent later
 put_own agent from to bytes later own = rw (own, take_while-cons is_put (Put from to bytes) (part later agent))
-
-pub act_own : (agent actor : ℕ) (kind : Kind) (later : List Entry) → (actor == agent) ≡ true
-    → puts_before_event agent (Act actor kind ∷ later) ≡ []
-act_own agent actor kind later own = rw (own, take_while-cons is_put (Act actor kind) (part later agent))
-
-pub took_own : (agent by from : ℕ) (bytes : List ℕ) (later : List Entry) → (by == agent) ≡ true
-    → puts_before_event agent (Took by from bytes ∷ later) ≡ []
-took_own agent by from bytes later own = rw (own, take_while-cons is_put (Took by from bytes) (part later agent))
 
 pub of_another : (agent : ℕ) (entry : Entry) (later : List Entry) → (agent_of entry == agent) ≡ false
     → puts_before_event agent (entry ∷ later) ≡ puts_before_event agent later

@@ -4,11 +4,11 @@ use Rattle.std.specs.Prelude.{Contains}
 use Rattle.std.proofs.lemmas.List.Elements.{Contains-append_cases, Contains-append_left, Contains-append_right}
 use Rattle.std.proofs.lemmas.Bool.{eqb-false, ne_eqb, not-true}
 use Rattle.std.proofs.lemmas.List.FromFn.{get_or-range_with_len, length-range_with_len}
-use Rattle.mp_list.proofs.Members.{contains_head, contains_tail, contains_cases}
+use Rattle.mp_list.proofs.Members.{contains_head, contains_tail, contains_cases, from_flat_map, from_map, to_flat_map, to_map}
 use Rattle.mp_messages.specs.declared.history.Event.{Event}
 use Rattle.mp_messages.specs.declared.history.Event.TheVariants.{Expand, Take, Start}
 use Rattle.mp_text.specs.Schedule.{events_of, pairs, team}
-use Rattle.mp_text.proofs.MemberLemmas.{from_filter, from_flat_map, from_map, to_filter, to_flat_map, to_map}
+use Rattle.mp_text.proofs.MemberLemmas.{from_filter, to_filter}
 use Rattle.mp_text.proofs.PairLemmas.{IsPair}
 
 in_team : (agents n : ℕ) → 1 ≤ n → n ≤ agents → Contains (team agents) n

@@ -129,10 +129,6 @@ order_different start uses = different_all (start ∷ []) uses (λ i j i_in j_in
 pub set_found : (xs : List Numbers) (s : Numbers) (k : ℕ) → k < length xs → get_or xs k set.empty ≡ s → Contains xs s
 set_found xs s k lt e = (k, lt, get_or_default xs k s set.empty lt ∙ e)
 
-pub found_set : (xs : List Numbers) (s : Numbers) (k : ℕ) → k ≡ place xs s → k < length xs → get_or xs k set.empty ≡ s
-found_set xs s k is lt =
-    ap (λ (j : ℕ). get_or xs j set.empty) is ∙ at_place xs s (subst (λ (j : ℕ). j < length xs) is lt)
-
 pub missing_set : (xs : List Numbers) (s : Numbers) → place xs s ≡ length xs → Contains xs s → ⊥
 missing_set xs s missing there =
     not_before xs s there.0 (omega (arith, there.1)) (get_or_default xs there.0 set.empty s there.1 ∙ there.2)

@@ -1,5 +1,5 @@
 -- Where nothing of the files is refused and no fault was counted, a call answers.
-use Rattle.std.proofs.Common.{◌≡◌, ◌<◌, ◌≤◌, ◌⊎◌, inl, inr, ℕ, take, Some, None, Err, refl, subst, arith, ◌∙◌}
+use Rattle.std.proofs.Common.{◌≡◌, ◌≤◌, ◌⊎◌, inl, inr, ℕ, take, Some, None, Err, refl, subst, arith, ◌∙◌}
 use Rattle.std.specs.Prelude.{IsSomeAnd, slice_get}
 use Rattle.mp_files.specs.Cause.{SeenSource}
 use Rattle.mp_files.specs.Team.{ReadsTeam}

@@ -1,9 +1,8 @@
 -- From a decision on a team to what the texts of a request lead to.
-use Rattle.std.proofs.Common.{◌≡◌, ℕ, Bool, true, List, [], ◌∷◌, Option, Result, Ok, Err, IfOk, IfErr, refl, sym, subst, ap, ◌∙◌}
+use Rattle.std.proofs.Common.{◌≡◌, ℕ, Bool, List, [], ◌∷◌, Option, Result, Ok, Err, IfOk, IfErr, sym, subst, ap, ◌∙◌}
 use Rattle.mp_factor.specs.declared.factor.Factor.{Factor}
 use Rattle.mp_joint.specs.Fact.{Text}
-use Rattle.mp_files.specs.Cause.{IsOfReading, Rests as FilesRest, SeenSource, seen_source}
-use Rattle.mp_files.specs.Reading.{Refuses}
+use Rattle.mp_files.specs.Cause.{Rests as FilesRest, SeenSource, seen_source}
 use Rattle.mp_files.specs.Team.{IsReadTeam, ReadsMade, Two}
 use Rattle.mp_files.specs.declared.refusal.Refusal.{Refusal as FilesRefusal}
 use Rattle.mp_files.specs.declared.refusal.Refusal.TheVariants as files
@@ -17,27 +16,25 @@ use Rattle.mp_optimality.specs.declared.refusal.AuditRefusal.{AuditRefusal}
 use Rattle.mp_optimality.specs.declared.refusal.AuditRefusal.TheVariants as audit
 use Rattle.mp_outside.specs.Acts.{FileAsked}
 use Rattle.mp_outside.specs.Source.{Files as Held}
-use Rattle.mp_solutions.specs.Solution.{IsFoundOn, IsReplayed}
+use Rattle.mp_solutions.specs.Solution.{IsFoundOn}
 use Rattle.mp_solutions.specs.declared.solution.Solution.{Solution}
-use Rattle.mp_solve.specs.Refused.{AreWithin, Refuses as ReplayRefuses}
+use Rattle.mp_solve.specs.Refused.{AreWithin}
 use Rattle.mp_solve.specs.declared.refusal.ReplayRefusal.{ReplayRefusal}
 use Rattle.mp_solve.specs.declared.refusal.ReplayRefusal.TheVariants as replay
 use Rattle.mp_top.specs.Asked.{TeamRequest, Work, agents_of, longest_certificate, longest_plan, longest_schedule, values_of}
-use Rattle.mp_top.specs.Asked.Texts.{in_files, made}
+use Rattle.mp_top.specs.Asked.Texts.{in_files}
 use Rattle.mp_top.specs.Asked.Work.{audited, checked, replayed, searched}
 use Rattle.mp_top.specs.Cause.{Rests}
-use Rattle.mp_top.specs.Decided.{AuditsFor, CertifiesFor, ChecksFor, Decides, IsGroundRefused, IsRefusedTeam, IsTold, IsToldByCertificate, MakesFor, ReplaysBy, SolvesFor, refusal_of, refusal_of_audit, report_of, told}
+use Rattle.mp_top.specs.Decided.{AuditsFor, CertifiesFor, ChecksFor, Decides, IsGroundRefused, IsRefusedTeam, IsTold, IsToldByCertificate, MakesFor, ReplaysBy, SolvesFor, refusal_of_audit, report_of, told}
 use Rattle.mp_top.specs.First.{IsSizeRefused}
 use Rattle.mp_top.specs.FirstText.{AreTextsOf, IsTextOf}
 use Rattle.mp_top.specs.Outcome.{answer_status, printed_text, reported, told_made}
-use Rattle.mp_top.specs.Refusal.{status_of_files}
 use Rattle.mp_top.specs.Team.{IsTeam}
 use Rattle.mp_top.specs.declared.decision.Decision.{Decision}
 use Rattle.mp_top.specs.declared.refusal.Refusal.{Refusal}
 use Rattle.mp_top.specs.declared.refusal.Refusal.TheVariants.{Files, First, Sizes}
 use Rattle.mp_top.specs.declared.refusal.FirstRefusal.TheVariants as first
 use Rattle.mp_top.specs.declared.status.Status.TheVariants as status
-use Rattle.mp_top.proofs.Made.{never_read}
 use Rattle.mp_words.specs.Requests.{Searching, ToAudit, ToCertify, ToCheck, ToMake, ToReplay, ToSolve}
 use Rattle.mp_words.specs.Requests.Wanted.{audits, certifies, checks, makes, replays, solves}
 
@@ -79,14 +76,6 @@ solves_for s one trace team found d within solved is = record {
   ended = same_end found _ d is;
 }
 
-pub replays_by : (s : Searching) (text : Text) (team : List Factor) (found : Solution) (d : Decision) → AreWithin team → IsReplayed (values_of s.heuristic) s.limit team text found → IsTold found (printed_text true found.log found.answer found.text) d → ReplaysBy s text team d
-replays_by s text team found d within by_schedule is = record {
-  outcome = found.text;
-  replayed = record { within = within; found = subst (IsReplayed (values_of s.heuristic) s.limit team text) (sym (same_solution found _ d is)) by_schedule };
-  printed = is.printed ∙ (λ i. printed_text true (sym is.log i) (sym is.answer i) found.text);
-  ended = same_end found _ d is;
-}
-
 pub makes_for : (s : Searching) (one show : Bool) (texts : List Text) (size : ℕ) (team : List Factor) (found : Solution) (d : Decision) → AreWithin team → IsFoundOn (values_of s.heuristic) s.limit team one found → IsTold found (told_made show texts size found.answer) d → MakesFor s one show texts size team d
 makes_for s one show texts size team found d within solved is = record {
   outcome = found.text;
@@ -103,13 +92,6 @@ files_rest source first names work texts (files.Read at) are h = record { first_
 files_rest source first names work texts (files.TooLarge at) are h = record { first_texts = (texts, are); first = h }
 files_rest source first names work texts (files.Fault at kind place) are h = record { first_texts = (texts, are); first = h }
 files_rest source first names work texts files.OutOfMemory are h = tt
-
--- a refusal of what is made
-pub made_rest : (source : SeenSource) (names texts : List Two) (work : Work) (r : FilesRefusal) → Refuses (ReadsMade texts) r → Rests source (record { first = []; texts = made names texts; work = work }) (Files r)
-made_rest source names texts work (files.Read at) h = absurd (never_read at texts h)
-made_rest source names texts work (files.TooLarge at) h = record { first_texts = ([], tt); first = h }
-made_rest source names texts work (files.Fault at kind place) h = record { first_texts = ([], tt); first = h }
-made_rest source names texts work files.OutOfMemory h = tt
 
 too_many_tries : (work : Work) (team : List Factor) (agent : ℕ) → IsGroundRefused work team (TooManyTries agent) → IsSizeRefused work team (TooManyTries agent)
 too_many_tries (searched s) team agent h = h
@@ -148,21 +130,10 @@ team_rests source request texts team (First place first.TooLarge) are is_team h 
 team_rests source request texts team (First place (first.Line n)) are is_team h =
     record { texts = texts; are_texts = are; team = team; is_team = is_team; refused = h }
 
-pub refused_replay : (s : Searching) (team : List Factor) (text : Text) (r : ReplayRefusal) → ReplayRefuses (values_of s.heuristic) s.limit team text r → IsRefusedTeam (replayed s) team (text ∷ []) (refusal_of r)
-refused_replay s team text (replay.Sizes r) h = h
-refused_replay s team text (replay.Line n) h = (refl, h)
-
 pub refused_audit : (team : List Factor) (certificate plan : Text) (r : AuditRefusal) → IsRefusedAudit team certificate plan r → IsRefusedTeam audited team (certificate ∷ plan ∷ []) (refusal_of_audit r)
 refused_audit team certificate plan (audit.Sizes r) h = h
 refused_audit team certificate plan (audit.Certificate n) h = h
 refused_audit team certificate plan (audit.Plan n) h = h
-
--- a file that cannot be read has its status
-pub reading_status : (r : FilesRefusal) → IsOfReading r → status_of_files r ≡ status.Read
-reading_status (files.Read at) h = refl
-reading_status (files.TooLarge at) h = absurd h
-reading_status (files.Fault at kind place) h = absurd h
-reading_status files.OutOfMemory h = absurd h
 
 -- ---- What is decided about each request.
 

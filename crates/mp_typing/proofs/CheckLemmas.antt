@@ -1,11 +1,6 @@
 -- What a check answers.
-use Rattle.std.proofs.Common.{◌≡◌, List, [], Some, None, sym}
-use Rattle.mp_typing.specs.declared.fault.Fault.{Fault}
-use Rattle.mp_typing.specs.declared.fault.FaultKind.{FaultKind}
-use Rattle.mp_typing.specs.declared.fault.FaultKind.TheVariants.{WrongDomain, Unknown, Arity, Twice}
+use Rattle.mp_typing.proofs.Basics.{◌≡◌, List, [], Some, None, sym, Fault, FaultKind, WrongDomain, Unknown, Arity, Twice, leftmost, IsFirst}
 use Rattle.mp_typing.specs.declared.refusal.Found.{Found}
-use Rattle.mp_typing.specs.Faults.{leftmost}
-use Rattle.mp_typing.specs.FirstFault.{IsFirst}
 use Rattle.mp_typing.specs.Refused.{RestsOn, refusal_by, refusal_of, fault_of}
 use Rattle.mp_typing.proofs.FirstLemmas.{nothing_found, found_first}
 

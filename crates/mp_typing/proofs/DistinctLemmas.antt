@@ -1,18 +1,8 @@
 -- Where each object has a name of its own, each is the first of its name, and no object is unlike the first of its name.
-use Rattle.std.proofs.Common.{◌≡◌, ℕ, ◌+◌, ◌==◌, ◌≤◌, Bool, true, false, not, List, [], ◌∷◌, ◌++◌, length, map, Bor, Some, refl, sym, subst, ap, ◌∙◌, inl, inr, arith}
-use Rattle.std.specs.Prelude.{filter, find, Contains}
-use Rattle.std.specs.List.{flat_map}
-use Rattle.std.specs.Str.{bytes_eq}
-use Rattle.std.specs.Cmp.Lexicographic.{pointwise}
-use Rattle.std.proofs.lemmas.Bool.{cases_Bool, not-true, and_from}
-use Rattle.std.proofs.lemmas.List.{length-map, length-append}
-use Rattle.std.proofs.lemmas.Slice.Eq.{bytes_eq-Decides}
-use Rattle.mp_list.proofs.Members.{contains_cases, contains_tail, contains_head, no_member}
-use Rattle.mp_factor.specs.declared.files.File.{File}
-use Rattle.mp_factor.specs.declared.word.Word.{Word}
-use Rattle.mp_factor.specs.declared.typed_values.Typed.{Typed}
-use Rattle.mp_typing.specs.ObjectList.{first_declared}
-use Rattle.mp_typing.specs.Repeats.{is_same, is_alike, is_same_privacy, unlike_faults, object_faults}
+use Rattle.mp_typing.proofs.Basics.{◌≡◌, ℕ, ◌+◌, ◌==◌, ◌≤◌, Bool, true, false, not, List, [], ◌∷◌, ◌++◌, length, map, Bor, Some, refl, sym, subst, ap, ◌∙◌, inl, inr, arith, filter, find, Contains, flat_map, bytes_eq, pointwise, cases_Bool, not-true}
+use Rattle.mp_typing.proofs.Basics.{length-map, length-append, bytes_eq-Decides, contains_cases, contains_tail, contains_head, no_member, File, Word, Typed, first_declared, is_same, object_faults}
+use Rattle.std.proofs.lemmas.Bool.{and_from}
+use Rattle.mp_typing.specs.Repeats.{is_alike, is_same_privacy, unlike_faults}
 use Rattle.mp_typing.proofs.NameSets.{same_either_way}
 
 -- ---- filters that leave out nothing

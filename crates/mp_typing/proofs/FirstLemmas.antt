@@ -1,18 +1,13 @@
 -- Faults are in a strict and total order, so that the earliest of some is their first.
-use Rattle.std.proofs.Common.{◌≡◌, ℕ, zero, suc, List, [], ◌∷◌, ◌++◌, length, Ordering, Less, Equal, Greater, Option, Some, None, refl, sym, ap, ◌∙◌, arith}
-use Rattle.std.specs.Ordering.{is_lt, nat_cmp, ordering_then}
-use Rattle.std.specs.Cmp.Lexicographic.{slice_cmp}
+use Rattle.mp_typing.proofs.Basics.{◌≡◌, ℕ, zero, suc, List, [], ◌∷◌, ◌++◌, length, Ordering, Option, Some, None, refl, sym, ap, ◌∙◌, arith, is_lt, nat_cmp, ordering_then, slice_cmp, File, Domain, Fault, FaultKind, WrongDomain, Unknown, Arity, Twice}
+use Rattle.mp_typing.proofs.Basics.{is_earlier, leftmost, order_by, IsFirst}
+use Rattle.std.proofs.Common.{Less, Equal, Greater}
 use Rattle.mp_list.specs.First.{IsStrictOrder, IsTotal}
 use Rattle.mp_list.proofs.Orders.{is_less, strict_on, total_on, numbers_strict, numbers_total}
 use Rattle.mp_list.proofs.FirstLemmas as firsts
 use Rattle.mp_list.proofs.OneFirst.{first_is_one}
-use Rattle.mp_factor.specs.declared.files.File.{File}
-use Rattle.mp_factor.specs.declared.files.File.TheVariants.{Domain, Problem}
-use Rattle.mp_typing.specs.declared.fault.Fault.{Fault}
-use Rattle.mp_typing.specs.declared.fault.FaultKind.{FaultKind}
-use Rattle.mp_typing.specs.declared.fault.FaultKind.TheVariants.{WrongDomain, Unknown, Arity, Twice}
-use Rattle.mp_typing.specs.Faults.{is_earlier, leftmost, rank_of, file_rank_of, order_by, order_of}
-use Rattle.mp_typing.specs.FirstFault.{IsFirst}
+use Rattle.mp_factor.specs.declared.files.File.TheVariants.{Problem}
+use Rattle.mp_typing.specs.Faults.{rank_of, file_rank_of, order_of}
 
 -- ---- the order
 

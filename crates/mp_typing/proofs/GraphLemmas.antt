@@ -1,20 +1,10 @@
 -- Types that are put into a graph.
-use Rattle.std.proofs.Common.{◌≡◌, ℕ, zero, suc, ◌+◌, ◌<◌, ◌≤◌, true, false, eqb, List, [], ◌∷◌, ◌++◌, map, length, get_or, take, set, Option, Some, Bor, refl, sym, ap, subst, ◌∙◌, arith, inl, inr}
-use Rattle.std.specs.Prelude.{Contains}
-use Rattle.std.specs.List.{flat_map}
-use Rattle.std.proofs.lemmas.Bool.{cases_Bool}
-use Rattle.std.proofs.lemmas.Bool.Decides.{Decides-eqb}
-use Rattle.std.proofs.lemmas.List.{length-set, take_more, map-append, append_assoc, append-nil}
+use Rattle.mp_typing.proofs.Basics.{◌≡◌, ℕ, zero, suc, ◌+◌, ◌<◌, ◌≤◌, true, false, eqb, List, [], ◌∷◌, ◌++◌, map, length, get_or, take, set, Option, Some, Bor, refl, sym, ap, subst, ◌∙◌, arith, inl, inr, Contains, flat_map, cases_Bool, Decides-eqb}
+use Rattle.mp_typing.proofs.Basics.{length-set, take_more, map-append, append-nil, Contains-append_left, Contains-append_right, Contains-push, Contains-push_cases, Contains-append_cases, Word, Typed, Entry, number_of, DeclaredUnder, names_of}
+use Rattle.mp_typing.proofs.Basics.{IsNumbering, KeepsNumbers, under, pairs_of, numbers_of, IsGraph, contains_head, contains_tail, contains_cases, no_member}
+use Rattle.std.proofs.lemmas.List.{append_assoc}
 use Rattle.std.proofs.lemmas.Grind.{flat_map-append}
-use Rattle.std.proofs.lemmas.List.Elements.{Contains-append_left, Contains-append_right, Contains-push, Contains-push_cases, Contains-append_cases}
-use Rattle.mp_factor.specs.declared.word.Word.{Word}
-use Rattle.mp_factor.specs.declared.typed_values.Typed.{Typed}
-use Rattle.mp_typing.specs.Indexed.{Entry, number_of}
-use Rattle.mp_typing.specs.IsA.{DeclaredUnder}
-use Rattle.mp_typing.specs.Names.{names_of}
-use Rattle.mp_typing.specs.Numbering.{IsNumbering, KeepsNumbers}
-use Rattle.mp_typing.specs.Graph.{under, pairs_of, numbers_of, IsPair, IsBounded, IsGraph}
-use Rattle.mp_list.proofs.Members.{contains_head, contains_tail, contains_cases, no_member}
+use Rattle.mp_typing.specs.Graph.{IsPair, IsBounded}
 use Rattle.mp_typing.proofs.NumberingLemmas.{no_names}
 
 -- ---- rows

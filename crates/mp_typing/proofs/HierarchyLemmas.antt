@@ -1,24 +1,8 @@
 -- What marked numbers say of which types lie under others, and of which objects are of a type.
-use Rattle.std.proofs.Common.{◌≡◌, ℕ, zero, suc, ◌<◌, Bool, true, false, ◌||◌, ◌==◌, List, [], ◌∷◌, map, length, Option, Some, None, refl, sym, ap, subst, ◌∙◌, inl, inr, arith}
-use Rattle.std.specs.Prelude.{◌↔◌, Contains, slice_get}
-use Rattle.std.specs.Bool.{Decides}
-use Rattle.std.specs.List.{list_any, flat_map, range_with_len}
-use Rattle.std.specs.List.Sorted.{IsStrictlyIncreasing}
-use Rattle.std.proofs.lemmas.Bool.{cases_Bool, false_from_ne_true, or_cases, or_left, or_right}
-use Rattle.mp_factor.specs.declared.word.Word.{Word}
-use Rattle.mp_factor.specs.declared.typed_values.Typed.{Typed}
-use Rattle.mp_typing.specs.Names.{is_among}
-use Rattle.mp_typing.specs.Indexed.{Entry, number_of}
-use Rattle.mp_typing.specs.IsA.{IsA, same, step, object_name}
-use Rattle.mp_typing.specs.Lower.{IsUnderOne}
-use Rattle.mp_typing.specs.Graph.{under, pairs_of, numbers_of, IsGraph}
-use Rattle.mp_typing.specs.Hierarchy.{IsOrder, IsHierarchy}
-use Rattle.mp_typing.specs.Listed.{IsListed}
-use Rattle.mp_typing.specs.Members.{Members}
-use Rattle.mp_typing.specs.Numbering.{IsNumbering}
-use Rattle.mp_typing.specs.Reach.{is_marked, has_mark, IsReached, top, down}
+use Rattle.mp_typing.proofs.Basics.{◌≡◌, ℕ, zero, suc, ◌<◌, Bool, true, false, ◌||◌, ◌==◌, List, [], ◌∷◌, map, length, Option, Some, None, refl, sym, ap, subst, ◌∙◌, inl, inr, arith, ◌↔◌, Contains, slice_get, Decides, list_any, flat_map}
+use Rattle.mp_typing.proofs.Basics.{range_with_len, IsStrictlyIncreasing, cases_Bool, false_from_ne_true, or_cases, or_left, or_right, Word, Typed, is_among, Entry, number_of, IsA, same, step, object_name, IsUnderOne, under, pairs_of, numbers_of}
+use Rattle.mp_typing.proofs.Basics.{IsGraph, IsOrder, IsHierarchy, IsListed, Members, IsNumbering, is_marked, has_mark, IsReached, top, down, contains_head, contains_one, contains_cases, no_member, any_from, some_member}
 use Rattle.mp_list.proofs.Bools.{or_all}
-use Rattle.mp_list.proofs.Members.{contains_head, contains_one, contains_cases, no_member, any_from, some_member}
 use Rattle.mp_typing.proofs.Lists.{among_from_contains, contains_from_among}
 use Rattle.mp_typing.proofs.GraphLemmas.{from_pairs, to_pairs}
 use Rattle.mp_typing.proofs.ListedLemmas.{row_inside, in_range, range_rises}

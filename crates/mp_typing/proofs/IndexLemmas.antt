@@ -1,11 +1,5 @@
 -- A map that has the number of the first entry of each name, while entries are added.
-use Rattle.std.proofs.Common.{◌≡◌, ℕ, Bool, true, false, cond, List, [], ◌∷◌, ◌++◌, map, Option, Some, None, refl, sym, ap, subst, ◌∙◌}
-use Rattle.std.specs.Prelude.{if◌then◌else◌}
-use Rattle.std.specs.Map.{lookup}
-use Rattle.std.specs.Option.{is_some, option_or}
-use Rattle.std.specs.Str.{bytes_eq}
-use Rattle.std.proofs.lemmas.Slice.Eq.{bytes_eq-Decides}
-use Rattle.mp_typing.specs.Indexed.{Entry, number_of, SameNumbers}
+use Rattle.mp_typing.proofs.Basics.{◌≡◌, ℕ, Bool, true, false, cond, List, [], ◌∷◌, ◌++◌, map, Option, Some, None, refl, sym, ap, subst, ◌∙◌, if◌then◌else◌, lookup, is_some, option_or, bytes_eq, bytes_eq-Decides, Entry, number_of, SameNumbers}
 use Rattle.mp_typing.proofs.NameSets.{same_either_way}
 
 -- the entries that a map has

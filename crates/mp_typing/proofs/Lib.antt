@@ -1,4 +1,6 @@
 -- names that stand in lists, and in sets
+-- what the proofs cite of other places
+mod Basics
 pub mod Lists
 pub mod NameSets
 -- faults are in a strict and total order, and the first of them

@@ -1,17 +1,9 @@
 -- Numbers that stand in rows, and for each number the places of the rows that have it.
-use Rattle.std.proofs.Common.{◌≡◌, ℕ, zero, suc, ◌+◌, ◌<◌, ◌≤◌, Bool, true, false, eqb, List, [], ◌∷◌, ◌++◌, length, get_or, take, set, refl, sym, ap, subst, ◌∙◌, inl, inr, arith, zero-add}
-use Rattle.std.specs.Prelude.{◌⊎◌, ◌↔◌, Contains, if◌then◌else◌}
-use Rattle.std.specs.List.{range_with_len}
-use Rattle.std.specs.List.Sorted.{IsStrictlyIncreasing}
-use Rattle.std.proofs.lemmas.Bool.{cases_Bool}
-use Rattle.std.proofs.lemmas.Bool.Decides.{Decides-eqb}
-use Rattle.std.proofs.lemmas.List.{length-set, length-take-le, take_more}
-use Rattle.std.proofs.lemmas.List.Elements.{Contains-append_left, Contains-append_right, Contains-push, Contains-push_cases, Contains-append_cases}
+use Rattle.mp_typing.proofs.Basics.{◌≡◌, ℕ, zero, suc, ◌+◌, ◌<◌, ◌≤◌, Bool, true, false, eqb, List, [], ◌∷◌, ◌++◌, length, get_or, take, set, refl, sym, ap, subst, ◌∙◌, inl, inr, arith, zero-add, ◌↔◌, Contains, if◌then◌else◌, range_with_len}
+use Rattle.mp_typing.proofs.Basics.{IsStrictlyIncreasing, cases_Bool, Decides-eqb, length-set, length-take-le, take_more, Contains-append_left, Contains-append_right, Contains-push, Contains-push_cases, Contains-append_cases, contains_head}
+use Rattle.mp_typing.proofs.Basics.{contains_one, no_member, under, AreListed, HasMore, IsListed, is_marked}
+use Rattle.std.specs.Prelude.{◌⊎◌}
 use Rattle.std.proofs.lemmas.List.FromFn.{length-range_with_len, get_or-range_with_len}
-use Rattle.mp_list.proofs.Members.{contains_head, contains_one, no_member}
-use Rattle.mp_typing.specs.Graph.{under}
-use Rattle.mp_typing.specs.Listed.{AreListed, HasMore, IsListed}
-use Rattle.mp_typing.specs.Reach.{is_marked}
 use Rattle.mp_typing.proofs.GraphLemmas.{no_row, row_is, row_set, row_kept}
 
 -- ---- a place more

@@ -1,16 +1,9 @@
 -- The first declaration of each name, one declaration after the other.
-use Rattle.std.proofs.Common.{◌≡◌, ℕ, ◌+◌, ◌<◌, Bool, true, false, ◌||◌, not, List, [], ◌∷◌, ◌++◌, length, get_or, take, refl, sym, ap, ◌∙◌, inl, inr, append_assoc, arith}
-use Rattle.std.specs.Option.{is_some}
-use Rattle.std.specs.Str.{bytes_eq}
-use Rattle.std.specs.List.{list_any}
-use Rattle.std.proofs.lemmas.Bool.{cases_Bool, or_cases, not-true, not-false}
-use Rattle.std.proofs.lemmas.List.{take_more, append-nil, length-append, length-take-le}
+use Rattle.mp_typing.proofs.Basics.{◌≡◌, ℕ, ◌+◌, ◌<◌, Bool, true, false, ◌||◌, not, List, [], ◌∷◌, ◌++◌, length, get_or, take, refl, sym, ap, ◌∙◌, inl, inr, append_assoc, arith, is_some, bytes_eq, list_any, cases_Bool, or_cases, not-true, take_more}
+use Rattle.mp_typing.proofs.Basics.{append-nil, length-append, length-take-le, Typed, Entry, number_of, SameNumbers, AreFound, is_object, first_declared}
+use Rattle.std.proofs.lemmas.Bool.{not-false}
 use Rattle.std.proofs.lemmas.List.Elements.{filter-append}
-use Rattle.mp_factor.specs.declared.typed_values.Typed.{Typed}
-use Rattle.mp_typing.specs.Indexed.{Entry, number_of, SameNumbers}
-use Rattle.mp_typing.specs.Listing.{AreFound}
-use Rattle.mp_typing.specs.Lookups.{is_object}
-use Rattle.mp_typing.specs.ObjectList.{others, first_declared}
+use Rattle.mp_typing.specs.ObjectList.{others}
 use Rattle.mp_typing.proofs.LookupLemmas.{is_placed, place_added, places_none}
 use Rattle.mp_typing.proofs.NameSets.{same_either_way}
 

@@ -1,12 +1,6 @@
 -- Names that stand in lists.
-use Rattle.std.proofs.Common.{◌≡◌, ℕ, Bool, true, false, ◌||◌, List, [], ◌∷◌, refl, sym, ap, subst, ◌∙◌, inl, inr}
-use Rattle.std.specs.Prelude.{Contains}
-use Rattle.std.specs.Str.{bytes_eq}
-use Rattle.std.proofs.lemmas.Bool.{or_left, or_right, or_cases}
-use Rattle.std.proofs.lemmas.Slice.Eq.{bytes_eq-Decides}
-use Rattle.mp_list.proofs.Members.{contains_head, contains_tail, contains_cases, no_member}
-use Rattle.mp_factor.specs.declared.word.Word.{Word}
-use Rattle.mp_typing.specs.Names.{names_of, is_among, has_any}
+use Rattle.mp_typing.proofs.Basics.{◌≡◌, ℕ, Bool, true, false, ◌||◌, List, [], ◌∷◌, refl, sym, ap, subst, ◌∙◌, inl, inr, Contains, bytes_eq, or_left, or_right, or_cases, bytes_eq-Decides, contains_head, contains_tail, contains_cases, no_member, Word}
+use Rattle.mp_typing.proofs.Basics.{names_of, is_among, has_any}
 
 -- a word whose name stands in a list, where there is one
 pub some_name : (names : List (List ℕ)) (words : List Word) → has_any names words ≡ true

@@ -1,18 +1,14 @@
 -- What an index says of the signatures and objects that are put into it, one after the other.
-use Rattle.std.proofs.Common.{◌≡◌, ℕ, suc, ◌+◌, ◌<◌, Bool, true, false, ◌||◌, cond, List, [], ◌∷◌, ◌++◌, length, get_or, take, Option, Some, None, refl, sym, ap, ◌∙◌, arith}
+use Rattle.mp_typing.proofs.Basics.{◌≡◌, ℕ, suc, ◌+◌, ◌<◌, Bool, true, false, ◌||◌, cond, List, [], ◌∷◌, ◌++◌, length, get_or, take, Option, Some, None, refl, sym, ap, ◌∙◌, arith, take_more, find, slice_get, if◌then◌else◌, list_any, is_some}
+use Rattle.mp_typing.proofs.Basics.{option_or, bytes_eq, Typed, Signature, Entry, number_of, SameNumbers, HasArities, arity_of, is_object}
 use Rattle.std.proofs.lemmas.Bool.{ltb-false}
-use Rattle.std.proofs.lemmas.List.{take_more}
 use Rattle.std.proofs.lemmas.List.Folds.{find-append, find_at}
 use Rattle.std.proofs.lemmas.Iterator.Adapters.{position_from-zero}
 use Rattle.std.proofs.lemmas.Option.{slice_get_past}
-use Rattle.std.specs.Prelude.{find, nat_lt, slice_get, if◌then◌else◌}
-use Rattle.std.specs.List.{list_any, position_from, position_or_len}
-use Rattle.std.specs.Option.{is_some, option_map, option_or}
-use Rattle.std.specs.Str.{bytes_eq}
-use Rattle.mp_factor.specs.declared.typed_values.Typed.{Typed}
-use Rattle.mp_factor.specs.declared.signature_values.Signature.{Signature}
-use Rattle.mp_typing.specs.Indexed.{Entry, number_of, SameNumbers, HasArities, HasPlaces}
-use Rattle.mp_typing.specs.Lookups.{arity_of, is_object}
+use Rattle.std.specs.Prelude.{nat_lt}
+use Rattle.std.specs.List.{position_from, position_or_len}
+use Rattle.std.specs.Option.{option_map}
+use Rattle.mp_typing.specs.Indexed.{HasPlaces}
 use Rattle.mp_typing.proofs.IndexLemmas.{alone, number_push}
 
 -- ---- numbers of parameters

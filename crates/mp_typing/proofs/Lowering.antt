@@ -1,11 +1,5 @@
 -- Names of types that lie under some types, while rounds along the declarations add them.
-use Rattle.std.proofs.Common.{◌≡◌, ℕ, zero, suc, ◌<◌, ◌≤◌, Bool, true, false, not, List, [], ◌∷◌, length, get_or, refl, arith, inl, inr}
-use Rattle.std.specs.Prelude.{if◌then◌else◌}
-use Rattle.std.specs.List.{list_all}
-use Rattle.std.proofs.lemmas.Bool.{cases_Bool}
-use Rattle.mp_factor.specs.declared.typed_values.Typed.{Typed}
-use Rattle.mp_typing.specs.Names.{is_among}
-use Rattle.mp_typing.specs.Lower.{IsUnderOne, is_new}
+use Rattle.mp_typing.proofs.Basics.{◌≡◌, ℕ, zero, suc, ◌<◌, ◌≤◌, Bool, true, false, not, List, [], ◌∷◌, length, get_or, refl, arith, inl, inr, if◌then◌else◌, list_all, cases_Bool, Typed, is_among, IsUnderOne, is_new}
 
 -- all of these names are of types under the tops
 abbrev pub AreUnder : List Typed → List (List ℕ) → List (List ℕ) → Type 0

@@ -1,11 +1,7 @@
 -- Sets of borrowed names, seen as lists of names.
-use Rattle.std.proofs.Common.{◌≡◌, ◌||◌, cond, true, false, Bool, ℕ, List, [], ◌∷◌, refl, sym, ap, Bor}
+use Rattle.mp_typing.proofs.Basics.{◌≡◌, ◌||◌, cond, true, false, Bool, ℕ, List, [], ◌∷◌, refl, sym, ap, Bor, list_any, bytes_eq, bytes_eq-Decides, is_among}
 use Rattle.std.specs.Prelude.{map}
-use Rattle.std.specs.List.{list_any}
-use Rattle.std.specs.Str.{bytes_eq}
-use Rattle.std.proofs.lemmas.Slice.Eq.{bytes_eq-Decides}
 use Rattle.std.proofs.lemmas.Bool.Decides.{same_from_decides}
-use Rattle.mp_typing.specs.Names.{is_among}
 
 pub among_keys : (keys : List (Bor (List ℕ))) (q : List ℕ) → is_among (map (λ k. k.now) keys) q ≡ list_any (λ k. bytes_eq q k.now) keys
 among_keys [] q = refl

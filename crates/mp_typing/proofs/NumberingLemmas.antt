@@ -1,10 +1,5 @@
 -- Names with numbers of their own, while names are added.
-use Rattle.std.proofs.Common.{◌≡◌, ℕ, ◌+◌, Bool, true, cond, List, [], length, Some, None, ◌⊎◌, refl, sym, ap, ◌∙◌, arith, inl, inr}
-use Rattle.std.specs.Str.{bytes_eq}
-use Rattle.std.proofs.lemmas.Bool.{cases_Bool}
-use Rattle.std.proofs.lemmas.Slice.Eq.{bytes_eq-Decides}
-use Rattle.mp_typing.specs.Indexed.{Entry, number_of}
-use Rattle.mp_typing.specs.Numbering.{IsNumbering, KeepsNumbers}
+use Rattle.mp_typing.proofs.Basics.{◌≡◌, ℕ, ◌+◌, Bool, true, cond, List, [], length, Some, None, ◌⊎◌, refl, sym, ap, ◌∙◌, arith, inl, inr, bytes_eq, cases_Bool, bytes_eq-Decides, Entry, number_of, IsNumbering, KeepsNumbers}
 
 pub no_names : IsNumbering []
 unfolding number_of

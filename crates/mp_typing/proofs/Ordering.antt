@@ -1,8 +1,6 @@
 -- Laws of which types lie under which.
-use Rattle.std.proofs.Common.{ℕ, Bool, List}
+use Rattle.mp_typing.proofs.Basics.{ℕ, Bool, List, Typed, DeclaredUnder, IsA, same, step, through_object, object_name}
 use Rattle.std.specs.Prelude.{IsTrue}
-use Rattle.mp_factor.specs.declared.typed_values.Typed.{Typed}
-use Rattle.mp_typing.specs.IsA.{DeclaredUnder, IsA, same, step, through_object, object_name}
 
 joined : (declared : List Typed) {low middle : List ℕ} (high : List ℕ) → IsA declared low middle → IsA declared middle high → IsA declared low high
 joined declared high same above = above

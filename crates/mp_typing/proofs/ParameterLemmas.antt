@@ -1,12 +1,7 @@
 -- Parameters of one action, one after the other, as a loop finds those that come second.
-use Rattle.std.proofs.Common.{◌≡◌, ℕ, suc, ◌+◌, ◌<◌, ◌≤◌, List, [], ◌∷◌, ◌++◌, length, get_or, take, drop, Option, sym, ap, ◌∙◌, drop-cons, arith}
-use Rattle.std.proofs.Math.ListN.{drop_of_length-le}
-use Rattle.std.proofs.lemmas.List.{take_more}
-use Rattle.mp_factor.specs.declared.files.File.TheVariants.{Domain}
-use Rattle.mp_factor.specs.declared.typed_values.Typed.{Typed}
-use Rattle.mp_typing.specs.declared.fault.Fault.{Fault}
-use Rattle.mp_typing.specs.Faults.{leftmost}
-use Rattle.mp_typing.specs.Repeats.{is_second, parameter_faults, twice_if}
+use Rattle.mp_typing.proofs.Basics.{◌≡◌, ℕ, suc, ◌+◌, ◌<◌, ◌≤◌, List, [], ◌∷◌, ◌++◌, length, get_or, take, drop, Option, sym, ap, ◌∙◌, arith, drop_of_length-le, take_more, Domain, Typed, Fault, leftmost, parameter_faults, twice_if}
+use Rattle.std.proofs.Common.{drop-cons}
+use Rattle.mp_typing.specs.Repeats.{is_second}
 use Rattle.mp_typing.proofs.FirstLemmas.{leftmost_append}
 
 -- one parameter is looked at, and what follows

@@ -1,9 +1,5 @@
 -- Items of a list that pass a test, or of which none does.
-use Rattle.std.proofs.Common.{◌≡◌, cond, Bool, true, false, ◌&&◌, not, List, [], ◌∷◌, refl, sym, ap, subst, ◌∙◌, inl, inr}
-use Rattle.std.specs.Prelude.{Contains, filter}
-use Rattle.std.specs.List.{list_all}
-use Rattle.std.proofs.lemmas.Bool.{cases_Bool, and_parts, not-true}
-use Rattle.mp_list.proofs.Members.{contains_head, contains_tail, contains_cases, no_member}
+use Rattle.mp_typing.proofs.Basics.{◌≡◌, cond, Bool, true, false, ◌&&◌, not, List, [], ◌∷◌, refl, sym, ap, subst, ◌∙◌, inl, inr, Contains, filter, list_all, cases_Bool, and_parts, not-true, contains_head, contains_tail, contains_cases, no_member}
 
 -- where not all items fail a test, one passes it
 pub one_passes_where_not_all_fail : {X : Type 0} (test : X → Bool) (xs : List X) → list_all (λ x. not (test x)) xs ≡ false

@@ -1,15 +1,8 @@
 -- The places of the items that pass a test.
-use Rattle.std.proofs.Common.{◌≡◌, ℕ, zero, suc, ◌+◌, ◌<◌, ◌≤◌, Bool, true, false, List, [], ◌∷◌, ◌++◌, length, get_or, drop, Some, refl, sym, ap, subst, ◌∙◌, inl, inr, append_assoc, arith, zero-add}
-use Rattle.std.specs.Prelude.{Contains, slice_get, slice_index}
-use Rattle.std.specs.Bool.{Decides}
-use Rattle.std.specs.List.Sorted.{IsStrictlyIncreasing}
-use Rattle.std.proofs.Math.ListN.{drop_of_length-le}
-use Rattle.std.proofs.lemmas.Bool.{cases_Bool}
-use Rattle.std.proofs.lemmas.List.{drop_more, append-nil}
-use Rattle.mp_factor.specs.declared.typed_values.Typed.{Typed}
-use Rattle.mp_typing.specs.Members.{IsOfType, Members}
+use Rattle.mp_typing.proofs.Basics.{◌≡◌, ℕ, zero, suc, ◌+◌, ◌<◌, ◌≤◌, Bool, true, false, List, [], ◌∷◌, ◌++◌, length, get_or, drop, Some, refl, sym, ap, subst, ◌∙◌, inl, inr, append_assoc, arith, zero-add, Contains, slice_get, Decides}
+use Rattle.mp_typing.proofs.Basics.{IsStrictlyIncreasing, drop_of_length-le, cases_Bool, drop_more, append-nil, Typed, IsOfType, Members, contains_cases, contains_head, contains_tail, no_member}
+use Rattle.std.specs.Prelude.{slice_index}
 use Rattle.mp_typing.specs.Places.{numbers_where}
-use Rattle.mp_list.proofs.Members.{contains_cases, contains_head, contains_tail, no_member}
 
 -- ---- one item after the other
 

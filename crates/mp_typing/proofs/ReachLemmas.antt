@@ -1,14 +1,9 @@
 -- A search for types that are reached, one type after the other.
-use Rattle.std.proofs.Common.{◌≡◌, ℕ, zero, suc, ◌+◌, ◌<◌, ◌≤◌, Bool, true, false, List, [], ◌∷◌, ◌++◌, length, get_or, take, drop, set, replicate, Some, None, ◌⊎◌, refl, sym, ap, subst, ◌∙◌, arith, inl, inr}
-use Rattle.std.specs.Prelude.{Contains, if◌then◌else◌}
-use Rattle.std.specs.Bool.{Decides}
-use Rattle.std.proofs.lemmas.Bool.{cases_Bool}
-use Rattle.std.proofs.lemmas.List.{length-set, length-replicate, length-append, take_more, drop_more}
-use Rattle.std.proofs.lemmas.List.Elements.{Contains-get_or, Contains-append_left, Contains-push, Contains-push_cases}
-use Rattle.mp_typing.specs.Indexed.{Entry, number_of}
-use Rattle.mp_typing.specs.Graph.{under}
-use Rattle.mp_typing.specs.Reach.{is_marked, unmarked, IsReached, top, down, IsSearch}
-use Rattle.mp_list.proofs.Members.{contains_cases, no_member}
+use Rattle.mp_typing.proofs.Basics.{◌≡◌, ℕ, zero, suc, ◌+◌, ◌<◌, ◌≤◌, Bool, true, false, List, [], ◌∷◌, ◌++◌, length, get_or, take, drop, set, Some, None, ◌⊎◌, refl, sym, ap, subst, ◌∙◌, arith, inl, inr, Contains, if◌then◌else◌, Decides, cases_Bool}
+use Rattle.mp_typing.proofs.Basics.{length-set, length-append, take_more, drop_more, Contains-append_left, Contains-push, Contains-push_cases, Entry, number_of, under, is_marked, unmarked, IsReached, top, down, IsSearch, contains_cases, no_member}
+use Rattle.std.proofs.Common.{replicate}
+use Rattle.std.proofs.lemmas.List.{length-replicate}
+use Rattle.std.proofs.lemmas.List.Elements.{Contains-get_or}
 
 -- ---- marks
 
@@ -169,30 +164,6 @@ takes names lower asked tops marks todo more up longer s' =
         ]
       ];
       known = λ n found. s.known n (Contains-append_left todo (up ∷ []) n found);
-      sound = s.sound;
-    }
-
-pub taken_marked : (names : List Entry) (lower asked tops : List (List ℕ)) (marks : List Bool) (todo more : List ℕ) (up : ℕ)
-    → more ≡ todo ++ up ∷ [] → IsSearch names lower asked tops marks more 0 [] → is_marked marks up ≡ true
-taken_marked names lower asked tops marks todo more up longer s =
-    s.known up (subst (λ (ns : List ℕ). Contains ns up) (sym longer) (Contains-push todo up))
-
--- all under one is marked
-pub row_done : (names : List Entry) (lower asked tops : List (List ℕ)) (marks : List Bool) (todo : List ℕ) (busy : ℕ) (left : List ℕ) → left ≡ []
-    → IsSearch names lower asked tops marks todo busy left → IsSearch names lower asked tops marks todo 0 []
-row_done names lower asked tops marks todo busy left none s =
-    record {
-      sized = s.sized;
-      inside = s.inside;
-      begun = s.begun;
-      followed = λ up low h found. elim (s.followed up low h found) [
-        | inl done ↦ inl done
-        | inr other ↦ elim other [
-          | inl waits ↦ inr (inl waits)
-          | inr mine ↦ absurd (no_member low (subst (λ (ns : List ℕ). Contains ns low) none mine.1))
-        ]
-      ];
-      known = s.known;
       sound = s.sound;
     }
 

@@ -1,10 +1,5 @@
 -- A set of types from which the declarations lead up to some types, and what it says of which types lie under them.
-use Rattle.std.proofs.Common.{◌≡◌, ℕ, Bool, true, ◌||◌, List, inl, inr}
-use Rattle.std.specs.Prelude.{Contains}
-use Rattle.mp_factor.specs.declared.typed_values.Typed.{Typed}
-use Rattle.mp_typing.specs.IsA.{DeclaredUnder, IsA, same, step, through_object, object_name}
-use Rattle.mp_typing.specs.Lower.{IsUnderOne}
-use Rattle.std.proofs.lemmas.Bool.{or_cases, or_left, or_right}
+use Rattle.mp_typing.proofs.Basics.{◌≡◌, ℕ, Bool, true, ◌||◌, List, inl, inr, Contains, Typed, DeclaredUnder, IsA, same, step, through_object, object_name, IsUnderOne, or_cases, or_left, or_right}
 
 -- the test of the set passes for the tops, for types under them alone, and for each type that is declared under another
 pub record Reaches (declared : List Typed) (tops : List (List ℕ)) (has : List ℕ → Bool) : Type 0 where

@@ -1,19 +1,10 @@
 -- Names that earlier items have, as a loop over the items finds them.
-use Rattle.std.proofs.Common.{◌≡◌, ℕ, ◌+◌, ◌<◌, ◌≤◌, Bool, true, false, List, [], ◌∷◌, ◌++◌, map, length, get_or, take, drop, Option, refl, sym, ap, subst, ◌∙◌, arith}
+use Rattle.mp_typing.proofs.Basics.{◌≡◌, ℕ, ◌+◌, ◌<◌, ◌≤◌, Bool, true, false, List, [], ◌∷◌, ◌++◌, map, length, get_or, take, drop, Option, refl, sym, ap, subst, ◌∙◌, arith, bytes_eq, pointwise, take_more, map-append, list_any-append, File, Word}
+use Rattle.mp_typing.proofs.Basics.{Fault, Twice, fault_at, is_earlier, leftmost, is_among, is_same, twice_if, repeated_faults}
 use Rattle.std.specs.Prelude.{◌||◌, ◌&&◌, not}
-use Rattle.std.specs.Str.{bytes_eq}
-use Rattle.std.specs.Cmp.Lexicographic.{pointwise}
-use Rattle.std.proofs.lemmas.List.{take_more, map-append}
-use Rattle.std.proofs.lemmas.List.Folds.{list_any-append}
 use Rattle.mp_list.specs.Repeats.{is_among_keys, if_repeated, repeats_behind}
 use Rattle.mp_list.proofs.RepeatLemmas as steps
-use Rattle.mp_factor.specs.declared.files.File.{File}
-use Rattle.mp_factor.specs.declared.word.Word.{Word}
-use Rattle.mp_typing.specs.declared.fault.Fault.{Fault}
-use Rattle.mp_typing.specs.declared.fault.FaultKind.TheVariants.{Twice}
-use Rattle.mp_typing.specs.Faults.{fault_at, is_earlier, leftmost}
-use Rattle.mp_typing.specs.Names.{is_among, SameNames}
-use Rattle.mp_typing.specs.Repeats.{is_same, twice_if, repeated_faults}
+use Rattle.mp_typing.specs.Names.{SameNames}
 use Rattle.mp_typing.proofs.Lists.{swaps}
 use Rattle.mp_typing.proofs.NameSets.{same_either_way}
 

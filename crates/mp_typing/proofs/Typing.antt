@@ -1,16 +1,7 @@
 -- The test whether an object is of an asked type.
-use Rattle.std.proofs.Common.{◌≡◌, ℕ, Bool, true, false, ◌||◌, List, [], ◌∷◌, length, refl, sym, ap, ◌∙◌, inl, inr, arith}
-use Rattle.std.proofs.lemmas.Bool.Decides.{Decides-eqb}
-use Rattle.std.specs.Prelude.{Contains, ◌==◌, Result, Ok, Err, IfOk}
-use Rattle.std.specs.Bool.{Decides}
-use Rattle.std.specs.List.{list_any}
-use Rattle.mp_factor.specs.declared.word.Word.{Word}
-use Rattle.mp_factor.specs.declared.typed_values.Typed.{Typed}
-use Rattle.mp_typing.specs.Names.{names_of}
-use Rattle.mp_typing.specs.IsA.{IsA, same, through_object, object_name}
-use Rattle.mp_typing.specs.Members.{meant, IsOfType}
-use Rattle.std.proofs.lemmas.Bool.{false_from_ne_true, or_cases, or_left, or_right}
-use Rattle.mp_list.proofs.Members.{contains_head, contains_tail, contains_cases, contains_one, no_member}
+use Rattle.mp_typing.proofs.Basics.{◌≡◌, ℕ, Bool, true, false, ◌||◌, List, [], ◌∷◌, length, refl, sym, ap, ◌∙◌, inl, inr, arith, Decides-eqb, Contains, Decides, list_any, Word, Typed, names_of, IsA, same, through_object, object_name, meant, IsOfType}
+use Rattle.mp_typing.proofs.Basics.{false_from_ne_true, or_cases, or_left, or_right, contains_head, contains_tail, contains_cases, contains_one, no_member}
+use Rattle.std.specs.Prelude.{◌==◌, Result, Ok, Err, IfOk}
 use Rattle.mp_typing.proofs.Reaching.{Reaches, reaches}
 
 -- some word's name is in a set

@@ -1,18 +1,10 @@
 -- The tests by rounds along the declarations decide which types lie under others, and which objects are of a type.
-use Rattle.std.proofs.Common.{◌≡◌, ℕ, zero, suc, ◌<◌, ◌≤◌, true, false, ◌&&◌, ◌||◌, not, List, [], ◌∷◌, ◌++◌, length, refl, sym, ap, subst, ◌∙◌, arith, inl, inr}
-use Rattle.std.specs.Prelude.{Contains, map, filter}
-use Rattle.std.specs.Bool.{Decides}
-use Rattle.std.specs.Str.{bytes_eq}
-use Rattle.std.proofs.lemmas.Bool.{cases_Bool, and_parts, not-true, or_cases, or_left, or_right}
-use Rattle.std.proofs.lemmas.List.{append-nil}
-use Rattle.std.proofs.lemmas.List.Folds.{list_any-append}
-use Rattle.mp_factor.specs.declared.typed_values.Typed.{Typed}
-use Rattle.mp_typing.specs.Names.{names_of, is_among, has_any}
-use Rattle.mp_typing.specs.IsA.{DeclaredUnder, step, same}
-use Rattle.mp_typing.specs.Lower.{IsUnderOne, is_new}
-use Rattle.mp_typing.specs.Members.{meant, IsOfType}
+use Rattle.mp_typing.proofs.Basics.{◌≡◌, ℕ, zero, suc, ◌<◌, ◌≤◌, true, false, ◌&&◌, ◌||◌, not, List, [], ◌∷◌, ◌++◌, length, refl, sym, ap, subst, ◌∙◌, arith, inl, inr, Contains, filter, Decides, bytes_eq, cases_Bool, and_parts, not-true, or_cases}
+use Rattle.mp_typing.proofs.Basics.{or_left, or_right, append-nil, list_any-append, Typed, names_of, is_among, has_any, DeclaredUnder, step, same, IsUnderOne, is_new, meant, IsOfType, contains_head, contains_tail, contains_cases, no_member, any_from}
+use Rattle.mp_typing.proofs.Basics.{some_member}
+use Rattle.std.specs.Prelude.{map}
 use Rattle.mp_typing.specs.Under.{added, lower, lies_under, is_of_type}
-use Rattle.mp_list.proofs.Members.{all_at, contains_head, contains_tail, contains_cases, no_member, any_from, some_member}
+use Rattle.mp_list.proofs.Members.{all_at}
 use Rattle.mp_typing.proofs.Lists.{some_name, any_from_name, among_from_contains, contains_from_among}
 use Rattle.mp_typing.proofs.Lowering.{AreUnder, is_complete, Keeps, outside, outside_in, outside_out, outside_none, outside_lt}
 use Rattle.mp_typing.proofs.Passing.{one_passes_where_not_all_fail, none_taken, taken_passes, taken_from_passes}

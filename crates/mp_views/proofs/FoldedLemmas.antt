@@ -1,14 +1,12 @@
 -- Spellings of facts, and letters that are folded.
-use Rattle.std.proofs.Common.{◌≡◌, ℕ, ◌+◌, Bool, true, false, cond, ◌&&◌, leb, List, [], ◌∷◌, ◌++◌, refl, sym, ap, ◌∙◌, append_assoc}
+use Rattle.mp_views.proofs.Basics.{◌≡◌, Bool, true, false, cond, ◌&&◌, List, [], ◌∷◌, ◌++◌, refl, sym, ap, ◌∙◌, append-nil, folded, Text, spaced}
+use Rattle.std.proofs.Common.{ℕ, ◌+◌, leb, append_assoc}
 use Rattle.std.specs.List.{join_with_byte}
 use Rattle.std.proofs.lemmas.Bool.{leb-true}
-use Rattle.std.proofs.lemmas.List.{append-nil}
 use Rattle.std.proofs.lemmas.List.Elements.{All-head, All-tail}
-use Rattle.mp_sexp.specs.Bytes.{folded, folded_byte}
+use Rattle.mp_sexp.specs.Bytes.{folded_byte}
 use Rattle.mp_sexp.specs.Name.{IsCapital, HasNoCapitals}
-use Rattle.mp_joint.specs.Fact.{Text}
 use Rattle.mp_lifted.specs.Texts.{bracketed}
-use Rattle.mp_views.specs.Lines.{spaced}
 
 same_byte : (b : ℕ) → (IsCapital b → ⊥) → folded_byte b ≡ b
 same_byte b small = by (leb 65 b) (leb b 90) refl refl

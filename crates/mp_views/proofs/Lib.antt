@@ -1,4 +1,6 @@
 -- the items of a list in an order, added one by one
+-- what the proofs cite of other places
+mod Basics
 pub mod SortedLemmas
 -- lists in an order: that they rise, and what they have
 pub mod SortedLaws

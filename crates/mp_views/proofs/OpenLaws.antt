@@ -1,17 +1,9 @@
 -- What agents show before grounding: public predicates alone, and what one agent shows is joined to itself.
-use Rattle.std.proofs.Common.{◌≡◌, Bool, true, false, cond, not, ◌||◌, List, [], ◌∷◌, ◌++◌, map, refl, sym, ap, ◌∙◌}
+use Rattle.mp_views.proofs.Basics.{◌≡◌, Bool, true, false, cond, not, ◌||◌, List, [], ◌∷◌, ◌++◌, map, refl, sym, ap, ◌∙◌, bytes_eq, false≢true, append-nil, Factor, Text, is_listed, privates_of, fact_text, changed_predicates, negated_predicates}
+use Rattle.mp_views.proofs.Basics.{sorted_once}
 use Rattle.std.specs.Cmp.Lexicographic.{bytes_decides}
 use Rattle.std.specs.List.{filter}
-use Rattle.std.specs.Str.{bytes_eq}
-use Rattle.std.proofs.lemmas.Bool.{false≢true}
-use Rattle.std.proofs.lemmas.List.{append-nil}
-use Rattle.mp_factor.specs.declared.factor.Factor.{Factor}
-use Rattle.mp_joint.specs.Fact.{Text, is_listed}
-use Rattle.mp_joint.specs.FactorContribution.{privates_of}
-use Rattle.mp_lifted.specs.Texts.{fact_text}
-use Rattle.mp_lifted.specs.Views.{changed_predicates, negated_predicates}
 use Rattle.mp_views.specs.Opened.{is_public_predicate, public_predicates, public_init, open_view, joined}
-use Rattle.mp_views.specs.Sorted.{sorted_once}
 use Rattle.mp_views.proofs.SortedLaws.{texts_rise, same_texts, texts_unchanged}
 
 -- what is left of a list by a test passes it

@@ -1,18 +1,11 @@
 -- Parts with their lines, in the order of their lines.
-use Rattle.std.proofs.Common.{◌≡◌, List, [], ◌∷◌, ◌++◌, map, reverse, refl, sym, ap, ◌∙◌, Ordering, Less, Equal, Greater}
-use Rattle.std.specs.Cmp.{IsTotalOrder, on_total}
-use Rattle.std.specs.Cmp.Lexicographic.{slice_cmp, nat_list_cmp_total, texts_ties}
-use Rattle.std.specs.Ordering.{eq_by_cmp, match_ordering, nat_cmp, on}
-use Rattle.std.specs.BTreeSet.{insert_key}
+use Rattle.mp_views.proofs.Basics.{◌≡◌, List, [], ◌∷◌, ◌++◌, map, reverse, refl, sym, ap, ◌∙◌, Ordering, Less, Equal, Greater, IsTotalOrder, slice_cmp, nat_list_cmp_total, texts_ties, eq_by_cmp, match_ordering, nat_cmp, insert_key, IsSorted}
+use Rattle.mp_views.proofs.Basics.{IsStable, bytes_eq, reverse-append, dedup_is, Part, part_line, sorted_by}
+use Rattle.std.specs.Cmp.{on_total}
+use Rattle.std.specs.Ordering.{on}
 use Rattle.std.specs.List.Retain.{IsFiltered, DiffersFromLast}
-use Rattle.std.specs.List.Sorted.{IsSorted, IsStable}
-use Rattle.std.specs.Str.{bytes_eq}
-use Rattle.std.proofs.lemmas.List.{map-append, reverse-append}
-use Rattle.std.proofs.lemmas.List.Filters.{dedup_is}
+use Rattle.std.proofs.lemmas.List.{map-append}
 use Rattle.mp_views.specs.declared.parts.LinedPart.{LinedPart}
-use Rattle.mp_views.specs.declared.view.Part.{Part}
-use Rattle.mp_views.specs.Lines.{part_line}
-use Rattle.mp_views.specs.Sorted.{sorted_by}
 use Rattle.mp_views.specs.Parts.{part_cmp, sorted_parts}
 use Rattle.mp_views.proofs.SortedLemmas.{with_all, all_sorted}
 use Rattle.mp_views.proofs.TiedLemmas.{each_once, first_tied, tied_stable}

@@ -1,16 +1,10 @@
 -- Lists in an order: that they rise, and what they have.
-use Rattle.std.proofs.Common.{◌≡◌, Bool, true, false, ◌&&◌, List, [], ◌∷◌, map, refl, sym, ap, ◌∙◌, Ordering, Less, Equal, Greater, is_some}
+use Rattle.mp_views.proofs.Basics.{◌≡◌, Bool, true, false, ◌&&◌, List, [], ◌∷◌, map, refl, sym, ap, ◌∙◌, Ordering, Less, Equal, Greater, IsTotalOrder, slice_cmp, nat_list_cmp_total, texts_ties, entries, from_entries, list_any, AllByRecursion}
+use Rattle.mp_views.proofs.Basics.{IsStrictlySortedBy, eq_by_cmp, is_lt, match_ordering, nat_cmp, insert_key, Text, is_listed, sorted_by, sorted_once, with_nothing}
+use Rattle.std.proofs.Common.{is_some}
 use Rattle.std.specs.Prelude.{T}
-use Rattle.std.specs.Cmp.{IsTotalOrder}
-use Rattle.std.specs.Cmp.Lexicographic.{slice_cmp, nat_list_cmp_total, texts_ties}
-use Rattle.std.specs.FinMap.{entries, entries_sorted, from_entries, get-from_entries, contains_key-keys}
+use Rattle.std.specs.FinMap.{entries_sorted, get-from_entries, contains_key-keys}
 use Rattle.std.specs.FinMap.Entries.{below_all, is_some-find, is_sorted}
-use Rattle.std.specs.List.{list_any, AllByRecursion}
-use Rattle.std.specs.List.Sorted.{IsStrictlySortedBy}
-use Rattle.std.specs.Ordering.{eq_by_cmp, is_lt, match_ordering, nat_cmp}
-use Rattle.std.specs.BTreeSet.{insert_key}
-use Rattle.mp_joint.specs.Fact.{Text, is_listed}
-use Rattle.mp_views.specs.Sorted.{sorted_by, sorted_once, with_nothing}
 use Rattle.mp_views.proofs.SortedLemmas.{key, with_all, all_sorted}
 
 first : (a b : Bool) → T (a && b) → T a

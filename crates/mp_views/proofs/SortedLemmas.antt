@@ -1,14 +1,9 @@
 -- The items of a list in an order, added one by one.
-use Rattle.std.proofs.Common.{◌≡◌, List, [], ◌∷◌, ◌++◌, map, length, refl, sym, ap, ◌∙◌, Ordering, Less, Equal, Greater, arith}
-use Rattle.std.proofs.lemmas.Cmp.{tied_itself}
-use Rattle.std.specs.Cmp.{IsTotalOrder}
-use Rattle.std.specs.Cmp.Lexicographic.{slice_cmp, nat_list_cmp_total}
-use Rattle.std.specs.FinMap.{empty, entries, entries-insert, from_entries, len-empty, len-entries}
+use Rattle.mp_views.proofs.Basics.{◌≡◌, List, [], ◌∷◌, ◌++◌, map, length, refl, sym, ap, ◌∙◌, Ordering, Less, Equal, Greater, tied_itself, IsTotalOrder, slice_cmp, nat_list_cmp_total, entries, from_entries, match_ordering, nat_cmp, insert_key, Text}
+use Rattle.mp_views.proofs.Basics.{sorted_by, sorted_once, with_nothing}
+use Rattle.std.proofs.Common.{arith}
+use Rattle.std.specs.FinMap.{empty, entries-insert, len-empty, len-entries}
 use Rattle.std.specs.FinMap.Entries.{put, by_order}
-use Rattle.std.specs.Ordering.{match_ordering, nat_cmp}
-use Rattle.std.specs.BTreeSet.{insert_key}
-use Rattle.mp_joint.specs.Fact.{Text}
-use Rattle.mp_views.specs.Sorted.{sorted_by, sorted_once, with_nothing}
 
 -- the key of an entry that has nothing at it
 abbrev pub key : {K : Type 0} → K × Unit {0} → K
@@ -23,10 +18,6 @@ module _ {K : Type 0} (R : K → K → Ordering) where
   abbrev pub with_all : List K → List K → List K
   with_all [] ks = ks
   with_all (x ∷ xs) ks = insert_key R (with_all xs ks) x
-
-  pub with_last : (xs : List K) (x : K) (ks : List K) → with_all xs (insert_key R ks x) ≡ with_all (xs ++ x ∷ []) ks
-  with_last [] x ks = refl
-  with_last (y ∷ xs) x ks = ap (λ (zs : List K). insert_key R zs y) (with_last xs x ks)
 
   put_key : (k : K) (es : List (K × Unit {0})) → map key (put R k tt es) ≡ insert_key R (map key es) k
   put_key k [] = refl
@@ -77,5 +68,3 @@ module _ {K : Type 0} {R : K → K → Ordering} (o : IsTotalOrder R) where
 -- the same of texts
 pub texts_sorted : (texts : List Text) → with_all (slice_cmp nat_cmp) texts [] ≡ sorted_once texts
 texts_sorted texts = all_sorted nat_list_cmp_total texts
-
-pub ruleset set_steps = (with_last, texts_sorted)

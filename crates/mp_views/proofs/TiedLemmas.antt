@@ -1,18 +1,16 @@
 -- The first item of a list that ties with a given one: it tells lists that rise apart, so that sorting by any way that
 -- keeps it gives one list.
-use Rattle.std.proofs.Common.{◌≡◌, Bool, true, false, cond, not, ◌&&◌, ◌||◌, List, [], ◌∷◌, ◌++◌, reverse, refl, sym, ap, ◌∙◌, inl, inr, Option, None, Some, Ordering, Less, Equal, Greater}
-use Rattle.std.proofs.lemmas.Bool.{cases_Bool, false≢true}
-use Rattle.std.proofs.lemmas.Cmp.{alike_right, tied_itself}
-use Rattle.std.proofs.lemmas.List.{reverse-append}
+use Rattle.mp_views.proofs.Basics.{◌≡◌, Bool, true, false, cond, not, ◌&&◌, ◌||◌, List, [], ◌∷◌, ◌++◌, reverse, refl, sym, ap, ◌∙◌, Ordering, Less, Equal, Greater, false≢true, tied_itself, reverse-append, IsTotalOrder, AllByRecursion, list_any}
+use Rattle.mp_views.proofs.Basics.{IsSorted, IsStable, IsStrictlySortedBy, eq_by_cmp, is_lt, match_ordering, insert_key, sorted_by}
+use Rattle.std.proofs.Common.{inl, inr, Option, None, Some}
+use Rattle.std.proofs.lemmas.Bool.{cases_Bool}
+use Rattle.std.proofs.lemmas.Cmp.{alike_right}
 use Rattle.std.proofs.lemmas.List.Kept.{IsStrictlySortedBy-dedup}
 use Rattle.std.proofs.lemmas.List.Sorted.{IsPermutation-reverse, list_any-IsPermutation}
-use Rattle.std.specs.Cmp.{IsTotalOrder}
 use Rattle.std.specs.FinMap.{IsAntisymmetric}
-use Rattle.std.specs.List.{AllByRecursion, dedup, dedup_from, filter, list_any}
-use Rattle.std.specs.List.Sorted.{IsPermutation, IsSorted, IsStable, IsStrictlySortedBy, ties}
-use Rattle.std.specs.Ordering.{eq_by_cmp, is_eq, is_lt, match_ordering, ordering_reverse}
-use Rattle.std.specs.BTreeSet.{insert_key}
-use Rattle.mp_views.specs.Sorted.{sorted_by}
+use Rattle.std.specs.List.{dedup, dedup_from, filter}
+use Rattle.std.specs.List.Sorted.{IsPermutation, ties}
+use Rattle.std.specs.Ordering.{is_eq, ordering_reverse}
 use Rattle.mp_views.proofs.SortedLemmas.{sorted_none, sorted_one_more}
 use Rattle.mp_views.proofs.SortedLaws.{rises}
 

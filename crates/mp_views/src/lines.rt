@@ -1,6 +1,6 @@
 //! Views as texts.
 
-ghost use Rattle.std.specs.Prelude.{◌≡◌, ◌++◌, ◌∷◌, [], map, codes, decimal, IfOk, OnOk};
+ghost use Rattle.std.specs.Prelude.{◌≡◌, ◌++◌, ◌∷◌, [], map, decimal, IfOk, OnOk};
 ghost use Rattle.mp_views.specs.Lines.{labelled, spaced, part_line, met_line, open_lines, closed_lines, text_of_lines, view_text};
 
 use crate::view::{Part, View};

@@ -4,17 +4,18 @@ ghost use Rattle.std.specs.Prelude.{◌≡◌, ◌++◌, ◌∷◌, [], not, map
 ghost use Rattle.std.specs.List.{flat_map};
 ghost use Rattle.std.specs.Option.{is_none};
 ghost use Rattle.mp_joint.specs.Fact.{is_listed};
+ghost use Rattle.mp_joint.specs.FactorContribution.{privates_of};
 ghost use Rattle.mp_joint.specs.Grounding.{negated_atoms, fact_of};
 ghost use Rattle.mp_lifted.specs.Texts.{fact_text};
 ghost use Rattle.mp_lifted.specs.Views.{predicates_of, changed_predicates, negated_predicates};
 ghost use Rattle.mp_views.specs.Sorted.{sorted_once as once_sorted};
 ghost use Rattle.mp_views.specs.Opened.{open_view as view_of, joined};
 
-use crate::privates::{PrivateNames, is_public, private_names};
+use crate::privates::is_public;
 use crate::sorted::sorted_once;
 use crate::spelling::atom_text;
 use mp_factor::{Atom, AtomList, Factor, LiteralList, Schema, SchemaList};
-use mp_lifted::{FactTexts, OpenView};
+use mp_lifted::{FactTexts, OpenView, PrivateNames, private_names};
 use mp_list::{Copied, List, OutOfMemory};
 use mp_sexp::{Name, NameList, NameTable};
 use mp_typing::CheckedFactor;
@@ -200,6 +201,26 @@ fn initial_facts(
     sorted_once(alloc, facts)
 }
 
+/// What an agent shows of its factor before grounding, which has these private names.
+fn open_with(
+    alloc: Global,
+    privates: &PrivateNames<'_>,
+    factor: &Factor,
+) -> Result<OpenView, OutOfMemory>
+    requires predicates { privates.now.predicates ≡ (privates_of factor.now).predicates }
+    requires objects { privates.now.objects ≡ (privates_of factor.now).objects }
+    ensures { IfOk result (λ view. view ≡ view_of factor.now) }
+{
+    let changed = changed_names(alloc, privates, factor)?;
+    let negated = negated_names(alloc, privates, factor)?;
+    let init = initial_facts(alloc, privates, factor)?;
+    Ok(OpenView {
+        changed,
+        negated,
+        init,
+    })
+}
+
 /// What an agent shows of its factor before grounding: the public predicates that its actions change, those that stand
 /// under `not`, and its public initial facts. Refuses only for want of memory.
 pub fn open_view(alloc: Global, factor: &CheckedFactor) -> Result<OpenView, OutOfMemory>
@@ -207,14 +228,8 @@ pub fn open_view(alloc: Global, factor: &CheckedFactor) -> Result<OpenView, OutO
 {
     let whole = factor.factor();
     let privates = private_names(alloc, whole)?;
-    let changed = changed_names(alloc, &privates, whole)?;
-    let negated = negated_names(alloc, &privates, whole)?;
-    let init = initial_facts(alloc, &privates, whole)?;
-    Ok(OpenView {
-        changed,
-        negated,
-        init,
-    })
+    let view = open_with(alloc, &privates, whole)?;
+    Ok(view)
 }
 
 /// Adds copies of names.

@@ -1,82 +1,14 @@
-//! The names that a factor keeps to itself.
+//! Which facts are public, by the names that a factor keeps to itself.
 
-ghost use Rattle.std.specs.Prelude.{◌≡◌, ◌++◌, [], map, filter, IfOk, OnOk};
+ghost use Rattle.std.specs.Prelude.{◌≡◌, []};
 ghost use Rattle.std.specs.Option.{is_none};
 ghost use Rattle.mp_joint.specs.Fact.{is_listed};
-ghost use Rattle.mp_joint.specs.FactorContribution.{privates_of};
 ghost use Rattle.mp_joint.specs.Grounding.{fact_of, objects_of};
 ghost use Rattle.std.specs.List.{list_any};
 
 use crate::spelling::term_name;
-use mp_factor::{Atom, Factor, SignatureList, Term, TypedList};
-use mp_list::OutOfMemory;
+use mp_factor::{Atom, Term};
 use mp_sexp::NameTable;
-use std::alloc::Global;
-
-/// The predicates and objects that a factor keeps to itself.
-#[derive(Drop)]
-pub(crate) struct PrivateNames<'a> {
-    pub(crate) predicates: NameTable<'a>,
-    pub(crate) objects: NameTable<'a>,
-}
-
-/// The names of those predicates that are private.
-fn private_predicates<'a>(
-    alloc: Global,
-    predicates: &'a SignatureList,
-) -> Result<NameTable<'a>, OutOfMemory>
-    ensures { IfOk result (λ table. table ≡ map (λ s. s.word.name) (filter (λ s. s.private) predicates.now)) }
-{
-    let mut table = NameTable::new(alloc);
-    for signature in predicates.as_slice() {
-        if signature.private {
-            table.push(&signature.word.name)?;
-        }
-    }
-    Ok(table)
-}
-
-/// Adds the names of those objects that are private.
-fn add_private_objects<'a>(
-    table: &mut NameTable<'a>,
-    objects: &'a TypedList,
-) -> Result<(), OutOfMemory>
-    ensures { OnOk result (table.new
-        ≡ table.old ++ map (λ o. o.word.name) (filter (λ o. o.private) objects.now)) }
-{
-    for object in objects.as_slice() {
-        if object.private {
-            table.push(&object.word.name)?;
-        }
-    }
-    Ok(())
-}
-
-/// The names of the private objects.
-fn private_objects<'a>(
-    alloc: Global,
-    constants: &'a TypedList,
-    objects: &'a TypedList,
-) -> Result<NameTable<'a>, OutOfMemory>
-    ensures { IfOk result (λ names. names
-        ≡ map (λ o. o.word.name) (filter (λ o. o.private) (constants.now ++ objects.now))) }
-{
-    let mut names = NameTable::new(alloc);
-    add_private_objects(&mut names, constants)?;
-    add_private_objects(&mut names, objects)?;
-    Ok(names)
-}
-
-/// The names that a factor keeps to itself.
-pub(crate) fn private_names(alloc: Global, factor: &Factor) -> Result<PrivateNames<'_>, OutOfMemory>
-    ensures predicates { IfOk result (λ names. names.predicates ≡ (privates_of factor.now).predicates) }
-    ensures objects { IfOk result (λ names. names.objects ≡ (privates_of factor.now).objects) }
-{
-    Ok(PrivateNames {
-        predicates: private_predicates(alloc, &factor.domain.predicates)?,
-        objects: private_objects(alloc, &factor.domain.constants, &factor.problem.objects)?,
-    })
-}
 
 /// Whether the name of one of some terms is among these.
 fn is_one_among(terms: &[Term], names: &NameTable<'_>) -> bool

@@ -6,20 +6,6 @@ ghost use Rattle.mp_views.specs.Sorted.{sorted_once as once_sorted};
 use mp_list::{List, OutOfMemory};
 use mp_sexp::{Name, NameList};
 use std::alloc::Global;
-use std::collections::BTreeSet;
-
-/// The set of some texts.
-#[tactic(auto, using(crate::proofs::SortedLemmas::set_steps))]
-pub(crate) fn set_of(alloc: Global, texts: Vec<Name>) -> Result<BTreeSet<Name>, OutOfMemory>
-    ensures { IfOk result (λ set. set.keys ≡ once_sorted texts.items) }
-{
-    let mut set = BTreeSet::new(alloc);
-    let mut left = texts;
-    while let Some(text) = left.pop() {
-        set.insert(text)?;
-    }
-    Ok(set)
-}
 
 /// The same texts as a list.
 fn list_of(alloc: Global, texts: Vec<Name>) -> Result<NameList, OutOfMemory>

@@ -1,13 +1,12 @@
-//! How facts are spelled.
+//! How initial facts are spelled.
 
-ghost use Rattle.std.specs.Prelude.{◌≡◌, ◌++◌, ◌∷◌, [], codes, IfOk, OnOk};
+ghost use Rattle.std.specs.Prelude.{◌≡◌, ◌++◌, ◌∷◌, [], IfOk, OnOk};
 ghost use Rattle.mp_sexp.specs.Bytes.{folded};
 ghost use Rattle.mp_joint.specs.Grounding.{object_of, objects_of};
-ghost use Rattle.mp_lifted.specs.Texts.{bracketed, signed_text as text_of_signed};
+ghost use Rattle.mp_lifted.specs.Texts.{bracketed};
 ghost use Rattle.mp_views.specs.Lines.{spaced};
 
 use mp_factor::{Atom, Term};
-use mp_joint::SignedFact;
 use mp_list::OutOfMemory;
 use mp_sexp::Name;
 use std::alloc::Global;
@@ -26,81 +25,6 @@ fn push_name(text: &mut Vec<u8>, name: &Name) -> Result<(), OutOfMemory>
 {
     text.extend_from_slice(bytes_of(name))?;
     Ok(())
-}
-
-/// Appends names, each behind one space.
-#[tactic(auto, using(crate::proofs::FoldedLemmas::fact_steps))]
-fn push_names(text: &mut Vec<u8>, names: &[Name]) -> Result<(), OutOfMemory>
-    ensures { OnOk result (folded text.new.items ≡ folded text.old.items ++ spaced names.now) }
-{
-    for name in names {
-        text.push(b' ')?;
-        push_name(text, name)?;
-    }
-    Ok(())
-}
-
-/// Appends `(PREDICATE OBJECT ..)`.
-#[tactic(auto, using(crate::proofs::FoldedLemmas::fact_steps))]
-fn push_fact(text: &mut Vec<u8>, predicate: &Name, objects: &[Name]) -> Result<(), OutOfMemory>
-    ensures { OnOk result (folded text.new.items
-        ≡ folded text.old.items ++ bracketed (predicate.now ∷ objects.now)) }
-{
-    text.push(b'(')?;
-    push_name(text, predicate)?;
-    push_names(text, objects)?;
-    text.push(b')')?;
-    Ok(())
-}
-
-/// The text of a fact, `(p a b)`. The bytes are written to `scratch`, whatever is there before is lost. Refuses only
-/// for want of memory.
-pub fn fact_text(
-    alloc: Global,
-    scratch: &mut Vec<u8>,
-    predicate: &Name,
-    objects: &[Name],
-) -> Result<Name, OutOfMemory>
-    ensures { IfOk result (λ text. text ≡ bracketed (predicate.now ∷ objects.now)) }
-{
-    scratch.clear();
-    push_fact(scratch, predicate, objects)?;
-    Name::folded(alloc, scratch.as_slice())
-}
-
-/// Appends `(not (PREDICATE OBJECT ..))`.
-#[tactic(auto, using(crate::proofs::FoldedLemmas::fact_steps))]
-fn push_complement(
-    text: &mut Vec<u8>,
-    predicate: &Name,
-    objects: &[Name],
-) -> Result<(), OutOfMemory>
-    ensures { OnOk result (folded text.new.items
-        ≡ folded text.old.items ++ (codes "(not " ++ bracketed (predicate.now ∷ objects.now) ++ codes ")")) }
-{
-    text.extend_from_slice(b"(not ")?;
-    push_fact(text, predicate, objects)?;
-    text.push(b')')?;
-    Ok(())
-}
-
-/// The text of a fact, `(p a b)`, or of the complement of one, `(not (p a b))`. The bytes are written to `scratch`,
-/// whatever is there before is lost. Refuses only for want of memory.
-pub fn signed_text(
-    alloc: Global,
-    scratch: &mut Vec<u8>,
-    signed: &SignedFact,
-) -> Result<Name, OutOfMemory>
-    ensures { IfOk result (λ text. text ≡ text_of_signed signed.now) }
-{
-    let fact = &signed.fact;
-    scratch.clear();
-    if signed.positive {
-        push_fact(scratch, &fact.predicate, fact.args.as_slice())?;
-    } else {
-        push_complement(scratch, &fact.predicate, fact.args.as_slice())?;
-    }
-    Name::folded(alloc, scratch.as_slice())
 }
 
 /// The name that a term is.
@@ -138,7 +62,8 @@ fn push_atom(text: &mut Vec<u8>, atom: &Atom) -> Result<(), OutOfMemory>
     Ok(())
 }
 
-/// The text of an atom without variables.
+/// The text of an atom without variables. The bytes are written to `scratch`, whatever is there before is lost. Refuses only
+/// for want of memory.
 pub(crate) fn atom_text(
     alloc: Global,
     scratch: &mut Vec<u8>,

@@ -1,5 +1,5 @@
 -- A run of a team.
-use Rattle.std.specs.Prelude.{◌≡◌, List, Option, Some}
+use Rattle.std.specs.Prelude.{◌≡◌, List, Some}
 use Rattle.mp_messages.specs.declared.history.Event.{Event}
 use Rattle.mp_world.specs.Events.{run}
 use Rattle.mp_world.specs.Team.{IsTeam, Team}

@@ -1,6 +1,4 @@
-use Rattle.std.proofs.Common.{◌++◌, List, map, sym, ap, ◌∙◌}
-use Rattle.std.proofs.lemmas.List.{append-nil}
-use Rattle.mp_sexp.specs.Node.{Node, node_of}
+use Rattle.mp_factor.proofs.Basics.{◌++◌, List, map, sym, ap, ◌∙◌, append-nil, Node, node_of}
 use Rattle.mp_factor.proofs.ConjunctLemmas.{of_nothing, of_and, of_other, of_word}
 use Rattle.mp_factor.proofs.conjuncts.+conjuncts.Goals as goal
 

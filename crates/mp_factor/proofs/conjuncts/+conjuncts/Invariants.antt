@@ -1,6 +1,5 @@
-use Rattle.std.proofs.Common.{◌≡◌, ◌++◌, drop, map, flat_map}
-use Rattle.mp_sexp.specs.Node.{node_of, nodes_in}
-use Rattle.mp_factor.specs.Conjuncts.{conjuncts}
+use Rattle.mp_factor.proofs.Basics.{◌≡◌, ◌++◌, drop, map, node_of, nodes_in, conjuncts}
+use Rattle.std.proofs.Common.{flat_map}
 use Rattle.mp_factor.proofs.conjuncts.+conjuncts.Given as goal
 
 abbrev pub invariant-add_all_conjuncts-loop-tree : goal.invariant-add_all_conjuncts-loop-tree

@@ -1,4 +1,4 @@
-use Rattle.mp_sexp.specs.Node.{node_of}
+use Rattle.mp_factor.proofs.Basics.{node_of}
 use Rattle.mp_factor.proofs.FoundLemmas.{lists, goes_on, ends}
 use Rattle.mp_factor.proofs.conjuncts.read_conjuncts.Goals as goal
 

@@ -1,7 +1,4 @@
-use Rattle.std.proofs.Common.{◌≡◌, drop, map}
-use Rattle.mp_sexp.specs.Node.{node_of}
-use Rattle.mp_factor.specs.Reading.{each}
-use Rattle.mp_factor.specs.Found.{found_in, more_found}
+use Rattle.mp_factor.proofs.Basics.{◌≡◌, drop, map, node_of, each, found_in, more_found}
 use Rattle.mp_factor.proofs.conjuncts.read_conjuncts.Given as goal
 
 abbrev pub invariant-loop-tree : goal.invariant-loop-tree

@@ -1,9 +1,4 @@
-use Rattle.std.proofs.Common.{refl}
-use Rattle.mp_sexp.specs.Node.{node_of}
-use Rattle.mp_factor.specs.Conjuncts.{is_increase}
-use Rattle.mp_factor.specs.Parts.{place_of}
-use Rattle.mp_factor.specs.Rules.Effects.{surplus_increase}
-use Rattle.mp_factor.specs.declared.fault.FaultKind.TheVariants.{Cost}
+use Rattle.mp_factor.proofs.Basics.{refl, node_of, is_increase, place_of, surplus_increase, Cost}
 use Rattle.mp_factor.proofs.CountLemmas.{counts_on, counts_end}
 use Rattle.mp_factor.proofs.effect_values.check_increases.Goals as goal
 

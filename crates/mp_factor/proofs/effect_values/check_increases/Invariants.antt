@@ -1,10 +1,4 @@
-use Rattle.std.proofs.Common.{◌≡◌, drop, map}
-use Rattle.mp_sexp.specs.Node.{node_of}
-use Rattle.mp_factor.specs.Conjuncts.{is_increase}
-use Rattle.mp_factor.specs.Limits.{most_increases}
-use Rattle.mp_factor.specs.Reading.{at_most}
-use Rattle.mp_factor.specs.Found.{found_in, second_found}
-use Rattle.mp_factor.specs.Rules.Effects.{surplus_increase}
+use Rattle.mp_factor.proofs.Basics.{◌≡◌, drop, map, node_of, is_increase, most_increases, at_most, found_in, second_found, surplus_increase}
 use Rattle.mp_factor.proofs.effect_values.check_increases.Given as goal
 
 abbrev pub invariant-loop-tree : goal.invariant-loop-tree

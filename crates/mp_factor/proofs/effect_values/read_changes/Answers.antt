@@ -1,5 +1,4 @@
-use Rattle.mp_sexp.specs.Node.{node_of}
-use Rattle.mp_factor.specs.Rules.Effects.{change_rule}
+use Rattle.mp_factor.proofs.Basics.{node_of, change_rule}
 use Rattle.mp_factor.proofs.FoundLemmas.{goes_on, ends}
 use Rattle.mp_factor.proofs.EffectLemmas.{effects}
 use Rattle.mp_factor.proofs.effect_values.read_changes.Goals as goal

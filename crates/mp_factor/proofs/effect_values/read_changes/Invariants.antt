@@ -1,8 +1,4 @@
-use Rattle.std.proofs.Common.{◌≡◌, drop, map}
-use Rattle.mp_sexp.specs.Node.{node_of}
-use Rattle.mp_factor.specs.Reading.{each}
-use Rattle.mp_factor.specs.Found.{found_in, both_found, said_found}
-use Rattle.mp_factor.specs.Rules.Effects.{change_rule, effect_of}
+use Rattle.mp_factor.proofs.Basics.{◌≡◌, drop, map, node_of, each, found_in, both_found, said_found, change_rule, effect_of}
 use Rattle.mp_factor.proofs.EffectLemmas.{with_changes}
 use Rattle.mp_factor.proofs.effect_values.read_changes.Given as goal
 

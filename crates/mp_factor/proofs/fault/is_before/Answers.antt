@@ -1,6 +1,4 @@
-use Rattle.std.proofs.Common.{ℕ, List, Ordering, sym, ap, ◌∙◌}
-use Rattle.std.specs.Ordering.{is_lt, nat_cmp, ordering_then}
-use Rattle.std.specs.Cmp.Lexicographic.{slice_cmp}
+use Rattle.mp_factor.proofs.Basics.{ℕ, List, Ordering, sym, ap, ◌∙◌, is_lt, nat_cmp, ordering_then, slice_cmp}
 use Rattle.mp_factor.proofs.FirstLemmas.{earlier_by, numbers_of}
 use Rattle.mp_factor.proofs.fault.is_before.Goals as goal
 

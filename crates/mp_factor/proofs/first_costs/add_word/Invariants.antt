@@ -1,4 +1,4 @@
-use Rattle.std.proofs.Common.{◌≡◌, ◌++◌, suc, map, drop}
+use Rattle.mp_factor.proofs.Basics.{◌≡◌, ◌++◌, suc, map, drop}
 use Rattle.mp_factor.proofs.first_costs.add_word.Given as goal
 
 abbrev pub invariant-loop-byte : goal.invariant-loop-byte

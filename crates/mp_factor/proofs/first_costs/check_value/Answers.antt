@@ -1,10 +1,4 @@
-use Rattle.std.proofs.Common.{◌≡◌, ℕ, List, Option, Some, None, sym, ap, subst, ◌∙◌}
-use Rattle.std.specs.Prelude.{if◌then◌else◌}
-use Rattle.std.specs.Map.{lookup}
-use Rattle.mp_factor.specs.Reading.{Says, costly}
-use Rattle.mp_factor.specs.Found.{found_in}
-use Rattle.mp_factor.specs.FirstCosts.{key_of_given}
-use Rattle.mp_factor.specs.Rules.Init.{Given}
+use Rattle.mp_factor.proofs.Basics.{◌≡◌, ℕ, List, Option, Some, None, sym, ap, subst, ◌∙◌, if◌then◌else◌, lookup, Says, costly, found_in, key_of_given, Given}
 use Rattle.mp_factor.proofs.FirstCostLemmas.{by_bytes, is_other, known, new, fault_by}
 use Rattle.mp_factor.proofs.first_costs.check_value.Goals as goal
 

@@ -1,6 +1,5 @@
-use Rattle.std.proofs.Common.{◌≡◌, ◌++◌, drop, map}
-use Rattle.mp_factor.specs.FirstCosts.{key_of}
-use Rattle.mp_factor.specs.Limits.{name_of_term, names_of_atom}
+use Rattle.mp_factor.proofs.Basics.{◌≡◌, ◌++◌, drop, map, key_of, names_of_atom}
+use Rattle.mp_factor.specs.Limits.{name_of_term}
 use Rattle.mp_factor.proofs.first_costs.key_of.Given as goal
 
 abbrev pub invariant-loop-term : goal.invariant-loop-term

@@ -1,6 +1,4 @@
-use Rattle.mp_sexp.specs.Node.{node_of, nodes_in}
-use Rattle.mp_factor.specs.Reading.{all_right}
-use Rattle.mp_factor.specs.Found.{found_in}
+use Rattle.mp_factor.proofs.Basics.{node_of, nodes_in, all_right, found_in}
 use Rattle.mp_factor.proofs.FoundLemmas.{checks_begin, checks_on, checks_end}
 use Rattle.mp_factor.proofs.found.check_each.Goals as goal
 

@@ -1,7 +1,4 @@
-use Rattle.std.proofs.Common.{◌≡◌, drop}
-use Rattle.mp_sexp.specs.Node.{nodes_in}
-use Rattle.mp_factor.specs.Reading.{all_right}
-use Rattle.mp_factor.specs.Found.{found_in, second_found}
+use Rattle.mp_factor.proofs.Basics.{◌≡◌, drop, nodes_in, all_right, found_in, second_found}
 use Rattle.mp_factor.proofs.found.check_each.Given as goal
 
 abbrev pub invariant-loop-tree : goal.invariant-loop-tree

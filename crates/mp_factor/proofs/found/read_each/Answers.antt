@@ -1,6 +1,4 @@
-use Rattle.mp_sexp.specs.Node.{node_of, nodes_in}
-use Rattle.mp_factor.specs.Reading.{each}
-use Rattle.mp_factor.specs.Found.{found_in}
+use Rattle.mp_factor.proofs.Basics.{node_of, nodes_in, each, found_in}
 use Rattle.mp_factor.proofs.FoundLemmas.{lists, begins, goes_on, ends}
 use Rattle.mp_factor.proofs.found.read_each.Goals as goal
 

@@ -1,8 +1,4 @@
-use Rattle.std.proofs.Common.{[], sym, ap, ◌∙◌}
-use Rattle.mp_sexp.specs.Node.{node_of, nodes_in}
-use Rattle.mp_factor.specs.Reading.{costly, all_right, said, each}
-use Rattle.mp_factor.specs.Found.{found_in, second_found}
-use Rattle.mp_factor.specs.Rules.Init.{fact_rule, given, differing, start_of, init_rule}
+use Rattle.mp_factor.proofs.Basics.{[], sym, ap, ◌∙◌, node_of, nodes_in, costly, all_right, said, each, found_in, second_found, fact_rule, given, differing, start_of, init_rule}
 use Rattle.mp_factor.proofs.EffectLemmas.{starts, starts_begin}
 use Rattle.mp_factor.proofs.FirstCostLemmas.{empty, given_before, costs_go_on, wrong_behind, wrong_goes_on, wrong_ends}
 use Rattle.mp_factor.proofs.FoundLemmas.{checks_begin, ends, found_both, found_said, goes_on}

@@ -1,9 +1,4 @@
-use Rattle.std.proofs.Common.{◌≡◌, [], take, drop}
-use Rattle.mp_sexp.specs.Node.{nodes_in}
-use Rattle.mp_factor.specs.FirstCosts.{AreFirst}
-use Rattle.mp_factor.specs.Reading.{all_right, costly, each}
-use Rattle.mp_factor.specs.Found.{found_in, both_found, said_found, second_found}
-use Rattle.mp_factor.specs.Rules.Init.{fact_rule, given, differing, start_of}
+use Rattle.mp_factor.proofs.Basics.{◌≡◌, [], take, drop, nodes_in, AreFirst, all_right, costly, each, found_in, both_found, said_found, second_found, fact_rule, given, differing, start_of}
 use Rattle.mp_factor.proofs.EffectLemmas.{with_facts}
 use Rattle.mp_factor.proofs.init_values.read_start.Given as goal
 

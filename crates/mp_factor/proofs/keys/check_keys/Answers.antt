@@ -1,5 +1,4 @@
-use Rattle.mp_factor.specs.FoundForms.{key_nodes}
-use Rattle.mp_factor.specs.Rules.Actions.{key_rule}
+use Rattle.mp_factor.proofs.Basics.{key_nodes, key_rule}
 use Rattle.mp_factor.proofs.FoundLemmas.{checks_on, checks_end}
 use Rattle.mp_factor.proofs.keys.check_keys.Goals as goal
 

@@ -1,8 +1,4 @@
-use Rattle.std.proofs.Common.{◌≡◌, drop, map}
-use Rattle.mp_factor.specs.Reading.{all_right}
-use Rattle.mp_factor.specs.Found.{found_in, second_found}
-use Rattle.mp_factor.specs.FoundForms.{key_nodes}
-use Rattle.mp_factor.specs.Rules.Actions.{key_rule}
+use Rattle.mp_factor.proofs.Basics.{◌≡◌, drop, map, all_right, found_in, second_found, key_nodes, key_rule}
 use Rattle.mp_factor.proofs.keys.check_keys.Given as goal
 
 abbrev pub invariant-loop-key : goal.invariant-loop-key

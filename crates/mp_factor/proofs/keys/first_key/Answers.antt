@@ -1,6 +1,4 @@
-use Rattle.std.proofs.Common.{List, ap, ◌∙◌}
-use Rattle.mp_sexp.specs.Node.{Node, node_of, nodes_in}
-use Rattle.mp_factor.specs.Rules.Actions.{keys_of}
+use Rattle.mp_factor.proofs.Basics.{List, ap, ◌∙◌, Node, node_of, nodes_in, keys_of}
 use Rattle.mp_factor.proofs.Steps.{first_and_others, behind}
 use Rattle.mp_factor.proofs.KeyLemmas.{first_of_keys}
 use Rattle.mp_factor.proofs.keys.first_key.Goals as goal

@@ -1,8 +1,6 @@
-use Rattle.std.proofs.Common.{length, sym, ap, ◌∙◌}
+use Rattle.mp_factor.proofs.Basics.{length, sym, ap, ◌∙◌, node_of, value_length}
 use Rattle.std.specs.Prelude.{nat_lt}
 use Rattle.std.proofs.lemmas.List.{length-map}
-use Rattle.mp_sexp.specs.Node.{node_of}
-use Rattle.mp_factor.specs.Rules.Actions.{value_length}
 use Rattle.mp_factor.proofs.keys.is_cut_short.Goals as goal
 
 pub returns : goal.returns

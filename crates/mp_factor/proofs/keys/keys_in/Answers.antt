@@ -1,4 +1,4 @@
-use Rattle.mp_factor.specs.FoundForms.{key_nodes}
+use Rattle.mp_factor.proofs.Basics.{key_nodes}
 use Rattle.mp_factor.proofs.KeyLemmas.{one_key_more, no_key_more}
 use Rattle.mp_factor.proofs.keys.keys_in.Goals as goal
 

@@ -1,7 +1,4 @@
-use Rattle.std.proofs.Common.{◌≡◌, ◌++◌, length, map}
-use Rattle.mp_sexp.specs.Node.{nodes_in}
-use Rattle.mp_factor.specs.FoundForms.{key_nodes}
-use Rattle.mp_factor.specs.Rules.Actions.{keys_of}
+use Rattle.mp_factor.proofs.Basics.{◌≡◌, ◌++◌, length, map, nodes_in, key_nodes, keys_of}
 use Rattle.mp_factor.proofs.keys.keys_in.Given as goal
 
 abbrev pub invariant-loop-first : goal.invariant-loop-first

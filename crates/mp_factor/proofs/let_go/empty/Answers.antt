@@ -1,6 +1,4 @@
-use Rattle.std.proofs.Common.{List, refl, ap, ◌∙◌}
-use Rattle.mp_sexp.specs.declared.tree.Tree.{Tree}
-use Rattle.mp_sexp.specs.Node.{nodes_in}
+use Rattle.mp_factor.proofs.Basics.{List, refl, ap, ◌∙◌, Tree, nodes_in}
 use Rattle.mp_factor.proofs.TreeLemmas.{parts-list}
 use Rattle.mp_factor.proofs.let_go.empty.Goals as goal
 

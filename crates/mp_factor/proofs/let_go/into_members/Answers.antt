@@ -1,4 +1,4 @@
-use Rattle.std.proofs.Common.{sym}
+use Rattle.mp_factor.proofs.Basics.{sym}
 use Rattle.mp_factor.proofs.TreeLemmas.{parts-list}
 use Rattle.mp_factor.proofs.let_go.into_members.Goals as goal
 

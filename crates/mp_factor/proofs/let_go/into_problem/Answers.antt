@@ -1,10 +1,4 @@
-use Rattle.std.proofs.Common.{List, Ok, inr, sym, ap, ◌∙◌}
-use Rattle.std.specs.Prelude.{codes}
-use Rattle.mp_sexp.specs.declared.tree.Tree.{Tree}
-use Rattle.mp_sexp.specs.Node.{node_of, nodes_in}
-use Rattle.mp_factor.specs.Found.{found_in, said_found}
-use Rattle.mp_factor.specs.FoundForms.{problem_from}
-use Rattle.mp_factor.specs.Rules.Files.{problem_sections, problem_rule}
+use Rattle.mp_factor.proofs.Basics.{List, Ok, inr, sym, ap, ◌∙◌, codes, Tree, node_of, nodes_in, found_in, said_found, problem_from, problem_sections, problem_rule}
 use Rattle.mp_factor.proofs.FoundLemmas.{found_says, found_wrong}
 use Rattle.mp_factor.proofs.ReadFiles.{by_members}
 use Rattle.mp_factor.proofs.let_go.into_problem.Goals as goal

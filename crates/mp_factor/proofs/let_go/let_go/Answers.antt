@@ -1,7 +1,4 @@
-use Rattle.std.proofs.Common.{List, sym, subst, ◌∙◌}
-use Rattle.mp_sexp.specs.declared.tree.Tree.{Tree}
-use Rattle.mp_sexp.specs.Node.{nodes_in}
-use Rattle.mp_factor.specs.KeptSections.{KeepsOthers}
+use Rattle.mp_factor.proofs.Basics.{List, sym, subst, ◌∙◌, Tree, nodes_in, KeepsOthers}
 use Rattle.mp_factor.proofs.SectionLemmas.{kept_with_one_more}
 use Rattle.mp_factor.proofs.let_go.let_go.Goals as goal
 use Rattle.mp_factor.proofs.let_go.let_go.Goals.{then-is_headed, else-is_headed}

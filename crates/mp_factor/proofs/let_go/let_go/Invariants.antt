@@ -1,5 +1,4 @@
-use Rattle.mp_sexp.specs.Node.{nodes_in}
-use Rattle.mp_factor.specs.KeptSections.{KeepsOthers}
+use Rattle.mp_factor.proofs.Basics.{nodes_in, KeepsOthers}
 use Rattle.mp_factor.proofs.let_go.let_go.Given as goal
 
 abbrev pub invariant-loop-i : goal.invariant-loop-i

@@ -1,9 +1,4 @@
-use Rattle.std.specs.Prelude.{codes}
-use Rattle.mp_sexp.specs.Node.{node_of, nodes_in}
-use Rattle.mp_factor.specs.FoundForms.{problem_from}
-use Rattle.mp_factor.specs.Reading.{keyword}
-use Rattle.mp_factor.specs.Rules.Sections.{domain_words, problem_words, sections_rule}
-use Rattle.mp_factor.specs.Rules.Files.{problem_parts, title_rule}
+use Rattle.mp_factor.proofs.Basics.{codes, node_of, nodes_in, problem_from, keyword, domain_words, problem_words, sections_rule, problem_parts, title_rule}
 use Rattle.mp_factor.proofs.ReadFiles.{behind_two, problem_read}
 use Rattle.mp_factor.proofs.let_go.read_and_let_go.Goals as goal
 

@@ -1,5 +1,4 @@
-use Rattle.std.proofs.Common.{ℕ, ◌+◌, ◌*◌, ap, ◌∙◌, arith}
-use Rattle.std.specs.Prelude.{min}
+use Rattle.mp_factor.proofs.Basics.{ℕ, ◌+◌, ◌*◌, ap, ◌∙◌, arith, min}
 use Rattle.mp_factor.proofs.NumberLemmas.{goes_on}
 use Rattle.mp_factor.proofs.numbers.least_value.Goals as goal
 

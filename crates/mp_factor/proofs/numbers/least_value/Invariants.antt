@@ -1,6 +1,4 @@
-use Rattle.std.proofs.Common.{◌≡◌, ◌≤◌, drop}
-use Rattle.std.specs.Prelude.{min}
-use Rattle.mp_factor.specs.Numbers.{value_behind}
+use Rattle.mp_factor.proofs.Basics.{◌≡◌, ◌≤◌, drop, min, value_behind}
 use Rattle.mp_factor.proofs.numbers.least_value.Given as goal
 
 abbrev pub invariant-loop-digit : goal.invariant-loop-digit

@@ -1,7 +1,4 @@
-use Rattle.mp_sexp.specs.Node.{nodes_in}
-use Rattle.mp_factor.specs.Parts.{is_variable_word}
-use Rattle.mp_factor.specs.FoundForms.{key_nodes}
-use Rattle.mp_factor.specs.Rules.Actions.{parameter_members, surplus_parameter}
+use Rattle.mp_factor.proofs.Basics.{nodes_in, is_variable_word, key_nodes, parameter_members, surplus_parameter}
 use Rattle.mp_factor.proofs.CountLemmas.{counts_part, counts_parts_end}
 use Rattle.mp_factor.proofs.schema_values.check_parameters.Goals as goal
 

@@ -1,8 +1,4 @@
-use Rattle.std.proofs.Common.{refl}
-use Rattle.mp_factor.specs.Parts.{is_word, place_of}
-use Rattle.mp_factor.specs.Reading.{misshapen}
-use Rattle.mp_factor.specs.FoundForms.{key_nodes}
-use Rattle.mp_factor.specs.declared.fault.FaultKind.TheVariants.{Shape}
+use Rattle.mp_factor.proofs.Basics.{refl, is_word, place_of, misshapen, key_nodes, Shape}
 use Rattle.mp_factor.proofs.CountLemmas.{counts_on, counts_end}
 use Rattle.mp_factor.proofs.schema_values.check_single.Goals as goal
 

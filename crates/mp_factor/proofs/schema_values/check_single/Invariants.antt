@@ -1,8 +1,4 @@
-use Rattle.std.proofs.Common.{◌≡◌, drop, map}
-use Rattle.mp_factor.specs.Parts.{is_word, place_of}
-use Rattle.mp_factor.specs.Reading.{at_most, misshapen}
-use Rattle.mp_factor.specs.Found.{found_in, second_found}
-use Rattle.mp_factor.specs.FoundForms.{key_nodes}
+use Rattle.mp_factor.proofs.Basics.{◌≡◌, drop, map, is_word, place_of, at_most, misshapen, found_in, second_found, key_nodes}
 use Rattle.mp_factor.proofs.schema_values.check_single.Given as goal
 
 abbrev pub invariant-loop-key : goal.invariant-loop-key

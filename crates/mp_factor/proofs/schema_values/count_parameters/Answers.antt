@@ -1,8 +1,4 @@
-use Rattle.std.proofs.Common.{refl}
-use Rattle.mp_sexp.specs.Node.{node_of}
-use Rattle.mp_factor.specs.Parts.{place_of, is_variable_word}
-use Rattle.mp_factor.specs.Rules.Actions.{surplus_parameter}
-use Rattle.mp_factor.specs.declared.fault.FaultKind.TheVariants.{Parameters}
+use Rattle.mp_factor.proofs.Basics.{refl, node_of, place_of, is_variable_word, surplus_parameter, Parameters}
 use Rattle.mp_factor.proofs.CountLemmas.{counts_more, counts_done}
 use Rattle.mp_factor.proofs.schema_values.count_parameters.Goals as goal
 

@@ -1,9 +1,4 @@
-use Rattle.std.proofs.Common.{◌≡◌, ◌++◌, List, drop}
-use Rattle.mp_sexp.specs.Node.{Node, nodes_in}
-use Rattle.mp_factor.specs.Parts.{is_variable_word}
-use Rattle.mp_factor.specs.Reading.{at_most}
-use Rattle.mp_factor.specs.Found.{found_in, second_found}
-use Rattle.mp_factor.specs.Rules.Actions.{surplus_parameter}
+use Rattle.mp_factor.proofs.Basics.{◌≡◌, ◌++◌, List, drop, Node, nodes_in, is_variable_word, at_most, found_in, second_found, surplus_parameter}
 use Rattle.mp_factor.proofs.schema_values.count_parameters.Given as goal
 
 abbrev pub invariant-loop-tree : goal.invariant-loop-tree

@@ -1,7 +1,4 @@
-use Rattle.std.proofs.Common.{◌≡◌, drop, map}
-use Rattle.std.specs.List.{find}
-use Rattle.mp_factor.specs.Parts.{is_word}
-use Rattle.mp_factor.specs.FoundForms.{key_nodes}
+use Rattle.mp_factor.proofs.Basics.{◌≡◌, drop, map, find, is_word, key_nodes}
 use Rattle.mp_factor.proofs.schema_values.first_named.Given as goal
 
 abbrev pub invariant-loop-key : goal.invariant-loop-key

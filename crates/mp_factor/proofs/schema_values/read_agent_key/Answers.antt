@@ -1,9 +1,4 @@
-use Rattle.std.proofs.Common.{[], map, Ok, ap}
-use Rattle.std.specs.Prelude.{codes}
-use Rattle.mp_factor.specs.Parts.{is_word, place_of}
-use Rattle.mp_factor.specs.Reading.{Says}
-use Rattle.mp_factor.specs.FoundForms.{key_nodes}
-use Rattle.mp_factor.specs.Rules.Actions.{agent_rule}
+use Rattle.mp_factor.proofs.Basics.{[], map, Ok, ap, codes, is_word, place_of, Says, key_nodes, agent_rule}
 use Rattle.mp_factor.proofs.OnceLemmas.{once_there, once_missing}
 use Rattle.mp_factor.proofs.schema_values.read_agent_key.Goals as goal
 

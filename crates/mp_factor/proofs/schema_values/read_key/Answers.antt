@@ -1,7 +1,4 @@
-use Rattle.std.proofs.Common.{map, refl}
-use Rattle.mp_factor.specs.Parts.{is_word, place_of}
-use Rattle.mp_factor.specs.Reading.{Says, wanted}
-use Rattle.mp_factor.specs.FoundForms.{key_nodes}
+use Rattle.mp_factor.proofs.Basics.{map, refl, is_word, place_of, Says, wanted, key_nodes}
 use Rattle.mp_factor.proofs.OnceLemmas.{once_there, once_missing}
 use Rattle.mp_factor.proofs.schema_values.read_key.Goals as goal
 

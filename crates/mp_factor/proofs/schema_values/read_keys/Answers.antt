@@ -1,6 +1,4 @@
-use Rattle.std.proofs.Common.{map, ◌∙◌}
-use Rattle.mp_sexp.specs.Node.{node_of}
-use Rattle.mp_factor.specs.FoundForms.{key_nodes}
+use Rattle.mp_factor.proofs.Basics.{map, ◌∙◌, node_of, key_nodes}
 use Rattle.mp_factor.proofs.KeyLemmas.{keys_read}
 use Rattle.mp_factor.proofs.schema_values.read_keys.Goals as goal
 

@@ -1,8 +1,4 @@
-use Rattle.std.proofs.Common.{refl}
-use Rattle.mp_sexp.specs.Node.{node_of}
-use Rattle.mp_factor.specs.Parts.{is_headed, place_of}
-use Rattle.mp_factor.specs.Reading.{misshapen}
-use Rattle.mp_factor.specs.declared.fault.FaultKind.TheVariants.{Shape}
+use Rattle.mp_factor.proofs.Basics.{refl, node_of, is_headed, place_of, misshapen, Shape}
 use Rattle.mp_factor.proofs.CountLemmas.{counts_on, counts_end}
 use Rattle.mp_factor.proofs.sections.check_single.Goals as goal
 

@@ -1,8 +1,4 @@
-use Rattle.std.proofs.Common.{◌≡◌, drop}
-use Rattle.mp_sexp.specs.Node.{nodes_in}
-use Rattle.mp_factor.specs.Parts.{is_headed, place_of}
-use Rattle.mp_factor.specs.Reading.{at_most, misshapen}
-use Rattle.mp_factor.specs.Found.{found_in, second_found}
+use Rattle.mp_factor.proofs.Basics.{◌≡◌, drop, nodes_in, is_headed, place_of, at_most, misshapen, found_in, second_found}
 use Rattle.mp_factor.proofs.sections.check_single.Given as goal
 
 abbrev pub invariant-loop-tree : goal.invariant-loop-tree

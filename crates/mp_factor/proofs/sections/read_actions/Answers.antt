@@ -1,7 +1,4 @@
-use Rattle.std.specs.Prelude.{codes}
-use Rattle.mp_sexp.specs.Node.{node_of, nodes_in}
-use Rattle.mp_factor.specs.Parts.{is_headed}
-use Rattle.mp_factor.specs.Rules.Actions.{action_rule}
+use Rattle.mp_factor.proofs.Basics.{codes, node_of, nodes_in, is_headed, action_rule}
 use Rattle.mp_factor.proofs.FoundLemmas.{begins}
 use Rattle.mp_factor.proofs.SectionLemmas.{each_that, each_that_goes_on, each_that_ends}
 use Rattle.mp_factor.proofs.sections.read_actions.Goals as goal

@@ -1,11 +1,4 @@
-use Rattle.std.proofs.Common.{◌≡◌, drop}
-use Rattle.std.specs.Prelude.{codes}
-use Rattle.std.specs.List.{filter}
-use Rattle.mp_sexp.specs.Node.{nodes_in}
-use Rattle.mp_factor.specs.Parts.{is_headed}
-use Rattle.mp_factor.specs.Reading.{each}
-use Rattle.mp_factor.specs.Found.{found_in, more_found}
-use Rattle.mp_factor.specs.Rules.Actions.{action_rule}
+use Rattle.mp_factor.proofs.Basics.{◌≡◌, drop, codes, filter, nodes_in, is_headed, each, found_in, more_found, action_rule}
 use Rattle.mp_factor.proofs.sections.read_actions.Given as goal
 
 abbrev pub invariant-loop-tree : goal.invariant-loop-tree

@@ -1,8 +1,4 @@
-use Rattle.std.proofs.Common.{[], Ok, ap}
-use Rattle.mp_sexp.specs.Node.{node_of, nodes_in}
-use Rattle.mp_factor.specs.Parts.{is_headed, place_of}
-use Rattle.mp_factor.specs.Reading.{Says}
-use Rattle.mp_factor.specs.Rules.Sections.{listed_rule}
+use Rattle.mp_factor.proofs.Basics.{[], Ok, ap, node_of, nodes_in, is_headed, place_of, Says, listed_rule}
 use Rattle.mp_factor.proofs.OnceLemmas.{once_there, once_missing}
 use Rattle.mp_factor.proofs.sections.read_listed.Goals as goal
 

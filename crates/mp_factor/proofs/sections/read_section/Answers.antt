@@ -1,5 +1,4 @@
-use Rattle.mp_sexp.specs.Node.{node_of, nodes_in}
-use Rattle.mp_factor.specs.Parts.{is_headed, place_of}
+use Rattle.mp_factor.proofs.Basics.{node_of, nodes_in, is_headed, place_of}
 use Rattle.mp_factor.proofs.OnceLemmas.{once_there, once_missing}
 use Rattle.mp_factor.proofs.sections.read_section.Goals as goal
 

@@ -1,7 +1,4 @@
-use Rattle.std.proofs.Common.{◌≡◌, drop}
-use Rattle.std.specs.List.{find}
-use Rattle.mp_sexp.specs.Node.{nodes_in}
-use Rattle.mp_factor.specs.Parts.{is_headed}
+use Rattle.mp_factor.proofs.Basics.{◌≡◌, drop, find, nodes_in, is_headed}
 use Rattle.mp_factor.proofs.sections.section.Given as goal
 
 abbrev pub invariant-loop-tree : goal.invariant-loop-tree

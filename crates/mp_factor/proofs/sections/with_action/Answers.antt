@@ -1,8 +1,4 @@
-use Rattle.std.proofs.Common.{◌≡◌, sym, subst, ◌∙◌}
-use Rattle.std.specs.Prelude.{codes, IfOk}
-use Rattle.mp_sexp.specs.Node.{node_of}
-use Rattle.mp_factor.specs.Parts.{is_headed}
-use Rattle.mp_factor.specs.Rules.Actions.{action_rule}
+use Rattle.mp_factor.proofs.Basics.{◌≡◌, sym, subst, ◌∙◌, codes, IfOk, node_of, is_headed, action_rule}
 use Rattle.mp_factor.proofs.SectionLemmas.{passing_read, others_left_out}
 use Rattle.mp_factor.proofs.sections.with_action.Goals as goal
 

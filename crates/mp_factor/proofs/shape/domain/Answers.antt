@@ -1,8 +1,4 @@
-use Rattle.std.proofs.Common.{Ok, inr, sym, ap, ◌∙◌}
-use Rattle.mp_sexp.specs.Node.{node_of}
-use Rattle.mp_factor.specs.Found.{said_found}
-use Rattle.mp_factor.specs.FoundForms.{domain_from}
-use Rattle.mp_factor.specs.Rules.Files.{domain_rule}
+use Rattle.mp_factor.proofs.Basics.{Ok, inr, sym, ap, ◌∙◌, node_of, said_found, domain_from, domain_rule}
 use Rattle.mp_factor.proofs.FoundLemmas.{found_says, found_wrong}
 use Rattle.mp_factor.proofs.shape.domain.Goals as goal
 

@@ -1,6 +1,4 @@
-use Rattle.mp_sexp.specs.Node.{node_of}
-use Rattle.mp_factor.specs.FoundForms.{domain_from}
-use Rattle.mp_factor.specs.Rules.Files.{domain_rule}
+use Rattle.mp_factor.proofs.Basics.{node_of, domain_from, domain_rule}
 use Rattle.mp_factor.proofs.ReadFiles.{first_fault}
 use Rattle.mp_factor.proofs.shape.domain_fault.Goals as goal
 

@@ -1,6 +1,4 @@
-use Rattle.mp_sexp.specs.Node.{node_of}
-use Rattle.mp_factor.specs.FoundForms.{problem_from}
-use Rattle.mp_factor.specs.Rules.Files.{problem_rule}
+use Rattle.mp_factor.proofs.Basics.{node_of, problem_from, problem_rule}
 use Rattle.mp_factor.proofs.ReadFiles.{first_fault}
 use Rattle.mp_factor.proofs.shape.problem_fault.Goals as goal
 

@@ -1,8 +1,7 @@
-use Rattle.std.proofs.Common.{false, refl, ◌∙◌}
-use Rattle.mp_factor.specs.Reading.{Says}
+use Rattle.mp_factor.proofs.Basics.{false, refl, ◌∙◌, Says}
 use Rattle.mp_factor.proofs.shape.read_behind_objects.Goals as goal
 
 pub returns : goal.returns
 returns c =
-    let metric = c.in_ok-read_section.ensures (Says false) refl in
-    c.pair.ensures ∙ rw (c.pair-goals.ensures, c.pair-start.ensures, c.in_ok-read_init.ensures, c.in_ok-read_goal.ensures, metric) refl
+    let metric = c.in_ok-metric.ensures (Says false) refl in
+    c.pair.ensures ∙ rw (c.in_ok-goals.ensures, c.in_ok-start.ensures, metric) refl

@@ -1,10 +1,4 @@
-use Rattle.std.proofs.Common.{◌≡◌, refl, sym, ap, subst, ◌∙◌}
-use Rattle.std.specs.Prelude.{codes, IfOk}
-use Rattle.mp_sexp.specs.Node.{node_of, nodes_in}
-use Rattle.mp_factor.specs.Parts.{place_of}
-use Rattle.mp_factor.specs.Found.{found_in, said_found}
-use Rattle.mp_factor.specs.FoundForms.{domain_from}
-use Rattle.mp_factor.specs.Rules.Files.{define_members, domain_sections}
+use Rattle.mp_factor.proofs.Basics.{◌≡◌, refl, sym, ap, subst, ◌∙◌, codes, IfOk, node_of, nodes_in, place_of, found_in, said_found, domain_from, define_members, domain_sections}
 use Rattle.mp_factor.proofs.Steps.{two_and_others}
 use Rattle.mp_factor.proofs.ReadFiles.{by_members, too_few}
 use Rattle.mp_factor.proofs.shape.read_domain.Goals as goal

@@ -1,9 +1,4 @@
-use Rattle.std.specs.Prelude.{codes}
-use Rattle.mp_sexp.specs.Node.{node_of, nodes_in}
-use Rattle.mp_factor.specs.FoundForms.{domain_from}
-use Rattle.mp_factor.specs.Reading.{keyword}
-use Rattle.mp_factor.specs.Rules.Sections.{domain_words, problem_words, sections_rule}
-use Rattle.mp_factor.specs.Rules.Files.{domain_parts, title_rule}
+use Rattle.mp_factor.proofs.Basics.{codes, node_of, nodes_in, domain_from, keyword, domain_words, problem_words, sections_rule, domain_parts, title_rule}
 use Rattle.mp_factor.proofs.ReadFiles.{behind_two}
 use Rattle.mp_factor.proofs.shape.read_domain_members.Goals as goal
 

@@ -1,5 +1,4 @@
-use Rattle.std.proofs.Common.{refl, ◌∙◌}
-use Rattle.mp_factor.specs.Reading.{misshapen}
+use Rattle.mp_factor.proofs.Basics.{refl, ◌∙◌, misshapen}
 use Rattle.mp_factor.proofs.shape.read_objects.Goals as goal
 
 pub returns : goal.returns

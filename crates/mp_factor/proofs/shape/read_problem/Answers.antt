@@ -1,9 +1,4 @@
-use Rattle.std.proofs.Common.{◌≡◌, sym, ap, subst, ◌∙◌}
-use Rattle.std.specs.Prelude.{codes, IfOk}
-use Rattle.mp_sexp.specs.Node.{node_of, nodes_in}
-use Rattle.mp_factor.specs.Found.{found_in, said_found}
-use Rattle.mp_factor.specs.FoundForms.{problem_from}
-use Rattle.mp_factor.specs.Rules.Files.{define_members, problem_sections}
+use Rattle.mp_factor.proofs.Basics.{◌≡◌, sym, ap, subst, ◌∙◌, codes, IfOk, node_of, nodes_in, found_in, said_found, problem_from, define_members, problem_sections}
 use Rattle.mp_factor.proofs.Steps.{two_and_others}
 use Rattle.mp_factor.proofs.ReadFiles.{by_members, too_few}
 use Rattle.mp_factor.proofs.shape.read_problem.Goals as goal

@@ -1,10 +1,4 @@
-use Rattle.std.proofs.Common.{refl}
-use Rattle.std.specs.Prelude.{codes}
-use Rattle.mp_sexp.specs.Node.{node_of, nodes_in}
-use Rattle.mp_factor.specs.FoundForms.{problem_from}
-use Rattle.mp_factor.specs.Reading.{keyword}
-use Rattle.mp_factor.specs.Rules.Sections.{domain_words, problem_words, sections_rule}
-use Rattle.mp_factor.specs.Rules.Files.{problem_parts, title_rule}
+use Rattle.mp_factor.proofs.Basics.{refl, codes, node_of, nodes_in, problem_from, keyword, domain_words, problem_words, sections_rule, problem_parts, title_rule}
 use Rattle.mp_factor.proofs.ReadFiles.{behind_two, problem_read}
 use Rattle.mp_factor.proofs.shape.read_problem_members.Goals as goal
 

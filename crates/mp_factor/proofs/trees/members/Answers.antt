@@ -1,6 +1,4 @@
-use Rattle.std.proofs.Common.{sym, ap, ◌∙◌, List}
-use Rattle.mp_sexp.specs.declared.tree.Tree.{Tree}
-use Rattle.mp_sexp.specs.Node.{nodes_in}
+use Rattle.mp_factor.proofs.Basics.{sym, ap, ◌∙◌, List, Tree, nodes_in}
 use Rattle.mp_factor.proofs.TreeLemmas.{parts-list}
 use Rattle.mp_factor.proofs.trees.members.Goals as goal
 

@@ -1,4 +1,4 @@
-use Rattle.std.proofs.Common.{sym, ◌∙◌, arith}
+use Rattle.mp_factor.proofs.Basics.{sym, ◌∙◌, arith}
 use Rattle.mp_factor.proofs.TypedLemmas.{size_on, size_stops, size_ends}
 use Rattle.mp_factor.proofs.typed_values.group_len.Goals as goal
 

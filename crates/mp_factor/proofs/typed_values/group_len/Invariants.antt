@@ -1,6 +1,4 @@
-use Rattle.std.proofs.Common.{◌≡◌, ◌+◌, ◌≤◌, length, drop}
-use Rattle.mp_sexp.specs.Node.{nodes_in}
-use Rattle.mp_factor.specs.FoundForms.{group_size}
+use Rattle.mp_factor.proofs.Basics.{◌≡◌, ◌+◌, ◌≤◌, length, drop, nodes_in, group_size}
 use Rattle.mp_factor.proofs.typed_values.group_len.Given as goal
 
 abbrev pub invariant-loop-i : goal.invariant-loop-i

@@ -1,7 +1,4 @@
-use Rattle.mp_sexp.specs.Node.{node_of, nodes_in}
-use Rattle.mp_factor.specs.Reading.{each}
-use Rattle.mp_factor.specs.Found.{found_in}
-use Rattle.mp_factor.specs.Rules.Words.{name_rule}
+use Rattle.mp_factor.proofs.Basics.{node_of, nodes_in, each, found_in, name_rule}
 use Rattle.mp_factor.proofs.FoundLemmas.{lists, begins, goes_on, ends}
 use Rattle.mp_factor.proofs.typed_values.read_names.Goals as goal
 

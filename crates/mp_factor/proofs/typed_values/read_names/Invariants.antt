@@ -1,8 +1,4 @@
-use Rattle.std.proofs.Common.{◌≡◌, drop}
-use Rattle.mp_sexp.specs.Node.{nodes_in}
-use Rattle.mp_factor.specs.Reading.{each}
-use Rattle.mp_factor.specs.Found.{found_in, more_found}
-use Rattle.mp_factor.specs.Rules.Words.{name_rule}
+use Rattle.mp_factor.proofs.Basics.{◌≡◌, drop, nodes_in, each, found_in, more_found, name_rule}
 use Rattle.mp_factor.proofs.typed_values.read_names.Given as goal
 
 abbrev pub invariant-loop-tree : goal.invariant-loop-tree

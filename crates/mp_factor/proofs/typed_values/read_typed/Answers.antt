@@ -1,5 +1,4 @@
-use Rattle.mp_sexp.specs.Node.{nodes_in}
-use Rattle.std.proofs.Common.{◌∙◌}
+use Rattle.mp_factor.proofs.Basics.{nodes_in, ◌∙◌}
 use Rattle.mp_factor.proofs.TypedLemmas.{typed_begins, typed_ends, some_left, none_left}
 use Rattle.mp_factor.proofs.typed_values.read_typed.Goals as goal
 

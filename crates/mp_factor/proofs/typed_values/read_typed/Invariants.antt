@@ -1,8 +1,4 @@
-use Rattle.std.proofs.Common.{◌≡◌, false, length}
-use Rattle.mp_sexp.specs.Node.{nodes_in}
-use Rattle.mp_factor.specs.Found.{found_in, more_found}
-use Rattle.mp_factor.specs.FoundForms.{items_found}
-use Rattle.mp_factor.specs.Rules.Typed.{typed_from, typed_rule}
+use Rattle.mp_factor.proofs.Basics.{◌≡◌, false, length, nodes_in, found_in, more_found, items_found, typed_from, typed_rule}
 use Rattle.mp_factor.proofs.typed_values.read_typed.Given as goal
 
 abbrev pub invariant-loop-alloc : goal.invariant-loop-alloc

@@ -1,9 +1,4 @@
-use Rattle.std.proofs.Common.{false, ◌∷◌, drop, List, sym, ap, subst, ◌∙◌}
-use Rattle.mp_sexp.specs.Node.{Node, node_of, nodes_in}
-use Rattle.mp_factor.specs.Reading.{each}
-use Rattle.mp_factor.specs.Found.{found_in, both_found, more_found}
-use Rattle.mp_factor.specs.FoundForms.{items_found, AreBehindItems}
-use Rattle.mp_factor.specs.Rules.Typed.{typed_from}
+use Rattle.mp_factor.proofs.Basics.{false, ◌∷◌, drop, List, sym, ap, subst, ◌∙◌, Node, node_of, nodes_in, each, found_in, both_found, more_found, items_found, AreBehindItems, typed_from}
 use Rattle.mp_factor.proofs.Steps.{first_and_others, behind}
 use Rattle.mp_factor.proofs.TypedLemmas.{items_with, block_from, block_more, group_first, behind_group, group_more}
 use Rattle.mp_factor.proofs.typed_values.step.Goals as goal

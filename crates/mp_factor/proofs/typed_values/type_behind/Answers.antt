@@ -1,8 +1,4 @@
-use Rattle.std.proofs.Common.{◌≡◌, ◌&&◌, true, false, List, Ok, sym, ap, subst, ◌∙◌}
-use Rattle.mp_sexp.specs.Node.{Node, node_of, nodes_in}
-use Rattle.mp_factor.specs.Found.{found_in, both_found}
-use Rattle.mp_factor.specs.FoundForms.{AreBehindItems}
-use Rattle.mp_factor.specs.Rules.Typed.{with_type, typed_from, is_dash}
+use Rattle.mp_factor.proofs.Basics.{◌≡◌, ◌&&◌, true, false, List, Ok, sym, ap, subst, ◌∙◌, Node, node_of, nodes_in, found_in, both_found, AreBehindItems, with_type, typed_from, is_dash}
 use Rattle.mp_factor.proofs.Steps.{first_and_others, no_nodes, behind}
 use Rattle.mp_factor.proofs.TypedLemmas.{end_from, none_from, dash_from}
 use Rattle.mp_factor.proofs.typed_values.type_behind.Goals as goal

@@ -1,7 +1,4 @@
-use Rattle.std.proofs.Common.{false, List, sym, ap, ◌∙◌}
-use Rattle.mp_sexp.specs.Node.{Node, node_of, nodes_in}
-use Rattle.mp_factor.specs.Found.{found_in, both_found}
-use Rattle.mp_factor.specs.Rules.Typed.{with_type, typed_from, type_first}
+use Rattle.mp_factor.proofs.Basics.{false, List, sym, ap, ◌∙◌, Node, node_of, nodes_in, found_in, both_found, with_type, typed_from, type_first}
 use Rattle.mp_factor.proofs.Steps.{first_and_others, no_nodes, behind}
 use Rattle.mp_factor.proofs.TypedLemmas.{missing_from, type_from}
 use Rattle.mp_factor.proofs.typed_values.type_first_of.Goals as goal

@@ -1,7 +1,4 @@
-use Rattle.std.proofs.Common.{◌∷◌}
-use Rattle.mp_sexp.specs.Node.{node_of, nodes_in}
-use Rattle.mp_factor.specs.Reading.{each}
-use Rattle.mp_factor.specs.Found.{found_in}
+use Rattle.mp_factor.proofs.Basics.{◌∷◌, node_of, nodes_in, each, found_in}
 use Rattle.mp_factor.proofs.TypedLemmas.{right_group, wrong_group}
 use Rattle.mp_factor.proofs.typed_values.with_group.Goals as goal
 

@@ -1,7 +1,4 @@
-use Rattle.std.proofs.Common.{◌∷◌, ◌++◌, [], sym, ap, ◌∙◌}
-use Rattle.mp_sexp.specs.Node.{node_of, nodes_in}
-use Rattle.mp_factor.specs.Reading.{each}
-use Rattle.mp_factor.specs.Found.{found_in, both_found, more_found}
+use Rattle.mp_factor.proofs.Basics.{◌∷◌, ◌++◌, [], sym, ap, ◌∙◌, node_of, nodes_in, each, found_in, both_found, more_found}
 use Rattle.mp_factor.proofs.FoundLemmas.{lists, one_more, found_each, found_said}
 use Rattle.mp_factor.proofs.TypedLemmas.{each_typed, of_type}
 use Rattle.mp_factor.proofs.typed_values.with_group_of.Goals as goal

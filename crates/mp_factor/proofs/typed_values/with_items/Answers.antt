@@ -1,6 +1,4 @@
-use Rattle.std.proofs.Common.{sym, ◌∙◌}
-use Rattle.mp_sexp.specs.Node.{node_of}
-use Rattle.mp_factor.specs.Reading.{said}
+use Rattle.mp_factor.proofs.Basics.{sym, ◌∙◌, node_of, said}
 use Rattle.mp_factor.proofs.FoundLemmas.{lists, goes_on, ends, found_said}
 use Rattle.mp_factor.proofs.typed_values.with_items.Goals as goal
 

@@ -1,7 +1,4 @@
-use Rattle.std.proofs.Common.{◌≡◌, drop}
-use Rattle.mp_sexp.specs.Node.{nodes_in}
-use Rattle.mp_factor.specs.Reading.{said, each}
-use Rattle.mp_factor.specs.Found.{found_in, more_found}
+use Rattle.mp_factor.proofs.Basics.{◌≡◌, drop, nodes_in, said, each, found_in, more_found}
 use Rattle.mp_factor.proofs.typed_values.with_items.Given as goal
 
 abbrev pub invariant-loop-tree : goal.invariant-loop-tree

@@ -1,24 +1,9 @@
-use Rattle.std.proofs.Common.{◌≡◌, ◌≤◌, ℕ, List, length, sym, ap, ◌∙◌, subst}
-use Rattle.std.proofs.lemmas.List.{length-map}
-use Rattle.mp_factor.specs.declared.factor.Factor.{Factor}
-use Rattle.mp_lifted.specs.declared.lifted.LiftedFactor.{LiftedFactor}
-use Rattle.mp_lifted.specs.declared.view.OpenView.{OpenView}
-use Rattle.mp_lifted.specs.Factors.{lifted_factor}
+use Rattle.mp_ground.proofs.Basics.{◌≡◌, ◌≤◌, ℕ, List, length, sym, ap, ◌∙◌, subst, length-map, Factor, LiftedFactor, OpenView, lifted_factor, ActionBinding, HasSmallCosts, instances, GroundFact, facts_of, IsChecked, small_costs, IsGrounded}
+use Rattle.mp_ground.proofs.Basics.{IsRefusedBy, KeepsLimits, fact_names, ground_at, IsRefusedAt, GroundRefusal}
 use Rattle.mp_joint.specs.Fact.{is_listed}
 use Rattle.mp_joint.specs.FactorContribution.{privates_of}
-use Rattle.mp_lifted.specs.Binding.{ActionBinding}
-use Rattle.mp_instances.specs.Costs.{HasSmallCosts}
 use Rattle.mp_instances.specs.Counts.{tries}
-use Rattle.mp_instances.specs.Instances.{instances}
-use Rattle.mp_ground_facts.specs.declared.fact.GroundFact.{GroundFact}
-use Rattle.mp_ground_facts.specs.Ground.{facts_of, ground_with}
-use Rattle.mp_grounder.specs.Checked.{IsChecked}
-use Rattle.mp_grounder.proofs.SmallCosts.{small_costs}
-use Rattle.mp_ground.specs.Grounded.{IsGrounded}
-use Rattle.mp_ground.specs.Limits.{IsRefusedBy, KeepsLimits}
-use Rattle.mp_ground.specs.Numbered.{fact_names, ground_at}
-use Rattle.mp_ground.specs.Refusals.{IsRefusedAt}
-use Rattle.mp_ground.specs.declared.refusal.GroundRefusal.{GroundRefusal}
+use Rattle.mp_ground_facts.specs.Ground.{ground_with}
 use Rattle.mp_ground.proofs.Counts.{refused_by_names, within_by_names}
 use Rattle.mp_ground.proofs.Refused.{refused_on}
 use Rattle.mp_ground.proofs.Standing.{is_grounded, keeps_limits}

@@ -1,5 +1,4 @@
-use Rattle.std.proofs.Common.{◌≡◌, ◌++◌, map, take}
-use Rattle.mp_factor.specs.declared.typed_values.Typed.{Typed}
+use Rattle.mp_ground.proofs.Basics.{◌≡◌, ◌++◌, map, take, Typed}
 use Rattle.mp_ground.proofs.names.add_names.Given as goal
 
 abbrev pub invariant-loop-object : goal.invariant-loop-object

@@ -1,6 +1,4 @@
-use Rattle.std.proofs.Common.{ℕ, List, [], Option, ap, ◌∙◌}
-use Rattle.std.specs.Option.{unwrap_or}
-use Rattle.std.proofs.lemmas.Option.{unwrap_or-slice_get}
+use Rattle.mp_ground.proofs.Basics.{ℕ, List, [], Option, ap, ◌∙◌, unwrap_or, unwrap_or-slice_get}
 use Rattle.mp_ground.proofs.names.copied_name.Goals as goal
 
 pub returns-in-None : goal.returns-in-None

@@ -1,5 +1,4 @@
-use Rattle.std.proofs.Common.{◌≡◌, map, take}
-use Rattle.mp_sexp.specs.Numbers.{name_at}
+use Rattle.mp_ground.proofs.Basics.{◌≡◌, map, take, name_at}
 use Rattle.mp_ground.proofs.names.copied_names.Given as goal
 
 abbrev pub invariant-loop-number : goal.invariant-loop-number

@@ -1,6 +1,4 @@
-use Rattle.std.proofs.Common.{◌≡◌, ◌+◌, ◌∙◌, IfOk, List, ap, length, subst}
-use Rattle.mp_joint.specs.Fact.{Text}
-use Rattle.mp_factor.specs.declared.typed_values.Typed.{Typed}
+use Rattle.mp_ground.proofs.Basics.{◌≡◌, ◌+◌, ◌∙◌, IfOk, List, ap, length, subst, Text, Typed}
 use Rattle.mp_ground.proofs.Distinct.{all_named}
 use Rattle.mp_ground.proofs.names.counted_names.Goals as goal
 

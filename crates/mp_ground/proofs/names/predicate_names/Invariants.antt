@@ -1,4 +1,4 @@
-use Rattle.std.proofs.Common.{◌≡◌, map, take}
+use Rattle.mp_ground.proofs.Basics.{◌≡◌, map, take}
 use Rattle.mp_factor.specs.declared.signature_values.Signature.{Signature}
 use Rattle.mp_ground.proofs.names.predicate_names.Given as goal
 

@@ -1,5 +1,4 @@
-use Rattle.std.proofs.Common.{◌≡◌, ◌++◌, take}
-use Rattle.mp_ground.specs.Numbered.{public_numbers}
+use Rattle.mp_ground.proofs.Basics.{◌≡◌, ◌++◌, take, public_numbers}
 use Rattle.mp_ground.proofs.places.add_public.Given as goal
 
 abbrev pub invariant-loop-number : goal.invariant-loop-number

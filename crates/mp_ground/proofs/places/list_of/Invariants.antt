@@ -1,4 +1,4 @@
-use Rattle.std.proofs.Common.{◌≡◌, take}
+use Rattle.mp_ground.proofs.Basics.{◌≡◌, take}
 use Rattle.mp_ground.proofs.places.list_of.Given as goal
 
 abbrev pub invariant-loop-number : goal.invariant-loop-number

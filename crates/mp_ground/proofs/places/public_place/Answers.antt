@@ -1,7 +1,5 @@
-use Rattle.std.proofs.Common.{ap, ◌∙◌, ℕ, Option}
-use Rattle.std.specs.Option.{unwrap_or}
+use Rattle.mp_ground.proofs.Basics.{ap, ◌∙◌, ℕ, Option, unwrap_or, unwrap_or-slice_get}
 use Rattle.std.specs.List.{slice_get}
-use Rattle.std.proofs.lemmas.Option.{unwrap_or-slice_get}
 use Rattle.mp_ground.proofs.places.public_place.Goals as goal
 
 pub returns : goal.returns

@@ -1,6 +1,4 @@
-use Rattle.std.proofs.Common.{arith, ℕ, List, ap, sym, ◌∙◌}
-use Rattle.std.proofs.lemmas.List.{nil_from_length}
-use Rattle.mp_ground.specs.Numbered.{rising, public_numbers}
+use Rattle.mp_ground.proofs.Basics.{arith, ℕ, List, ap, sym, ◌∙◌, nil_from_length, rising, public_numbers}
 use Rattle.mp_ground.proofs.Rising.{none_rises}
 use Rattle.mp_ground.proofs.places.public_places.Goals as goal
 

@@ -1,7 +1,5 @@
-use Rattle.std.proofs.Common.{ℕ, List, IfOk, ◌≡◌, sym, subst, ◌∙◌}
-use Rattle.std.specs.List.Sorted.{IsStrictlyIncreasing}
+use Rattle.mp_ground.proofs.Basics.{ℕ, List, IfOk, ◌≡◌, sym, subst, ◌∙◌, IsStrictlyIncreasing, IsStrictlyIncreasing-dedup}
 use Rattle.std.proofs.lemmas.List.Filters.{dedup_is}
-use Rattle.std.proofs.lemmas.Map.Keys.{IsStrictlyIncreasing-dedup}
 use Rattle.mp_ground.proofs.Rising.{sorted_numbers}
 use Rattle.mp_ground.proofs.places.rising_list.Goals as goal
 

@@ -1,6 +1,4 @@
-use Rattle.std.proofs.Common.{ℕ, List, [], map, Option, sym, ap, ◌∙◌}
-use Rattle.std.specs.Option.{option_map, unwrap_or}
-use Rattle.std.proofs.lemmas.Option.{slice_get-map, unwrap_or-slice_get}
+use Rattle.mp_ground.proofs.Basics.{ℕ, List, [], map, Option, sym, ap, ◌∙◌, option_map, unwrap_or, slice_get-map, unwrap_or-slice_get}
 use Rattle.mp_factor.specs.declared.schema_values.Schema.{Schema}
 use Rattle.mp_ground.proofs.stepping.action_name.Goals as goal
 

@@ -1,5 +1,4 @@
-use Rattle.std.proofs.Common.{◌≡◌, ◌≤◌, take}
-use Rattle.mp_ground.specs.Numbered.{count_private}
+use Rattle.mp_ground.proofs.Basics.{◌≡◌, ◌≤◌, take, count_private}
 use Rattle.mp_ground.proofs.texts.count_private.Given as goal
 
 abbrev pub invariant-loop-fact : goal.invariant-loop-fact

@@ -1,4 +1,4 @@
-use Rattle.std.proofs.Common.{◌≡◌, take}
+use Rattle.mp_ground.proofs.Basics.{◌≡◌, take}
 use Rattle.mp_ground.proofs.texts.in_order.Given as goal
 
 abbrev pub invariant-loop-text : goal.invariant-loop-text

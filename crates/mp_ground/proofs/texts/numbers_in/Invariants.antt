@@ -1,5 +1,4 @@
-use Rattle.std.proofs.Common.{◌≡◌, map, take}
-use Rattle.mp_sexp.specs.Numbers.{number_in}
+use Rattle.mp_ground.proofs.Basics.{◌≡◌, map, take, number_in}
 use Rattle.mp_ground.proofs.texts.numbers_in.Given as goal
 
 abbrev pub invariant-loop-name : goal.invariant-loop-name

@@ -1,6 +1,4 @@
-use Rattle.std.proofs.Common.{arith, length, ap, ◌∙◌}
-use Rattle.std.proofs.lemmas.List.{length-drop, length-map}
-use Rattle.mp_ground.specs.Numbered.{text_at}
+use Rattle.mp_ground.proofs.Basics.{arith, length, ap, ◌∙◌, length-drop, length-map, text_at}
 use Rattle.mp_ground.proofs.Sorted.{count_in_order}
 use Rattle.mp_ground.proofs.texts.publics_of.Goals as goal
 

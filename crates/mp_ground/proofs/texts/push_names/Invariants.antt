@@ -1,6 +1,4 @@
-use Rattle.std.proofs.Common.{◌≡◌, ◌++◌, map, take}
-use Rattle.mp_sexp.specs.Bytes.{folded}
-use Rattle.mp_sexp.specs.Numbers.{name_at}
+use Rattle.mp_ground.proofs.Basics.{◌≡◌, ◌++◌, map, take, folded, name_at}
 use Rattle.mp_views.specs.Lines.{spaced}
 use Rattle.mp_ground.proofs.texts.push_names.Given as goal
 

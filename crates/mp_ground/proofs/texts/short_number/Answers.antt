@@ -1,4 +1,4 @@
-use Rattle.std.proofs.Common.{arith}
+use Rattle.mp_ground.proofs.Basics.{arith}
 use Rattle.mp_ground.proofs.NumberBounds.{number_within}
 use Rattle.mp_ground.proofs.texts.short_number.Goals as goal
 

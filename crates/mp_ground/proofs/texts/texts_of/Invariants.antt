@@ -1,5 +1,4 @@
-use Rattle.std.proofs.Common.{◌≡◌, map, take}
-use Rattle.mp_ground.specs.Numbered.{text_at}
+use Rattle.mp_ground.proofs.Basics.{◌≡◌, map, take, text_at}
 use Rattle.mp_ground.proofs.texts.texts_of.Given as goal
 
 abbrev pub invariant-loop-fact : goal.invariant-loop-fact

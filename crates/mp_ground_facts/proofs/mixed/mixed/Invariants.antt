@@ -1,4 +1,4 @@
-use Rattle.std.proofs.Common.{◌≡◌, drop}
+use Rattle.mp_ground_facts.proofs.Basics.{◌≡◌, drop}
 use Rattle.mp_ground_facts.specs.Mixed.{mixed, mixed_with_all}
 use Rattle.mp_ground_facts.proofs.mixed.mixed.Given as goal
 

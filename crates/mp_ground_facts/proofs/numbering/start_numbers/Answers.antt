@@ -1,8 +1,5 @@
-use Rattle.std.proofs.Common.{◌≡◌, ℕ, ◌+◌, ◌++◌, List, drop, sym, ap, ◌∙◌}
-use Rattle.mp_lifted.specs.declared.lifted.LiftedFactor.{LiftedFactor}
-use Rattle.mp_typing.specs.Places.{numbers_where}
+use Rattle.mp_ground_facts.proofs.Basics.{◌≡◌, ℕ, ◌+◌, ◌++◌, List, drop, sym, ap, ◌∙◌, LiftedFactor, numbers_where, is_initial}
 use Rattle.mp_typing.proofs.Placing.{placed, skipped, all_placed}
-use Rattle.mp_ground_facts.specs.Facts.{is_initial}
 use Rattle.mp_ground_facts.proofs.numbering.start_numbers.Goals.{then-is_initial+in_ok-push, else-is_initial}
 use Rattle.mp_ground_facts.proofs.numbering.start_numbers.Goals as goal
 

@@ -1,6 +1,4 @@
-use Rattle.std.proofs.Common.{◌≡◌, ◌++◌, drop}
-use Rattle.mp_typing.specs.Places.{numbers_where}
-use Rattle.mp_ground_facts.specs.Facts.{is_initial}
+use Rattle.mp_ground_facts.proofs.Basics.{◌≡◌, ◌++◌, drop, numbers_where, is_initial}
 use Rattle.mp_ground_facts.proofs.numbering.start_numbers.Given as goal
 
 abbrev pub invariant-loop-fact : goal.invariant-loop-fact

@@ -1,7 +1,5 @@
-use Rattle.std.proofs.Common.{All, subst}
-use Rattle.std.proofs.lemmas.List.{take_all}
+use Rattle.mp_grounder.proofs.Basics.{All, subst, take_all, IsChecked}
 use Rattle.std.proofs.lemmas.List.Elements.{All-more}
-use Rattle.mp_grounder.specs.Checked.{IsChecked}
 use Rattle.mp_grounder.proofs.laws.checked_factors_are_checked.Goals as goal
 
 pub loop-factor-preserved : goal.loop-factor-preserved

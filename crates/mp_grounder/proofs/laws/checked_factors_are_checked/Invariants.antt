@@ -1,5 +1,4 @@
-use Rattle.std.proofs.Common.{All, take}
-use Rattle.mp_grounder.specs.Checked.{IsChecked}
+use Rattle.mp_grounder.proofs.Basics.{All, take, IsChecked}
 use Rattle.mp_grounder.proofs.laws.checked_factors_are_checked.Given as goal
 
 abbrev pub invariant-loop-factor : goal.invariant-loop-factor

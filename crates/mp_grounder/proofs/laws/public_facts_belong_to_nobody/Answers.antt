@@ -1,4 +1,4 @@
-use Rattle.std.proofs.Common.{◌∙◌}
+use Rattle.mp_grounder.proofs.Basics.{◌∙◌}
 use Rattle.mp_grounder.proofs.Starts.{public_is}
 use Rattle.mp_grounder.proofs.laws.public_facts_belong_to_nobody.Goals as goal
 

@@ -1,4 +1,4 @@
-use Rattle.std.proofs.Common.{◌≡◌, Bool, true, false, not, if◌then◌else◌, ap}
+use Rattle.mp_grounder.proofs.Basics.{◌≡◌, Bool, true, false, not, if◌then◌else◌, ap}
 use Rattle.mp_grounder.proofs.Parts.{parts_of}
 use Rattle.mp_grounder.proofs.Starts.{same_start}
 use Rattle.mp_grounder.proofs.laws.start_stands_for_named_start.Goals as goal

@@ -1,7 +1,5 @@
-use Rattle.std.proofs.Common.{Contains, subst}
-use Rattle.mp_factor.specs.declared.factor.Factor.{Factor}
-use Rattle.mp_factor.specs.declared.schema_values.Schema.{Schema}
-use Rattle.mp_grounder.specs.Checked.{IsChecked}
+use Rattle.mp_grounder.proofs.Basics.{subst, Factor, Schema, IsChecked}
+use Rattle.std.proofs.Common.{Contains}
 use Rattle.mp_grounder.proofs.Needed.{needed_stand, added_stand, deleted_stand}
 use Rattle.mp_grounder.proofs.Parts.{parts_of, IsSchema}
 use Rattle.mp_grounder.proofs.laws.touched_facts_stand_for_named_facts.Goals as goal

@@ -1,6 +1,4 @@
-use Rattle.std.proofs.Common.{◌≡◌, ◌+◌, drop}
-use Rattle.std.specs.Option.{option_map}
-use Rattle.mp_instances.specs.Costs.{cost_at}
+use Rattle.mp_instances.proofs.Basics.{◌≡◌, ◌+◌, drop, option_map, cost_at}
 use Rattle.mp_instances.proofs.costs.cost_at.Given as goal
 
 abbrev pub invariant-loop-amount : goal.invariant-loop-amount

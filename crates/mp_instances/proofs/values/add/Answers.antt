@@ -1,8 +1,4 @@
-use Rattle.std.proofs.Common.{◌∙◌, ap, sym, cond, Some}
-use Rattle.std.specs.Map.{lookup}
-use Rattle.std.specs.Option.{is_some}
-use Rattle.mp_lifted.specs.Atoms.{same_atom}
-use Rattle.mp_lifted.specs.Held.{fact_of}
+use Rattle.mp_instances.proofs.Basics.{◌∙◌, ap, sym, cond, Some, lookup, is_some, same_atom, fact_of}
 use Rattle.mp_instances.proofs.ValueLemmas.{known, added}
 use Rattle.mp_instances.proofs.values.add.Goals as goal
 

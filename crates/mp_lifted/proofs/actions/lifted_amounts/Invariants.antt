@@ -1,4 +1,4 @@
-use Rattle.std.proofs.Common.{◌≡◌, map, take}
+use Rattle.mp_lifted.proofs.Basics.{◌≡◌, map, take}
 use Rattle.mp_lifted.specs.Lifting.{lifted_amount}
 use Rattle.mp_lifted.proofs.actions.lifted_amounts.Given as goal
 

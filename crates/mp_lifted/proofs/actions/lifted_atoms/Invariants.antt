@@ -1,5 +1,4 @@
-use Rattle.std.proofs.Common.{◌≡◌, map, take}
-use Rattle.mp_lifted.specs.Lifting.{lifted_atom}
+use Rattle.mp_lifted.proofs.Basics.{◌≡◌, map, take, lifted_atom}
 use Rattle.mp_lifted.proofs.actions.lifted_atoms.Given as goal
 
 abbrev pub invariant-loop-atom : goal.invariant-loop-atom

@@ -1,11 +1,5 @@
-use Rattle.std.proofs.Common.{◌≡◌, ◌<◌, ◌≤◌, ◌∙◌, ◌∷◌, [], ◌++◌, ◌&&◌, not, Bool, sym, ap, subst, length, get_or, map, take, List}
-use Rattle.std.specs.Prelude.{filter, if◌then◌else◌}
-use Rattle.std.proofs.lemmas.List.{take_all}
-use Rattle.mp_factor.specs.declared.literal.Literal.{Literal}
-use Rattle.mp_joint.specs.Fact.{Text}
+use Rattle.mp_lifted.proofs.Basics.{◌≡◌, ◌<◌, ◌≤◌, ◌∙◌, ◌∷◌, [], ◌++◌, ◌&&◌, not, sym, ap, subst, length, get_or, map, List, filter, if◌then◌else◌, take_all, Literal, Text, lifted_atom, is_of}
 use Rattle.mp_lifted.specs.declared.lifted.LiftedAtom.{LiftedAtom}
-use Rattle.mp_lifted.specs.Lifting.{lifted_atom}
-use Rattle.mp_lifted.specs.Views.{is_of}
 use Rattle.mp_lifted.proofs.Growing.{filtered_more, filtered_same}
 use Rattle.mp_lifted.proofs.Parts.{has_sign, part_is}
 use Rattle.mp_lifted.proofs.actions.parted.Goals.{then-is_in_part+in_ok-lifted_with+in_ok-push, else-is_in_part}

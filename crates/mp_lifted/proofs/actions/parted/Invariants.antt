@@ -1,8 +1,4 @@
-use Rattle.std.proofs.Common.{◌≡◌, ◌&&◌, not, map, take}
-use Rattle.std.specs.Prelude.{filter, if◌then◌else◌}
-use Rattle.mp_factor.specs.declared.literal.Literal.{Literal}
-use Rattle.mp_lifted.specs.Lifting.{lifted_atom}
-use Rattle.mp_lifted.specs.Views.{is_of}
+use Rattle.mp_lifted.proofs.Basics.{◌≡◌, ◌&&◌, not, map, take, filter, if◌then◌else◌, Literal, lifted_atom, is_of}
 use Rattle.mp_lifted.proofs.Parts.{has_sign}
 use Rattle.mp_lifted.proofs.actions.parted.Given as goal
 

@@ -1,7 +1,4 @@
-use Rattle.std.proofs.Common.{◌≡◌, ◌≤◌, ◌-◌, List, ℕ, Some, take, drop, get_or, sym, ap, ◌∙◌, subst}
-use Rattle.mp_lifted.specs.Binding.{ActionBinding}
-use Rattle.mp_lifted.specs.declared.bindings.Head.{Head}
-use Rattle.mp_lifted.specs.Flat.{start_at}
+use Rattle.mp_lifted.proofs.Basics.{◌≡◌, ◌≤◌, ◌-◌, List, ℕ, Some, take, drop, get_or, sym, ap, ◌∙◌, subst, ActionBinding, Head, start_at}
 use Rattle.mp_lifted.proofs.FlatLemmas.{found, within}
 use Rattle.mp_lifted.proofs.bindings.part.Goals as goal
 

@@ -1,5 +1,4 @@
-use Rattle.std.proofs.Common.{◌≡◌, ◌-◌, suc, sym, ap, ◌∙◌, arith}
-use Rattle.mp_lifted.specs.Flat.{start_at}
+use Rattle.mp_lifted.proofs.Basics.{◌≡◌, ◌-◌, suc, sym, ap, ◌∙◌, arith, start_at}
 use Rattle.mp_lifted.proofs.FlatLemmas.{start_behind}
 use Rattle.mp_lifted.proofs.bindings.start_of.Goals as goal
 

@@ -1,4 +1,4 @@
-use Rattle.std.proofs.Common.{◌≡◌, ◌++◌, map, take}
+use Rattle.mp_lifted.proofs.Basics.{◌≡◌, ◌++◌, map, take}
 use Rattle.mp_lifted.specs.Atoms.{object_at as object_of_term}
 use Rattle.mp_lifted.proofs.bound_atoms.add_objects.Given as goal
 

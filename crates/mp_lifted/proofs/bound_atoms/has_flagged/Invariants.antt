@@ -1,5 +1,4 @@
-use Rattle.std.proofs.Common.{◌≡◌, drop}
-use Rattle.std.specs.List.{list_any}
+use Rattle.mp_lifted.proofs.Basics.{◌≡◌, drop, list_any}
 use Rattle.mp_lifted.specs.Start.{is_so}
 use Rattle.mp_lifted.proofs.bound_atoms.has_flagged.Given as goal
 

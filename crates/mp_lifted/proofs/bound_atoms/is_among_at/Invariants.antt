@@ -1,5 +1,5 @@
-use Rattle.std.proofs.Common.{◌≡◌, drop}
-use Rattle.mp_lifted.specs.Atoms.{atom_at, atoms_at, is_among}
+use Rattle.mp_lifted.proofs.Basics.{◌≡◌, drop, is_among}
+use Rattle.mp_lifted.specs.Atoms.{atom_at, atoms_at}
 use Rattle.mp_lifted.proofs.bound_atoms.is_among_at.Given as goal
 
 abbrev pub invariant-loop-other : goal.invariant-loop-other

@@ -1,5 +1,4 @@
-use Rattle.std.proofs.Common.{Bool, Bor, List, [], ◌∷◌, ◌++◌, ap, ◌∙◌}
-use Rattle.mp_joint.specs.Fact.{Text, is_listed}
+use Rattle.mp_lifted.proofs.Basics.{Bool, Bor, [], ◌∷◌, ◌++◌, ap, ◌∙◌, Text, is_listed}
 use Rattle.mp_lifted.proofs.Growing.{mapped_more}
 use Rattle.mp_lifted.proofs.factors.flags_in.Goals as goal
 

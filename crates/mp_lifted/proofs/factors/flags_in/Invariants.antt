@@ -1,5 +1,4 @@
-use Rattle.std.proofs.Common.{◌≡◌, Bor, map, take}
-use Rattle.mp_joint.specs.Fact.{Text, is_listed}
+use Rattle.mp_lifted.proofs.Basics.{◌≡◌, Bor, map, take, Text, is_listed}
 use Rattle.mp_lifted.proofs.factors.flags_in.Given as goal
 
 abbrev pub invariant-loop-name : goal.invariant-loop-name

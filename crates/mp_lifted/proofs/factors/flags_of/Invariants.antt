@@ -1,6 +1,4 @@
-use Rattle.std.proofs.Common.{◌≡◌, map, take}
-use Rattle.mp_factor.specs.declared.signature_values.Signature.{Signature}
-use Rattle.mp_lifted.specs.Views.{is_of}
+use Rattle.mp_lifted.proofs.Basics.{◌≡◌, map, take, Signature, is_of}
 use Rattle.mp_lifted.proofs.factors.flags_of.Given as goal
 
 abbrev pub invariant-loop-signature : goal.invariant-loop-signature

@@ -1,9 +1,4 @@
-use Rattle.std.proofs.Common.{◌≡◌, ◌<◌, ◌≤◌, ◌∙◌, ◌∷◌, [], ◌++◌, sym, ap, subst, length, get_or, map, take, List}
-use Rattle.std.specs.Prelude.{filter}
-use Rattle.std.proofs.lemmas.List.{take_all}
-use Rattle.mp_factor.specs.declared.literal.Literal.{Literal}
-use Rattle.mp_lifted.specs.declared.lifted.GroundAtom.{GroundAtom}
-use Rattle.mp_lifted.specs.Factors.{ground_atom}
+use Rattle.mp_lifted.proofs.Basics.{◌≡◌, ◌<◌, ◌≤◌, ◌∙◌, ◌∷◌, [], ◌++◌, sym, ap, subst, length, get_or, map, List, filter, take_all, Literal, GroundAtom, ground_atom}
 use Rattle.mp_lifted.proofs.Growing.{filtered_more, filtered_same}
 use Rattle.mp_lifted.proofs.Parts.{has_sign, goals_are}
 use Rattle.mp_lifted.proofs.factors.goal_atoms.Goals.{then-has_sign+in_ok-ground_with+in_ok-push, else-has_sign}

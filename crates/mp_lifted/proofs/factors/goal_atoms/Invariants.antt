@@ -1,7 +1,4 @@
-use Rattle.std.proofs.Common.{◌≡◌, map, take}
-use Rattle.std.specs.Prelude.{filter}
-use Rattle.mp_factor.specs.declared.literal.Literal.{Literal}
-use Rattle.mp_lifted.specs.Factors.{ground_atom}
+use Rattle.mp_lifted.proofs.Basics.{◌≡◌, map, take, filter, Literal, ground_atom}
 use Rattle.mp_lifted.proofs.Parts.{has_sign}
 use Rattle.mp_lifted.proofs.factors.goal_atoms.Given as goal
 

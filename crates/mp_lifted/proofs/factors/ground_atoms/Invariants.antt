@@ -1,5 +1,4 @@
-use Rattle.std.proofs.Common.{◌≡◌, map, take}
-use Rattle.mp_lifted.specs.Factors.{ground_atom}
+use Rattle.mp_lifted.proofs.Basics.{◌≡◌, map, take, ground_atom}
 use Rattle.mp_lifted.proofs.factors.ground_atoms.Given as goal
 
 abbrev pub invariant-loop-atom : goal.invariant-loop-atom

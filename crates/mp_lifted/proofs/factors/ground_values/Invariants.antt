@@ -1,8 +1,6 @@
-use Rattle.std.proofs.Common.{◌≡◌, map, take}
-use Rattle.std.specs.Prelude.{not, filter}
+use Rattle.mp_lifted.proofs.Basics.{◌≡◌, map, take, filter, is_total_cost, ground_value}
+use Rattle.std.specs.Prelude.{not}
 use Rattle.mp_factor.specs.declared.init_values.Value.{Value}
-use Rattle.mp_lifted.specs.Lifting.{is_total_cost}
-use Rattle.mp_lifted.specs.Factors.{ground_value}
 use Rattle.mp_lifted.proofs.factors.ground_values.Given as goal
 
 abbrev pub invariant-loop-value : goal.invariant-loop-value

@@ -1,8 +1,5 @@
-use Rattle.std.proofs.Common.{◌≡◌, ◌<◌, ◌∙◌, ◌∷◌, [], ◌++◌, ap, subst, length, get_or, List}
-use Rattle.mp_factor.specs.declared.schema_values.Schema.{Schema}
+use Rattle.mp_lifted.proofs.Basics.{◌≡◌, ◌<◌, ◌∙◌, ◌∷◌, [], ◌++◌, ap, subst, length, get_or, List, Schema, lifted_action, is_of}
 use Rattle.mp_lifted.specs.declared.lifted.LiftedAction.{LiftedAction}
-use Rattle.mp_lifted.specs.Lifting.{lifted_action}
-use Rattle.mp_lifted.specs.Views.{is_of}
 use Rattle.mp_lifted.proofs.Growing.{mapped_more}
 use Rattle.mp_lifted.proofs.factors.lifted_actions.Goals as goal
 

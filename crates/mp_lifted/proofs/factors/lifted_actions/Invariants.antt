@@ -1,6 +1,4 @@
-use Rattle.std.proofs.Common.{◌≡◌, map, take}
-use Rattle.mp_lifted.specs.Lifting.{lifted_action}
-use Rattle.mp_lifted.specs.Views.{is_of}
+use Rattle.mp_lifted.proofs.Basics.{◌≡◌, map, take, lifted_action, is_of}
 use Rattle.mp_lifted.proofs.factors.lifted_actions.Given as goal
 
 abbrev pub invariant-loop-schema : goal.invariant-loop-schema

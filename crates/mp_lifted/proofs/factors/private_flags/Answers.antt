@@ -1,5 +1,4 @@
-use Rattle.std.proofs.Common.{◌≡◌, ◌∙◌, Bool, List, map, ap}
-use Rattle.mp_joint.specs.Fact.{Text, is_listed}
+use Rattle.mp_lifted.proofs.Basics.{◌∙◌, List, map, ap, Text, is_listed}
 use Rattle.mp_lifted.proofs.Growing.{of_borrowed}
 use Rattle.mp_lifted.proofs.factors.private_flags.Goals as goal
 

@@ -1,4 +1,4 @@
-use Rattle.std.proofs.Common.{◌≡◌, map, take}
+use Rattle.mp_lifted.proofs.Basics.{◌≡◌, map, take}
 use Rattle.mp_lifted.specs.Lifting.{lifted_term}
 use Rattle.mp_lifted.proofs.lifted_atoms.lifted_terms.Given as goal
 

@@ -1,4 +1,4 @@
-use Rattle.std.proofs.Common.{◌≡◌, map, take}
+use Rattle.mp_lifted.proofs.Basics.{◌≡◌, map, take}
 use Rattle.mp_lifted.specs.Lifting.{members_of}
 use Rattle.mp_lifted.proofs.members.all_members.Given as goal
 

@@ -1,5 +1,4 @@
-use Rattle.std.proofs.Common.{◌≡◌, ◌∙◌, List, ℕ, sym, ap, subst}
-use Rattle.mp_typing.specs.Members.{Members}
+use Rattle.mp_lifted.proofs.Basics.{◌∙◌, List, ℕ, subst, Members}
 use Rattle.mp_typing.specs.ObjectList.{object_list}
 use Rattle.mp_lifted.proofs.MemberPlaces.{members_are}
 use Rattle.mp_lifted.proofs.members.members_of.Goals as goal

@@ -1,4 +1,4 @@
-use Rattle.std.proofs.Common.{◌≡◌, map, take}
+use Rattle.mp_lifted.proofs.Basics.{◌≡◌, map, take}
 use Rattle.mp_factor.specs.declared.word.Word.{Word}
 use Rattle.mp_lifted.proofs.members.names_of.Given as goal
 

@@ -1,4 +1,4 @@
-use Rattle.std.proofs.Common.{◌≡◌, take}
+use Rattle.mp_lifted.proofs.Basics.{◌≡◌, take}
 use Rattle.mp_lifted.proofs.members.short_numbers.Given as goal
 
 abbrev pub invariant-loop-number : goal.invariant-loop-number

@@ -1,5 +1,4 @@
-use Rattle.std.proofs.Common.{◌≡◌, ◌++◌, take}
-use Rattle.mp_lifted.specs.Views.{predicates_of}
+use Rattle.mp_lifted.proofs.Basics.{◌≡◌, ◌++◌, take, predicates_of}
 use Rattle.mp_lifted.proofs.shown.add_atoms.Given as goal
 
 abbrev pub invariant-loop-atom : goal.invariant-loop-atom

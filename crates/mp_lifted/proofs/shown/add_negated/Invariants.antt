@@ -1,6 +1,4 @@
-use Rattle.std.proofs.Common.{◌≡◌, ◌++◌, take}
-use Rattle.mp_joint.specs.Grounding.{negated_atoms}
-use Rattle.mp_lifted.specs.Views.{predicates_of}
+use Rattle.mp_lifted.proofs.Basics.{◌≡◌, ◌++◌, take, negated_atoms, predicates_of}
 use Rattle.mp_lifted.proofs.shown.add_negated.Given as goal
 
 abbrev pub invariant-loop-literal : goal.invariant-loop-literal

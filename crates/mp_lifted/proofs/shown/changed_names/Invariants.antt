@@ -1,7 +1,4 @@
-use Rattle.std.proofs.Common.{◌≡◌, ◌++◌, take}
-use Rattle.std.specs.List.{flat_map}
-use Rattle.mp_factor.specs.declared.schema_values.Schema.{Schema}
-use Rattle.mp_lifted.specs.Views.{predicates_of}
+use Rattle.mp_lifted.proofs.Basics.{◌≡◌, ◌++◌, take, flat_map, Schema, predicates_of}
 use Rattle.mp_lifted.proofs.shown.changed_names.Given as goal
 
 abbrev pub invariant-loop-schema : goal.invariant-loop-schema

@@ -1,4 +1,4 @@
-use Rattle.std.proofs.Common.{◌≡◌, take}
+use Rattle.mp_lifted.proofs.Basics.{◌≡◌, take}
 use Rattle.mp_lifted.proofs.shown.table_of.Given as goal
 
 abbrev pub invariant-loop-name : goal.invariant-loop-name

@@ -1,7 +1,5 @@
-use Rattle.std.proofs.Common.{◌≡◌, ◌||◌, filter, take}
-use Rattle.mp_lifted.specs.declared.lifted.GroundAtom.{GroundAtom}
-use Rattle.mp_lifted.specs.Atoms.{is_among}
-use Rattle.mp_lifted.specs.Held.{is_held, has_kind}
+use Rattle.mp_lifted.proofs.Basics.{◌≡◌, ◌||◌, take, GroundAtom, is_among, is_held, has_kind}
+use Rattle.std.proofs.Common.{filter}
 use Rattle.mp_lifted.proofs.start.hold.Given as goal
 
 abbrev pub invariant-loop-fact : goal.invariant-loop-fact

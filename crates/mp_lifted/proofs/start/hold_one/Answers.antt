@@ -1,6 +1,4 @@
-use Rattle.std.proofs.Common.{◌∙◌, ap, ◌||◌, sym}
-use Rattle.mp_lifted.specs.Atoms.{same_atom}
-use Rattle.mp_lifted.specs.Held.{is_held}
+use Rattle.mp_lifted.proofs.Basics.{◌∙◌, ap, ◌||◌, sym, same_atom, is_held}
 use Rattle.mp_lifted.proofs.Keeping.{more_held, one_of_kind}
 use Rattle.mp_lifted.proofs.start.hold_one.Goals as goal
 

@@ -1,4 +1,4 @@
-use Rattle.std.proofs.Common.{map}
+use Rattle.mp_lifted.proofs.Basics.{map}
 use Rattle.mp_lifted.proofs.Known.{absent_atom, found_atom}
 use Rattle.mp_lifted.proofs.texts.atom_with.Goals as goal
 

@@ -1,4 +1,4 @@
-use Rattle.std.proofs.Common.{sym, ◌∙◌}
+use Rattle.mp_lifted.proofs.Basics.{sym, ◌∙◌}
 use Rattle.mp_lifted.proofs.Words.{first_cut}
 use Rattle.mp_lifted.proofs.texts.first_word.Goals as goal
 

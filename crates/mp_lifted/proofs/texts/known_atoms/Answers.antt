@@ -1,5 +1,4 @@
-use Rattle.std.proofs.Common.{◌≡◌, ◌<◌, ◌∙◌, List, ℕ, length, get_or, sym, ap, subst}
-use Rattle.mp_joint.specs.Fact.{Text}
+use Rattle.mp_lifted.proofs.Basics.{◌≡◌, ◌<◌, ◌∙◌, List, length, get_or, sym, ap, subst, Text}
 use Rattle.mp_lifted.specs.Factors.{known_atom}
 use Rattle.mp_lifted.proofs.Growing.{given_more, given_nothing}
 use Rattle.mp_lifted.proofs.texts.known_atoms.Goals.{in-Some+in_ok-push, in_default}

@@ -1,5 +1,4 @@
-use Rattle.std.proofs.Common.{◌≡◌, take}
-use Rattle.mp_lifted.specs.Factors.{known_atoms}
+use Rattle.mp_lifted.proofs.Basics.{◌≡◌, take, known_atoms}
 use Rattle.mp_lifted.proofs.texts.known_atoms.Given as goal
 
 abbrev pub invariant-loop-text : goal.invariant-loop-text

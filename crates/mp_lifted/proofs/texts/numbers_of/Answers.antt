@@ -1,4 +1,4 @@
-use Rattle.std.proofs.Common.{sym, ◌∙◌}
+use Rattle.mp_lifted.proofs.Basics.{sym, ◌∙◌}
 use Rattle.mp_lifted.proofs.Known.{numbers_absent, numbers_found}
 use Rattle.mp_lifted.proofs.texts.numbers_of.Goals as goal
 

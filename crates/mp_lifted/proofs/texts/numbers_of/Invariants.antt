@@ -1,4 +1,4 @@
-use Rattle.std.proofs.Common.{◌≡◌, [], map, drop}
+use Rattle.mp_lifted.proofs.Basics.{◌≡◌, [], map, drop}
 use Rattle.mp_lifted.proofs.Known.{numbered}
 use Rattle.mp_lifted.proofs.texts.numbers_of.Given as goal
 

@@ -1,5 +1,4 @@
-use Rattle.std.proofs.Common.{◌≡◌, ◌++◌, map, length}
-use Rattle.std.specs.List.{slice_split}
+use Rattle.mp_lifted.proofs.Basics.{◌≡◌, ◌++◌, map, length, slice_split}
 use Rattle.mp_lifted.proofs.Words.{is_space}
 use Rattle.mp_lifted.proofs.texts.words_of.Given as goal
 

@@ -1,4 +1,4 @@
-use Rattle.std.proofs.Common.{sym, ◌∙◌}
+use Rattle.mp_lifted.proofs.Basics.{sym, ◌∙◌}
 use Rattle.mp_lifted.proofs.DeclaredNames.{named_new, named_old}
 use Rattle.mp_lifted.proofs.vocabulary.add_object.Goals as goal
 

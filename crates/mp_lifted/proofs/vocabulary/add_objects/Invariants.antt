@@ -1,6 +1,4 @@
-use Rattle.std.proofs.Common.{◌≡◌, ◌++◌, List, take}
-use Rattle.mp_factor.specs.declared.typed_values.Typed.{Typed}
-use Rattle.mp_lifted.specs.Vocabulary.{declared_names}
+use Rattle.mp_lifted.proofs.Basics.{◌≡◌, ◌++◌, List, take, Typed, declared_names}
 use Rattle.mp_lifted.proofs.vocabulary.add_objects.Given as goal
 
 abbrev pub invariant-loop-object : goal.invariant-loop-object

@@ -1,5 +1,4 @@
-use Rattle.std.proofs.Common.{◌≡◌, map, take}
-use Rattle.mp_factor.specs.declared.signature_values.Signature.{Signature}
+use Rattle.mp_lifted.proofs.Basics.{◌≡◌, map, take, Signature}
 use Rattle.mp_lifted.proofs.vocabulary.names_of.Given as goal
 
 abbrev pub invariant-loop-signature : goal.invariant-loop-signature

@@ -1,4 +1,4 @@
-use Rattle.std.proofs.Common.{[], ◌∙◌}
+use Rattle.mp_lifted.proofs.Basics.{[], ◌∙◌}
 use Rattle.mp_lifted.proofs.DeclaredNames.{none_named}
 use Rattle.mp_lifted.proofs.vocabulary.object_names.Goals as goal
 

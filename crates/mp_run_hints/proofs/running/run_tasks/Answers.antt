@@ -1,4 +1,4 @@
-use Rattle.std.proofs.Common.{◌≡◌, subst}
+use Rattle.std.proofs.Common.{subst}
 use Rattle.mp_schedule.specs.TeamRun.{TeamRun}
 use Rattle.mp_solve.proofs.Begins.{may_begin}
 use Rattle.mp_run_hints.specs.Answered.{IsAnswerOf}

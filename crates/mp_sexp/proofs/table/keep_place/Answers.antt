@@ -1,4 +1,4 @@
-use Rattle.std.proofs.Common.{◌≡◌, ◌∙◌, sym, ap, cond, Some, ℕ, List, Bor}
+use Rattle.std.proofs.Common.{◌∙◌, sym, ap, cond, Some, ℕ, List, Bor}
 use Rattle.std.specs.Map.{lookup}
 use Rattle.std.specs.Option.{is_some}
 use Rattle.std.specs.Str.{bytes_eq}

@@ -1,6 +1,4 @@
-use Rattle.std.proofs.Common.{◌≡◌, not, take}
-use Rattle.std.specs.Prelude.{filter}
-use Rattle.mp_split.specs.Closed.{is_number_in, texts_at}
+use Rattle.mp_split.proofs.Basics.{◌≡◌, not, take, filter, is_number_in, texts_at}
 use Rattle.mp_split.proofs.closed.deleted.Given as goal
 
 abbrev pub invariant-loop-delete : goal.invariant-loop-delete

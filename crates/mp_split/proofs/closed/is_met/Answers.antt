@@ -1,4 +1,4 @@
-use Rattle.std.proofs.Common.{◌<◌, All, ap, subst, sym, ◌∙◌}
+use Rattle.mp_split.proofs.Basics.{◌<◌, All, ap, subst, sym, ◌∙◌}
 use Rattle.std.specs.FinSet.{contains-from_list_nat}
 use Rattle.std.specs.List.{list_all}
 use Rattle.mp_sets.specs.Numbers.{SizedSet, holds}

@@ -1,5 +1,4 @@
-use Rattle.std.proofs.Common.{◌≡◌, drop}
-use Rattle.mp_split.specs.Closed.{is_number_in}
+use Rattle.mp_split.proofs.Basics.{◌≡◌, drop, is_number_in}
 use Rattle.mp_split.proofs.closed.is_one_of.Given as goal
 
 abbrev pub invariant-loop-other : goal.invariant-loop-other

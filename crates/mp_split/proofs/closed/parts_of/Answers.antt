@@ -1,7 +1,6 @@
-use Rattle.std.proofs.Common.{arith, ◌<◌, length, take, option_copied, ap, ◌∙◌}
+use Rattle.mp_split.proofs.Basics.{arith, ◌<◌, length, take, option_copied, ap, ◌∙◌, sorted_parts}
 use Rattle.std.proofs.lemmas.List.{take_all}
 use Rattle.mp_split.proofs.Repeated.{added_at, all_shown, repeated_at, shown}
-use Rattle.mp_views.specs.Parts.{sorted_parts}
 use Rattle.mp_split.proofs.closed.parts_of.Goals as goal
 use Rattle.mp_split.proofs.closed.parts_of.Goals.{then-is_new+in_ok-part_of+in_ok-push, else-is_new}
 

@@ -1,4 +1,4 @@
-use Rattle.std.proofs.Common.{take, option_copied}
+use Rattle.mp_split.proofs.Basics.{take, option_copied}
 use Rattle.mp_split.proofs.Repeated.{AreShown}
 use Rattle.mp_split.proofs.closed.parts_of.Given as goal
 

@@ -1,5 +1,4 @@
-use Rattle.std.proofs.Common.{◌≡◌, take}
-use Rattle.mp_split.specs.Closed.{texts_at}
+use Rattle.mp_split.proofs.Basics.{◌≡◌, take, texts_at}
 use Rattle.mp_split.proofs.closed.texts_at.Given as goal
 
 abbrev pub invariant-loop-place : goal.invariant-loop-place

@@ -1,4 +1,4 @@
-use Rattle.std.proofs.Common.{◌≡◌, ◌++◌, take}
+use Rattle.mp_split.proofs.Basics.{◌≡◌, ◌++◌, take}
 use Rattle.mp_split.proofs.common.add_names.Given as goal
 
 abbrev pub invariant-loop-text : goal.invariant-loop-text

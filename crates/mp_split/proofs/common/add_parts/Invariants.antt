@@ -1,5 +1,4 @@
-use Rattle.std.proofs.Common.{◌≡◌, ◌++◌, map, take}
-use Rattle.mp_split.specs.Common.{far_in}
+use Rattle.mp_split.proofs.Basics.{◌≡◌, ◌++◌, map, take, far_in}
 use Rattle.mp_split.proofs.common.add_parts.Given as goal
 
 abbrev pub invariant-loop-part : goal.invariant-loop-part

@@ -1,5 +1,4 @@
-use Rattle.std.proofs.Common.{◌≡◌, take}
-use Rattle.std.specs.List.{flat_map}
+use Rattle.mp_split.proofs.Basics.{◌≡◌, take, flat_map}
 use Rattle.mp_split.proofs.common.all_goals.Given as goal
 
 abbrev pub invariant-loop-view : goal.invariant-loop-view

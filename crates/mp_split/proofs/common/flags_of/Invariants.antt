@@ -1,4 +1,4 @@
-use Rattle.std.proofs.Common.{◌≡◌, map, take}
+use Rattle.mp_split.proofs.Basics.{◌≡◌, map, take}
 use Rattle.mp_split.proofs.common.flags_of.Given as goal
 
 abbrev pub invariant-loop-view : goal.invariant-loop-view

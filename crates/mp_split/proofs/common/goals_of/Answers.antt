@@ -1,6 +1,4 @@
-use Rattle.std.proofs.Common.{List, ap, ◌∙◌, map}
-use Rattle.mp_joint.specs.Fact.{Text, is_listed}
-use Rattle.mp_split.specs.TaskOf.{is_goal}
+use Rattle.mp_split.proofs.Basics.{List, ap, ◌∙◌, map, Text, is_listed, is_goal}
 use Rattle.mp_split.proofs.TableNumbers.{from_marks, goal_marks}
 use Rattle.mp_split.proofs.common.goals_of.Goals as goal
 

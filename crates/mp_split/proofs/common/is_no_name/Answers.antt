@@ -1,6 +1,4 @@
-use Rattle.std.proofs.Common.{ap, not, ◌∙◌}
-use Rattle.std.specs.Option.{is_some}
-use Rattle.mp_sexp.proofs.Places.{has_place}
+use Rattle.mp_split.proofs.Basics.{ap, not, ◌∙◌, is_some, has_place}
 use Rattle.mp_split.proofs.TableNumbers.{flipped}
 use Rattle.mp_split.proofs.common.is_no_name.Goals as goal
 

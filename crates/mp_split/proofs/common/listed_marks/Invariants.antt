@@ -1,5 +1,4 @@
-use Rattle.std.proofs.Common.{◌≡◌, map, take}
-use Rattle.mp_joint.specs.Fact.{is_listed}
+use Rattle.mp_split.proofs.Basics.{◌≡◌, map, take, is_listed}
 use Rattle.mp_split.proofs.common.listed_marks.Given as goal
 
 abbrev pub invariant-loop-text : goal.invariant-loop-text

@@ -1,6 +1,4 @@
-use Rattle.std.proofs.Common.{List, ap, ◌∙◌, map}
-use Rattle.mp_joint.specs.Fact.{Text}
-use Rattle.mp_split.specs.TaskOf.{is_true}
+use Rattle.mp_split.proofs.Basics.{List, ap, ◌∙◌, map, Text, is_true}
 use Rattle.mp_split.proofs.TableNumbers.{from_marks}
 use Rattle.mp_split.proofs.common.start_of.Goals as goal
 

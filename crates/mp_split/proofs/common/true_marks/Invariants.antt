@@ -1,5 +1,4 @@
-use Rattle.std.proofs.Common.{◌≡◌, map, take}
-use Rattle.mp_split.specs.TaskOf.{is_true}
+use Rattle.mp_split.proofs.Basics.{◌≡◌, map, take, is_true}
 use Rattle.mp_split.proofs.common.true_marks.Given as goal
 
 abbrev pub invariant-loop-text : goal.invariant-loop-text

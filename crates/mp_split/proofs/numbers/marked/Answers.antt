@@ -1,4 +1,4 @@
-use Rattle.std.proofs.Common.{◌∙◌}
+use Rattle.mp_split.proofs.Basics.{◌∙◌}
 use Rattle.mp_split.proofs.TableNumbers.{marks_rise}
 use Rattle.mp_split.proofs.numbers.marked.Goals as goal
 

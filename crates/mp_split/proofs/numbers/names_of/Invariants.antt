@@ -1,4 +1,4 @@
-use Rattle.std.proofs.Common.{◌≡◌, take}
+use Rattle.mp_split.proofs.Basics.{◌≡◌, take}
 use Rattle.mp_split.proofs.numbers.names_of.Given as goal
 
 abbrev pub invariant-loop-name : goal.invariant-loop-name

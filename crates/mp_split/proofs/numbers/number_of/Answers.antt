@@ -1,4 +1,4 @@
-use Rattle.std.proofs.Common.{arith}
+use Rattle.mp_split.proofs.Basics.{arith}
 use Rattle.mp_split.proofs.TableNumbers.{number_most}
 use Rattle.mp_split.proofs.numbers.number_of.Goals as goal
 

@@ -1,5 +1,4 @@
-use Rattle.std.proofs.Common.{◌∙◌, map}
-use Rattle.std.specs.Prelude.{slice_index_or}
+use Rattle.mp_split.proofs.Basics.{◌∙◌, map, slice_index_or}
 use Rattle.mp_split.proofs.TableNumbers.{at_places_rise}
 use Rattle.mp_split.proofs.numbers.numbers_at.Goals as goal
 

@@ -1,4 +1,4 @@
-use Rattle.std.proofs.Common.{◌∙◌}
+use Rattle.mp_split.proofs.Basics.{◌∙◌}
 use Rattle.mp_split.proofs.TableNumbers.{are_places, if_same, numbers_rise}
 use Rattle.mp_split.proofs.numbers.numbers_of.Goals as goal
 

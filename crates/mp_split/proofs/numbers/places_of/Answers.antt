@@ -1,5 +1,4 @@
-use Rattle.std.proofs.Common.{◌≡◌, ◌+◌, ◌++◌, ◌∙◌, ℕ, List, Bool, true, false, get_or, drop, ap}
-use Rattle.mp_typing.specs.Places.{numbers_where}
+use Rattle.mp_split.proofs.Basics.{◌≡◌, ◌+◌, ◌++◌, ◌∙◌, ℕ, List, Bool, true, false, get_or, drop, ap, numbers_where}
 use Rattle.mp_typing.proofs.Placing.{placed, skipped, all_placed}
 use Rattle.std.proofs.lemmas.List.{get_or_default}
 use Rattle.mp_split.proofs.numbers.places_of.Goals.{then-mark+in_ok-push, else-mark}

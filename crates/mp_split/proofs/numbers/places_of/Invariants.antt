@@ -1,5 +1,4 @@
-use Rattle.std.proofs.Common.{◌≡◌, ◌++◌, drop}
-use Rattle.mp_typing.specs.Places.{numbers_where}
+use Rattle.mp_split.proofs.Basics.{◌≡◌, ◌++◌, drop, numbers_where}
 use Rattle.mp_split.proofs.numbers.places_of.Given as goal
 
 abbrev pub invariant-loop-mark : goal.invariant-loop-mark

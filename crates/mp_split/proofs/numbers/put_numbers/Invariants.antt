@@ -1,5 +1,4 @@
-use Rattle.std.proofs.Common.{◌≡◌, map, take}
-use Rattle.mp_sexp.specs.Numbers.{number_in}
+use Rattle.mp_split.proofs.Basics.{◌≡◌, map, take, number_in}
 use Rattle.mp_split.proofs.numbers.put_numbers.Given as goal
 
 abbrev pub invariant-loop-text : goal.invariant-loop-text

@@ -1,5 +1,4 @@
-use Rattle.std.proofs.Common.{◌≡◌, map, take}
-use Rattle.std.specs.Prelude.{slice_index_or}
+use Rattle.mp_split.proofs.Basics.{◌≡◌, map, take, slice_index_or}
 use Rattle.mp_split.proofs.numbers.put_numbers_at.Given as goal
 
 abbrev pub invariant-loop-place : goal.invariant-loop-place

@@ -1,5 +1,4 @@
-use Rattle.std.proofs.Common.{subst}
-use Rattle.mp_split.specs.Common.{ArePlaces}
+use Rattle.mp_split.proofs.Basics.{subst, ArePlaces}
 use Rattle.mp_split.proofs.InPlace.{acts_stay}
 use Rattle.mp_split.proofs.task.acts_of.Goals as goal
 

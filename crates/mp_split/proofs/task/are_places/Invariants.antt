@@ -1,5 +1,4 @@
-use Rattle.std.proofs.Common.{◌≡◌, ℕ, ◌<◌}
-use Rattle.std.specs.Prelude.{slice_index_or}
+use Rattle.mp_split.proofs.Basics.{◌≡◌, ℕ, ◌<◌, slice_index_or}
 use Rattle.mp_split.proofs.task.are_places.Given as goal
 
 abbrev pub invariant-loop-number : goal.invariant-loop-number

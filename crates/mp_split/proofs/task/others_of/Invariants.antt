@@ -1,5 +1,4 @@
-use Rattle.std.proofs.Common.{◌≡◌, take}
-use Rattle.mp_split.specs.Common.{of_others}
+use Rattle.mp_split.proofs.Basics.{◌≡◌, take, of_others}
 use Rattle.mp_split.proofs.task.others_of.Given as goal
 
 abbrev pub invariant-loop-part : goal.invariant-loop-part

@@ -1,8 +1,4 @@
-use Rattle.std.proofs.Common.{arith, [], ◌∷◌, ◌++◌, length, map, ap, ◌∙◌}
-use Rattle.std.specs.Vec.Iter.{into_iter_items}
-use Rattle.mp_task.specs.declared.act.Act.{Act}
-use Rattle.mp_task.specs.Limits.{ActFits}
-use Rattle.mp_split.specs.Common.{act_at}
+use Rattle.mp_split.proofs.Basics.{arith, [], ◌∷◌, ◌++◌, length, ap, ◌∙◌, into_iter_items, Act, ActFits, act_at}
 use Rattle.mp_split.proofs.Taking.{one_taken, taken_tail}
 use Rattle.mp_split.proofs.task.renumbered.Goals as goal
 

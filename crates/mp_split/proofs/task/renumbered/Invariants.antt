@@ -1,7 +1,4 @@
-use Rattle.std.proofs.Common.{◌≡◌, ◌++◌, length, map, All}
-use Rattle.std.specs.Vec.Iter.{into_iter_items, into_iter_len}
-use Rattle.mp_task.specs.Limits.{ActFits}
-use Rattle.mp_split.specs.Common.{act_at}
+use Rattle.mp_split.proofs.Basics.{◌≡◌, ◌++◌, length, map, All, into_iter_items, into_iter_len, ActFits, act_at}
 use Rattle.mp_split.proofs.task.renumbered.Given as goal
 
 abbrev pub invariant-loop-act : goal.invariant-loop-act

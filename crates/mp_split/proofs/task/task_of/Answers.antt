@@ -1,8 +1,5 @@
-use Rattle.std.proofs.Common.{◌≡◌, ap, ◌∙◌, length, map}
-use Rattle.std.proofs.lemmas.Result.{IfOk-weaker}
+use Rattle.mp_split.proofs.Basics.{◌≡◌, ap, ◌∙◌, IfOk-weaker, text_places_in, of_others, task_from, task_with}
 use Rattle.mp_task.specs.AgentTask.{AgentTask}
-use Rattle.mp_ground.specs.Places.{text_places_in}
-use Rattle.mp_split.specs.Common.{act_at, of_others, task_from, task_with}
 use Rattle.mp_split.proofs.OneTask.{fits_numbers, put_together, put_within}
 use Rattle.mp_split.proofs.task.task_of.Goals as goal
 

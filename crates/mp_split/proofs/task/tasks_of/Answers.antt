@@ -1,7 +1,4 @@
-use Rattle.std.proofs.Common.{arith, All, length, map, subst, sym, ap}
-use Rattle.std.specs.Vec.Iter.{into_iter_items}
-use Rattle.mp_ground.specs.declared.grounded.Ground.{Ground}
-use Rattle.mp_split.specs.Common.{IsOfTeam, task_with}
+use Rattle.mp_split.proofs.Basics.{arith, All, length, map, subst, sym, ap, into_iter_items, Ground, IsOfTeam, task_with}
 use Rattle.mp_split.proofs.Taking.{begun, one_taken, all_taken, taken_head, taken_tail}
 use Rattle.mp_split.proofs.task.tasks_of.Goals as goal
 

@@ -1,6 +1,4 @@
-use Rattle.std.proofs.Common.{◌≡◌, ◌++◌, length, map, All}
-use Rattle.std.specs.Vec.Iter.{into_iter_items, into_iter_len}
-use Rattle.mp_split.specs.Common.{IsOfTeam, task_with}
+use Rattle.mp_split.proofs.Basics.{◌≡◌, ◌++◌, length, map, All, into_iter_items, into_iter_len, IsOfTeam, task_with}
 use Rattle.mp_split.proofs.task.tasks_of.Given as goal
 
 abbrev pub invariant-loop-ground : goal.invariant-loop-ground

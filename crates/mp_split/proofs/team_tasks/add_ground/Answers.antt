@@ -1,9 +1,5 @@
-use Rattle.std.proofs.Common.{arith, ◌≡◌, ◌+◌, length, subst, sym}
-use Rattle.mp_ground.specs.Grounded.{IsGrounded, Known}
-use Rattle.mp_ground.specs.Limits.{IsRefusedBy, IsWithin}
+use Rattle.mp_split.proofs.Basics.{arith, ◌≡◌, ◌+◌, length, subst, sym, IsGrounded, Known, IsRefusedBy, IsWithin, AreBegun, IsFirstRefusal}
 use Rattle.mp_ground.proofs.Refused.{refused_on}
-use Rattle.mp_split.specs.Begun.{AreBegun}
-use Rattle.mp_split.specs.Team.{IsFirstRefusal}
 use Rattle.mp_split.proofs.FirstAgents.{one_more, refused_next, same_known}
 use Rattle.mp_split.proofs.team_tasks.add_ground.Goals as goal
 

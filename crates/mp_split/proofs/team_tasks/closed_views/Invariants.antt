@@ -1,5 +1,4 @@
-use Rattle.std.proofs.Common.{◌≡◌, map, take}
-use Rattle.mp_split.specs.Closed.{closed_view}
+use Rattle.mp_split.proofs.Basics.{◌≡◌, map, take, closed_view}
 use Rattle.mp_split.proofs.team_tasks.closed_views.Given as goal
 
 abbrev pub invariant-loop-ground : goal.invariant-loop-ground

@@ -1,5 +1,4 @@
-use Rattle.std.proofs.Common.{◌≡◌, length}
-use Rattle.mp_split.specs.Begun.{AreBegun}
+use Rattle.mp_split.proofs.Basics.{◌≡◌, length, AreBegun}
 use Rattle.mp_split.proofs.team_tasks.ground_all.Given as goal
 
 abbrev pub invariant-loop-factor : goal.invariant-loop-factor

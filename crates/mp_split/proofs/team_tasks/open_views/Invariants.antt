@@ -1,5 +1,4 @@
-use Rattle.std.proofs.Common.{◌≡◌, map, take}
-use Rattle.mp_views.specs.Opened.{open_view}
+use Rattle.mp_split.proofs.Basics.{◌≡◌, map, take, open_view}
 use Rattle.mp_split.proofs.team_tasks.open_views.Given as goal
 
 abbrev pub invariant-loop-factor : goal.invariant-loop-factor

@@ -1,7 +1,4 @@
-use Rattle.std.proofs.Common.{List, All, ap, map, subst, sym, ◌∙◌}
-use Rattle.mp_ground.specs.declared.grounded.Ground.{Ground}
-use Rattle.mp_ground.specs.Limits.{KeepsLimits}
-use Rattle.mp_split.specs.Closed.{closed_view}
+use Rattle.mp_split.proofs.Basics.{List, All, ap, map, subst, sym, ◌∙◌, Ground, KeepsLimits, closed_view}
 use Rattle.mp_split.proofs.Whole.{all_keep_limits}
 use Rattle.mp_split.proofs.team_tasks.split.Goals as goal
 

@@ -1,5 +1,4 @@
-use Rattle.std.proofs.Common.{ap, ◌∙◌}
-use Rattle.mp_lifted.specs.declared.view.OpenView.{OpenView}
+use Rattle.mp_split.proofs.Basics.{ap, ◌∙◌, OpenView}
 use Rattle.mp_views.specs.Opened.{joined}
 use Rattle.mp_split.proofs.AllTasks.{of_the_team}
 use Rattle.mp_split.proofs.FirstAgents.{all_ready, all_within}

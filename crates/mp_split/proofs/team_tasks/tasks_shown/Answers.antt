@@ -1,12 +1,4 @@
-use Rattle.std.proofs.Common.{◌≡◌, List, ap, map, sym, ◌∙◌}
-use Rattle.std.specs.List.{flat_map}
-use Rattle.std.proofs.lemmas.Result.{IfOk-weaker}
-use Rattle.mp_joint.specs.Fact.{Text}
-use Rattle.mp_views.specs.declared.view.View.{View}
-use Rattle.mp_views.specs.Sorted.{sorted_once}
-use Rattle.mp_split.specs.declared.team.Tasks.{Tasks}
-use Rattle.mp_split.specs.Common.{common_of, task_with}
-use Rattle.mp_split.specs.TaskOf.{task_of}
+use Rattle.mp_split.proofs.Basics.{◌≡◌, List, ap, map, sym, ◌∙◌, flat_map, IfOk-weaker, Text, View, sorted_once, Tasks, common_of, task_with, task_of}
 use Rattle.mp_split.proofs.Whole.{all_parts_fit, few_agents, few_texts, shown_of, tasks_are, team_is_one, texts_in_order}
 use Rattle.mp_split.proofs.team_tasks.tasks_shown.Goals as goal
 

@@ -1,4 +1,4 @@
-use Rattle.std.proofs.Common.{◌≡◌, subst, sym}
+use Rattle.std.proofs.Common.{subst, sym}
 use Rattle.mp_stamps.specs.Lists.{Matched}
 use Rattle.mp_stamps.proofs.Examples.{neither_matches}
 use Rattle.mp_stamps.proofs.tests.log_of_neither.Goals as goal

@@ -1,4 +1,3 @@
-use Rattle.std.proofs.Common.{ℕ, length}
 use Rattle.mp_steps.proofs.packed.packing_of.Goals as goal
 
 pub returns-clause-chain : goal.returns-clause-chain

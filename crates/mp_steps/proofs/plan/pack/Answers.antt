@@ -1,4 +1,4 @@
-use Rattle.std.proofs.Common.{◌≡◌, length, subst, sym, ap, ◌∙◌}
+use Rattle.std.proofs.Common.{length, subst, sym, ap, ◌∙◌}
 use Rattle.mp_joint.specs.FactorContribution.{team_of}
 use Rattle.mp_checker.specs.Sink.{HasPlanCome}
 use Rattle.mp_checker.proofs.VerdictLemmas.{if_valid}

@@ -1,6 +1,4 @@
-use Rattle.mp_typing.specs.CheckFaults.{schema_faults}
-use Rattle.mp_list.proofs.Steps.{goes_on}
-use Rattle.mp_typing.specs.Faults.{is_earlier}
+use Rattle.mp_typing.proofs.Basics.{schema_faults, goes_on, is_earlier}
 use Rattle.mp_typing.proofs.checks.schemas_fault.Goals as goal
 
 pub loop-schema-preserved : goal.loop-schema-preserved

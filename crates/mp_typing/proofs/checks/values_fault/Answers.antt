@@ -1,6 +1,4 @@
-use Rattle.mp_typing.specs.CheckFaults.{value_faults}
-use Rattle.mp_list.proofs.Steps.{goes_on}
-use Rattle.mp_typing.specs.Faults.{is_earlier}
+use Rattle.mp_typing.proofs.Basics.{value_faults, goes_on, is_earlier}
 use Rattle.mp_typing.proofs.checks.values_fault.Goals as goal
 
 pub loop-value-preserved : goal.loop-value-preserved

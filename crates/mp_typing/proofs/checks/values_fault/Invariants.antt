@@ -1,7 +1,4 @@
-use Rattle.std.proofs.Common.{◌≡◌, drop}
-use Rattle.std.specs.List.{flat_map}
-use Rattle.mp_typing.specs.Faults.{leftmost}
-use Rattle.mp_typing.specs.CheckFaults.{value_faults}
+use Rattle.mp_typing.proofs.Basics.{◌≡◌, drop, flat_map, leftmost, value_faults}
 use Rattle.mp_typing.proofs.checks.values_fault.Given as goal
 
 abbrev pub invariant-loop-value : goal.invariant-loop-value

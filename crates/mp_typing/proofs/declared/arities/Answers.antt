@@ -1,8 +1,5 @@
-use Rattle.std.proofs.Common.{◌++◌, ◌∷◌, ◌∙◌, [], ℕ, List, ap, subst, arith}
+use Rattle.mp_typing.proofs.Basics.{◌++◌, ◌∷◌, ◌∙◌, [], ℕ, List, ap, subst, arith, Signature, SameNumbers, arity_of}
 use Rattle.std.proofs.lemmas.List.{take_all}
-use Rattle.mp_factor.specs.declared.signature_values.Signature.{Signature}
-use Rattle.mp_typing.specs.Indexed.{SameNumbers}
-use Rattle.mp_typing.specs.Lookups.{arity_of}
 use Rattle.mp_typing.proofs.LookupLemmas.{arities_none, arities_on}
 use Rattle.mp_typing.proofs.declared.arities.Goals as goal
 

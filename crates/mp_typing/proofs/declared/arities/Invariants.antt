@@ -1,5 +1,4 @@
-use Rattle.std.proofs.Common.{take}
-use Rattle.mp_typing.specs.Indexed.{HasArities}
+use Rattle.mp_typing.proofs.Basics.{take, HasArities}
 use Rattle.mp_typing.proofs.declared.arities.Given as goal
 
 abbrev pub invariant-loop-signature : goal.invariant-loop-signature

@@ -1,5 +1,4 @@
-use Rattle.std.proofs.Common.{ap, refl, [], List, Bor, map}
-use Rattle.mp_factor.specs.declared.typed_values.Typed.{Typed}
+use Rattle.mp_typing.proofs.Basics.{ap, refl, [], List, Bor, map, Typed}
 use Rattle.mp_typing.proofs.Listing.{found_none}
 use Rattle.mp_typing.proofs.declared.found.Goals as goal
 

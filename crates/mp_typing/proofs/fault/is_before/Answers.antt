@@ -1,7 +1,4 @@
-use Rattle.std.proofs.Common.{ℕ, List, Ordering, sym, ap, ◌∙◌}
-use Rattle.std.specs.Ordering.{is_lt, nat_cmp, ordering_then}
-use Rattle.std.specs.Cmp.Lexicographic.{slice_cmp}
-use Rattle.mp_typing.specs.Faults.{fault_at, order_by}
+use Rattle.mp_typing.proofs.Basics.{ℕ, List, Ordering, sym, ap, ◌∙◌, is_lt, nat_cmp, ordering_then, slice_cmp, fault_at, order_by}
 use Rattle.mp_typing.proofs.FirstLemmas.{earlier_by}
 use Rattle.mp_typing.proofs.fault.is_before.Goals as goal
 

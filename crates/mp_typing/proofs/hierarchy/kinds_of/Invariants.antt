@@ -1,6 +1,4 @@
-use Rattle.std.proofs.Common.{◌≡◌, ℕ, List, Some, map, take}
-use Rattle.mp_typing.specs.Numbering.{KeepsNumbers}
-use Rattle.mp_typing.specs.Graph.{IsGraph}
+use Rattle.mp_typing.proofs.Basics.{◌≡◌, ℕ, List, Some, map, take, KeepsNumbers, IsGraph}
 use Rattle.mp_typing.proofs.GraphLemmas.{kind_by}
 use Rattle.mp_typing.proofs.hierarchy.kinds_of.Given as goal
 

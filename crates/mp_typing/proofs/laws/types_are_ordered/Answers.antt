@@ -1,4 +1,4 @@
-use Rattle.mp_typing.specs.IsA.{same, step, through_object}
+use Rattle.mp_typing.proofs.Basics.{same, step, through_object}
 use Rattle.mp_typing.proofs.Ordering.{transitive}
 use Rattle.mp_typing.proofs.laws.types_are_ordered.Goals as goal
 

@@ -1,5 +1,4 @@
-use Rattle.std.proofs.Common.{◌≡◌, ◌∷◌, ◌++◌, ◌∙◌, [], List, ℕ, ap, set}
-use Rattle.mp_typing.specs.Graph.{under}
+use Rattle.mp_typing.proofs.Basics.{◌≡◌, ◌∷◌, ◌++◌, ◌∙◌, [], List, ℕ, ap, set, under}
 use Rattle.mp_typing.proofs.GraphLemmas.{row_is}
 use Rattle.mp_typing.proofs.ListedLemmas.{one_more}
 use Rattle.mp_typing.proofs.listed.add_place.Goals as goal

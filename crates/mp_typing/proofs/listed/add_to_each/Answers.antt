@@ -1,5 +1,4 @@
-use Rattle.std.proofs.Common.{ℕ, List, get_or, sym, subst, arith}
-use Rattle.mp_typing.specs.Listed.{HasMore}
+use Rattle.mp_typing.proofs.Basics.{ℕ, List, get_or, sym, subst, arith, HasMore}
 use Rattle.mp_typing.proofs.GraphLemmas.{all_taken}
 use Rattle.mp_typing.proofs.ListedLemmas.{take_none, none_more, each_more, item_stands}
 use Rattle.mp_typing.proofs.listed.add_to_each.Goals as goal

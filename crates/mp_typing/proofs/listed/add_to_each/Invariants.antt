@@ -1,5 +1,4 @@
-use Rattle.std.proofs.Common.{take}
-use Rattle.mp_typing.specs.Listed.{HasMore}
+use Rattle.mp_typing.proofs.Basics.{take, HasMore}
 use Rattle.mp_typing.proofs.listed.add_to_each.Given as goal
 
 abbrev pub invariant-loop-number : goal.invariant-loop-number

@@ -1,5 +1,4 @@
-use Rattle.std.proofs.Common.{◌≡◌}
-use Rattle.std.specs.List.{range_with_len}
+use Rattle.mp_typing.proofs.Basics.{◌≡◌, range_with_len}
 use Rattle.mp_typing.proofs.listed.all_below.Given as goal
 
 abbrev pub invariant-loop-number : goal.invariant-loop-number

@@ -1,5 +1,4 @@
-use Rattle.std.proofs.Common.{◌≡◌, [], ℕ, length}
-use Rattle.mp_typing.specs.Graph.{under}
+use Rattle.mp_typing.proofs.Basics.{◌≡◌, [], ℕ, length, under}
 use Rattle.mp_typing.proofs.listed.empty_lists.Given as goal
 
 abbrev pub invariant-loop : goal.invariant-loop

@@ -1,7 +1,5 @@
-use Rattle.std.proofs.Common.{◌≡◌, ◌∙◌, ℕ, List, eqb, sym, subst}
-use Rattle.std.specs.Prelude.{◌↔◌, Contains}
+use Rattle.mp_typing.proofs.Basics.{◌≡◌, ◌∙◌, ℕ, List, eqb, sym, subst, ◌↔◌, Contains, IsStrictlyIncreasing}
 use Rattle.std.specs.List.{dedup}
-use Rattle.std.specs.List.Sorted.{IsStrictlyIncreasing}
 use Rattle.std.proofs.lemmas.List.Filters.{dedup_is}
 use Rattle.std.proofs.lemmas.List.Kept.{Contains-dedup_nat, Contains-from_dedup}
 use Rattle.std.proofs.lemmas.List.Sorted.{Contains-permutation, IsPermutation-sym}

@@ -1,4 +1,4 @@
-use Rattle.std.proofs.Common.{◌≡◌, take}
+use Rattle.mp_typing.proofs.Basics.{◌≡◌, take}
 use Rattle.mp_typing.proofs.listed.list_of.Given as goal
 
 abbrev pub invariant-loop-number : goal.invariant-loop-number

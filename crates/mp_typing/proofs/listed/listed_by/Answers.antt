@@ -1,6 +1,4 @@
-use Rattle.std.proofs.Common.{◌+◌, ◌∙◌, ℕ, List, refl, ap, subst, arith}
-use Rattle.std.specs.Prelude.{Contains}
-use Rattle.mp_typing.specs.Listed.{AreListed, HasMore}
+use Rattle.mp_typing.proofs.Basics.{◌+◌, ◌∙◌, ℕ, List, refl, ap, subst, arith, Contains, AreListed, HasMore}
 use Rattle.mp_typing.proofs.GraphLemmas.{all_taken}
 use Rattle.mp_typing.proofs.ListedLemmas.{none_listed, rows_more, in_row}
 use Rattle.mp_typing.proofs.listed.listed_by.Goals as goal

@@ -1,5 +1,4 @@
-use Rattle.std.proofs.Common.{◌≡◌, length, take}
-use Rattle.mp_typing.specs.Listed.{AreListed}
+use Rattle.mp_typing.proofs.Basics.{◌≡◌, length, take, AreListed}
 use Rattle.mp_typing.proofs.listed.listed_by.Given as goal
 
 abbrev pub invariant-loop-kind : goal.invariant-loop-kind

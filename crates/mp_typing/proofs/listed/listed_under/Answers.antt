@@ -1,7 +1,4 @@
-use Rattle.std.proofs.Common.{ℕ, List, length}
-use Rattle.std.specs.Prelude.{◌↔◌, Contains}
-use Rattle.std.specs.List.Sorted.{IsStrictlyIncreasing}
-use Rattle.mp_typing.specs.Listed.{IsListed}
+use Rattle.mp_typing.proofs.Basics.{ℕ, List, length, ◌↔◌, Contains, IsStrictlyIncreasing, IsListed}
 use Rattle.mp_typing.proofs.Typing.{where_ok}
 use Rattle.mp_typing.proofs.listed.listed_under.Goals as goal
 

@@ -1,4 +1,4 @@
-use Rattle.std.proofs.Common.{◌+◌, ℕ, ap}
+use Rattle.mp_typing.proofs.Basics.{◌+◌, ℕ, ap}
 use Rattle.mp_typing.proofs.ListedLemmas.{marked_more, all_marked}
 use Rattle.mp_typing.proofs.listed.marked_places.Goals as goal
 

@@ -1,6 +1,4 @@
-use Rattle.std.proofs.Common.{◌≡◌, ℕ}
-use Rattle.std.specs.Prelude.{◌↔◌, Contains}
-use Rattle.mp_typing.specs.Listed.{IsListed}
+use Rattle.mp_typing.proofs.Basics.{◌≡◌, ℕ, ◌↔◌, Contains, IsListed}
 use Rattle.mp_typing.proofs.listed.marked_places.Given as goal
 
 abbrev pub invariant-loop-one : goal.invariant-loop-one

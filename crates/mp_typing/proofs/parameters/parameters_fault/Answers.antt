@@ -1,4 +1,4 @@
-use Rattle.std.proofs.Common.{◌+◌}
+use Rattle.mp_typing.proofs.Basics.{◌+◌}
 use Rattle.std.proofs.lemmas.List.{take_rest}
 use Rattle.mp_typing.proofs.ParameterLemmas.{goes_on, ends}
 use Rattle.mp_typing.proofs.parameters.parameters_fault.Goals as goal

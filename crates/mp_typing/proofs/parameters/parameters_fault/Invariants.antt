@@ -1,6 +1,4 @@
-use Rattle.std.proofs.Common.{◌≡◌, [], take, drop}
-use Rattle.mp_typing.specs.Faults.{leftmost}
-use Rattle.mp_typing.specs.Repeats.{parameter_faults}
+use Rattle.mp_typing.proofs.Basics.{◌≡◌, [], take, drop, leftmost, parameter_faults}
 use Rattle.mp_typing.proofs.parameters.parameters_fault.Given as goal
 
 abbrev pub invariant-loop-i : goal.invariant-loop-i

@@ -1,6 +1,4 @@
-use Rattle.std.proofs.Common.{◌≡◌, drop}
-use Rattle.std.specs.Cmp.Lexicographic.{pointwise}
-use Rattle.mp_typing.specs.Repeats.{is_same}
+use Rattle.mp_typing.proofs.Basics.{◌≡◌, drop, pointwise, is_same}
 use Rattle.mp_typing.proofs.repeats.is_same_list.Given as goal
 
 abbrev pub invariant-loop-i : goal.invariant-loop-i

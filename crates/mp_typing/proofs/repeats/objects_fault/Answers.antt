@@ -1,7 +1,4 @@
-use Rattle.mp_typing.specs.Lookups.{objects_of}
-use Rattle.mp_typing.specs.Repeats.{object_faults}
-use Rattle.mp_list.proofs.Steps.{goes_on}
-use Rattle.mp_typing.specs.Faults.{is_earlier}
+use Rattle.mp_typing.proofs.Basics.{objects_of, object_faults, goes_on, is_earlier}
 use Rattle.mp_typing.proofs.repeats.objects_fault.Goals as goal
 
 pub loop-object-preserved : goal.loop-object-preserved

@@ -1,8 +1,4 @@
-use Rattle.std.proofs.Common.{◌≡◌, drop}
-use Rattle.std.specs.List.{flat_map}
-use Rattle.mp_typing.specs.Faults.{leftmost}
-use Rattle.mp_typing.specs.Lookups.{objects_of}
-use Rattle.mp_typing.specs.Repeats.{object_faults}
+use Rattle.mp_typing.proofs.Basics.{◌≡◌, drop, flat_map, leftmost, objects_of, object_faults}
 use Rattle.mp_typing.proofs.repeats.objects_fault.Given as goal
 
 abbrev pub invariant-loop-object : goal.invariant-loop-object

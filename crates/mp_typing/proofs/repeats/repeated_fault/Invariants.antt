@@ -1,6 +1,4 @@
-use Rattle.std.proofs.Common.{◌≡◌, take}
-use Rattle.mp_typing.specs.Faults.{leftmost}
-use Rattle.mp_typing.specs.Repeats.{repeated_faults}
+use Rattle.mp_typing.proofs.Basics.{◌≡◌, take, leftmost, repeated_faults}
 use Rattle.mp_typing.proofs.RepeatLemmas.{Seen, names_by, faults_from}
 use Rattle.mp_typing.proofs.repeats.repeated_fault.Given as goal
 

@@ -1,6 +1,4 @@
-use Rattle.mp_typing.specs.Uses.{atom_faults}
-use Rattle.mp_list.proofs.Steps.{goes_on}
-use Rattle.mp_typing.specs.Faults.{is_earlier}
+use Rattle.mp_typing.proofs.Basics.{atom_faults, goes_on, is_earlier}
 use Rattle.mp_typing.proofs.uses.atoms_fault_from.Goals as goal
 
 pub loop-atom-preserved : goal.loop-atom-preserved

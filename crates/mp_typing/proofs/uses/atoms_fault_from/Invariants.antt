@@ -1,8 +1,4 @@
-use Rattle.std.proofs.Common.{◌≡◌, drop}
-use Rattle.std.specs.List.{flat_map}
-use Rattle.mp_typing.specs.Faults.{leftmost}
-use Rattle.mp_typing.specs.Lookups.{arity_of}
-use Rattle.mp_typing.specs.Uses.{atom_faults}
+use Rattle.mp_typing.proofs.Basics.{◌≡◌, drop, flat_map, leftmost, arity_of, atom_faults}
 use Rattle.mp_typing.proofs.uses.atoms_fault_from.Given as goal
 
 abbrev pub invariant-loop-atom : goal.invariant-loop-atom

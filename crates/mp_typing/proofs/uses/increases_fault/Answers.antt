@@ -1,6 +1,4 @@
-use Rattle.mp_typing.specs.Uses.{increase_faults}
-use Rattle.mp_list.proofs.Steps.{goes_on}
-use Rattle.mp_typing.specs.Faults.{is_earlier}
+use Rattle.mp_typing.proofs.Basics.{increase_faults, goes_on, is_earlier}
 use Rattle.mp_typing.proofs.uses.increases_fault.Goals as goal
 
 pub loop-increase-preserved : goal.loop-increase-preserved

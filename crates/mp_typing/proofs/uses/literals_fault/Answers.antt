@@ -1,6 +1,4 @@
-use Rattle.mp_typing.specs.Uses.{literal_faults}
-use Rattle.mp_list.proofs.Steps.{goes_on}
-use Rattle.mp_typing.specs.Faults.{is_earlier}
+use Rattle.mp_typing.proofs.Basics.{literal_faults, goes_on, is_earlier}
 use Rattle.mp_typing.proofs.uses.literals_fault.Goals as goal
 
 pub loop-literal-preserved : goal.loop-literal-preserved

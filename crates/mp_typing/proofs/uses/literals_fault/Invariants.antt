@@ -1,7 +1,4 @@
-use Rattle.std.proofs.Common.{◌≡◌, drop}
-use Rattle.std.specs.List.{flat_map}
-use Rattle.mp_typing.specs.Faults.{leftmost}
-use Rattle.mp_typing.specs.Uses.{literal_faults}
+use Rattle.mp_typing.proofs.Basics.{◌≡◌, drop, flat_map, leftmost, literal_faults}
 use Rattle.mp_typing.proofs.uses.literals_fault.Given as goal
 
 abbrev pub invariant-loop-literal : goal.invariant-loop-literal

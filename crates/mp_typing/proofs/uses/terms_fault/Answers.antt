@@ -1,6 +1,4 @@
-use Rattle.mp_typing.specs.Uses.{term_faults}
-use Rattle.mp_list.proofs.Steps.{goes_on}
-use Rattle.mp_typing.specs.Faults.{is_earlier}
+use Rattle.mp_typing.proofs.Basics.{term_faults, goes_on, is_earlier}
 use Rattle.mp_typing.proofs.uses.terms_fault.Goals as goal
 
 pub loop-term-preserved : goal.loop-term-preserved

@@ -1,4 +1,4 @@
-use Rattle.mp_lifted.specs.Views.{changed_predicates, negated_predicates}
+use Rattle.mp_views.proofs.Basics.{changed_predicates, negated_predicates}
 use Rattle.mp_views.proofs.OpenLaws.{shown_is_public}
 use Rattle.mp_views.proofs.laws.shown_predicates_are_public.Goals as goal
 

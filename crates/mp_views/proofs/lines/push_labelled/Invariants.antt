@@ -1,5 +1,5 @@
-use Rattle.std.proofs.Common.{◌≡◌, ◌++◌, take}
-use Rattle.mp_views.specs.Lines.{labelled, text_of_lines}
+use Rattle.mp_views.proofs.Basics.{◌≡◌, ◌++◌, take, text_of_lines}
+use Rattle.mp_views.specs.Lines.{labelled}
 use Rattle.mp_views.proofs.lines.push_labelled.Given as goal
 
 abbrev pub invariant-loop-name : goal.invariant-loop-name

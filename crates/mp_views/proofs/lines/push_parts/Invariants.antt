@@ -1,5 +1,4 @@
-use Rattle.std.proofs.Common.{◌≡◌, ◌++◌, map, take}
-use Rattle.mp_views.specs.Lines.{part_line, text_of_lines}
+use Rattle.mp_views.proofs.Basics.{◌≡◌, ◌++◌, map, take, part_line, text_of_lines}
 use Rattle.mp_views.proofs.lines.push_parts.Given as goal
 
 abbrev pub invariant-loop-part : goal.invariant-loop-part

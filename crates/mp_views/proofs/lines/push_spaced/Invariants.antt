@@ -1,5 +1,4 @@
-use Rattle.std.proofs.Common.{◌≡◌, ◌++◌, take}
-use Rattle.mp_views.specs.Lines.{spaced}
+use Rattle.mp_views.proofs.Basics.{◌≡◌, ◌++◌, take, spaced}
 use Rattle.mp_views.proofs.lines.push_spaced.Given as goal
 
 abbrev pub invariant-loop-name : goal.invariant-loop-name

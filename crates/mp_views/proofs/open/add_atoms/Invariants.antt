@@ -1,7 +1,4 @@
-use Rattle.std.proofs.Common.{◌≡◌, ◌++◌, take, not}
-use Rattle.std.specs.Prelude.{filter}
-use Rattle.mp_joint.specs.Fact.{is_listed}
-use Rattle.mp_lifted.specs.Views.{predicates_of}
+use Rattle.mp_views.proofs.Basics.{◌≡◌, ◌++◌, take, not, filter, is_listed, predicates_of}
 use Rattle.mp_views.proofs.open.add_atoms.Given as goal
 
 abbrev pub invariant-loop-atom : goal.invariant-loop-atom

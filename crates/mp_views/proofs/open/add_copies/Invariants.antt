@@ -1,4 +1,4 @@
-use Rattle.std.proofs.Common.{◌≡◌, ◌++◌, take}
+use Rattle.mp_views.proofs.Basics.{◌≡◌, ◌++◌, take}
 use Rattle.mp_views.proofs.open.add_copies.Given as goal
 
 abbrev pub invariant-loop-name : goal.invariant-loop-name

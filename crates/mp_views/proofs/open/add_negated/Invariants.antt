@@ -1,8 +1,4 @@
-use Rattle.std.proofs.Common.{◌≡◌, ◌++◌, take, not}
-use Rattle.std.specs.Prelude.{filter}
-use Rattle.mp_joint.specs.Fact.{is_listed}
-use Rattle.mp_joint.specs.Grounding.{negated_atoms}
-use Rattle.mp_lifted.specs.Views.{predicates_of}
+use Rattle.mp_views.proofs.Basics.{◌≡◌, ◌++◌, take, not, filter, is_listed, negated_atoms, predicates_of}
 use Rattle.mp_views.proofs.open.add_negated.Given as goal
 
 abbrev pub invariant-loop-literal : goal.invariant-loop-literal

@@ -1,6 +1,4 @@
-use Rattle.std.proofs.Common.{◌≡◌, take}
-use Rattle.std.specs.List.{flat_map}
-use Rattle.mp_lifted.specs.declared.view.OpenView.{OpenView}
+use Rattle.mp_views.proofs.Basics.{◌≡◌, take, flat_map, OpenView}
 use Rattle.mp_views.proofs.open.all_changed.Given as goal
 
 abbrev pub invariant-loop-view : goal.invariant-loop-view

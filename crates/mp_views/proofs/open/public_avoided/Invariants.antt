@@ -1,10 +1,4 @@
-use Rattle.std.proofs.Common.{◌≡◌, take, not}
-use Rattle.std.specs.Prelude.{filter}
-use Rattle.std.specs.List.{flat_map}
-use Rattle.mp_factor.specs.declared.schema_values.Schema.{Schema}
-use Rattle.mp_joint.specs.Fact.{is_listed}
-use Rattle.mp_joint.specs.Grounding.{negated_atoms}
-use Rattle.mp_lifted.specs.Views.{predicates_of}
+use Rattle.mp_views.proofs.Basics.{◌≡◌, take, not, filter, flat_map, Schema, is_listed, negated_atoms, predicates_of}
 use Rattle.mp_views.proofs.open.public_avoided.Given as goal
 
 abbrev pub invariant-loop-schema : goal.invariant-loop-schema

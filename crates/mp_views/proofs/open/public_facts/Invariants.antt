@@ -1,9 +1,4 @@
-use Rattle.std.proofs.Common.{◌≡◌, [], map, take}
-use Rattle.std.specs.Prelude.{filter}
-use Rattle.std.specs.Option.{is_none}
-use Rattle.mp_joint.specs.declared.fact.NamedFact.{NamedFact}
-use Rattle.mp_joint.specs.Grounding.{fact_of}
-use Rattle.mp_lifted.specs.Texts.{fact_text}
+use Rattle.mp_views.proofs.Basics.{◌≡◌, [], map, take, filter, is_none, NamedFact, fact_of, fact_text}
 use Rattle.mp_views.proofs.open.public_facts.Given as goal
 
 abbrev pub invariant-loop-atom : goal.invariant-loop-atom

@@ -1,5 +1,4 @@
-use Rattle.std.proofs.Common.{◌≡◌, ◌++◌, length, map}
-use Rattle.std.specs.Vec.Iter.{into_iter_items, into_iter_len}
+use Rattle.mp_views.proofs.Basics.{◌≡◌, ◌++◌, length, map, into_iter_items, into_iter_len}
 use Rattle.mp_views.proofs.PartLemmas.{part_of}
 use Rattle.mp_views.proofs.parts.list_of.Given as goal
 

@@ -1,5 +1,4 @@
-use Rattle.std.proofs.Common.{IfOk, List, ◌≡◌, subst}
-use Rattle.mp_views.specs.declared.view.Part.{Part}
+use Rattle.mp_views.proofs.Basics.{IfOk, List, ◌≡◌, subst, Part}
 use Rattle.mp_views.proofs.PartLemmas.{parts_are}
 use Rattle.mp_views.proofs.parts.sorted_parts.Goals as goal
 

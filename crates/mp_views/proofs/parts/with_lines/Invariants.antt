@@ -1,4 +1,4 @@
-use Rattle.std.proofs.Common.{◌≡◌, ◌++◌, map, reverse, vec_len}
+use Rattle.mp_views.proofs.Basics.{◌≡◌, ◌++◌, map, reverse, vec_len}
 use Rattle.mp_views.proofs.PartLemmas.{lined}
 use Rattle.mp_views.proofs.parts.with_lines.Given as goal
 

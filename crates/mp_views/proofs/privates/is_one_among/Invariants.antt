@@ -1,7 +1,4 @@
-use Rattle.std.proofs.Common.{◌≡◌, [], drop}
-use Rattle.std.specs.List.{list_any}
-use Rattle.mp_joint.specs.Fact.{is_listed}
-use Rattle.mp_joint.specs.Grounding.{objects_of}
+use Rattle.mp_views.proofs.Basics.{◌≡◌, [], drop, list_any, is_listed, objects_of}
 use Rattle.mp_views.proofs.privates.is_one_among.Given as goal
 
 abbrev pub invariant-loop-term : goal.invariant-loop-term

@@ -1,5 +1,4 @@
-use Rattle.std.proofs.Common.{◌≡◌, ◌++◌, length}
-use Rattle.std.specs.Vec.Iter.{into_iter_items, into_iter_len}
+use Rattle.mp_views.proofs.Basics.{◌≡◌, ◌++◌, length, into_iter_items, into_iter_len}
 use Rattle.mp_views.proofs.sorted.list_of.Given as goal
 
 abbrev pub invariant-loop-text : goal.invariant-loop-text

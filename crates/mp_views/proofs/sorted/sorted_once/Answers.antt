@@ -1,8 +1,5 @@
-use Rattle.std.proofs.Common.{IfOk, List, ◌≡◌, ◌∙◌, subst}
-use Rattle.std.proofs.lemmas.List.Filters.{dedup_is}
-use Rattle.std.specs.Cmp.Lexicographic.{nat_list_cmp_total, texts_ties}
+use Rattle.mp_views.proofs.Basics.{IfOk, List, ◌≡◌, ◌∙◌, subst, dedup_is, nat_list_cmp_total, texts_ties, Text}
 use Rattle.std.specs.FinMap.{nat_cmp-IsAntisymmetric, slice_cmp-IsAntisymmetric}
-use Rattle.mp_joint.specs.Fact.{Text}
 use Rattle.mp_views.proofs.TiedLemmas.{each_once, tied_moved}
 use Rattle.mp_views.proofs.sorted.sorted_once.Goals as goal
 

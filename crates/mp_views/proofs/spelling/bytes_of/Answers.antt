@@ -1,5 +1,4 @@
-use Rattle.std.proofs.Common.{ap, ◌∙◌}
-use Rattle.mp_sexp.specs.Bytes.{folded}
+use Rattle.mp_views.proofs.Basics.{ap, ◌∙◌, folded}
 use Rattle.mp_views.proofs.FoldedLemmas.{folded_same}
 use Rattle.mp_views.proofs.spelling.bytes_of.Goals as goal
 

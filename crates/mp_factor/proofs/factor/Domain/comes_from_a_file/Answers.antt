@@ -1,7 +1,4 @@
-use Rattle.std.proofs.Common.{subst}
-use Rattle.mp_factor.specs.FromFile.{IsDomainOfFile}
-use Rattle.mp_factor.specs.Limits.{DomainFits}
-use Rattle.mp_factor.specs.Named.{DomainIsNamed}
+use Rattle.mp_factor.proofs.Basics.{subst, IsDomainOfFile, DomainFits, DomainIsNamed}
 use Rattle.mp_factor.proofs.TakenFiles.{domain_of_file_fits, domain_of_file_is_named}
 use Rattle.mp_factor.proofs.factor.Domain.comes_from_a_file.Goals as goal
 

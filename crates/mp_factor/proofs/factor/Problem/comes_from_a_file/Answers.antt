@@ -1,7 +1,4 @@
-use Rattle.std.proofs.Common.{subst}
-use Rattle.mp_factor.specs.FromFile.{IsProblemOfFile}
-use Rattle.mp_factor.specs.Limits.{ProblemFits}
-use Rattle.mp_factor.specs.Named.{ProblemIsNamed}
+use Rattle.mp_factor.proofs.Basics.{subst, IsProblemOfFile, ProblemFits, ProblemIsNamed}
 use Rattle.mp_factor.proofs.TakenFiles.{problem_of_file_fits, problem_of_file_is_named}
 use Rattle.mp_factor.proofs.factor.Problem.comes_from_a_file.Goals as goal
 

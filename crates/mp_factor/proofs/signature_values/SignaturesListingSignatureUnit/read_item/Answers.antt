@@ -1,5 +1,4 @@
-use Rattle.mp_sexp.specs.Node.{node_of}
-use Rattle.mp_factor.specs.Rules.Signatures.{signature_rule}
+use Rattle.mp_factor.proofs.Basics.{node_of, signature_rule}
 use Rattle.mp_factor.proofs.TypedLemmas.{untyped_item}
 use Rattle.mp_factor.proofs.signature_values.SignaturesListingSignatureUnit.read_item.Goals as goal
 

@@ -1,6 +1,4 @@
-use Rattle.std.proofs.Common.{false}
-use Rattle.mp_sexp.specs.Node.{node_of}
-use Rattle.mp_factor.specs.Rules.Signatures.{signature_rule}
+use Rattle.mp_factor.proofs.Basics.{false, node_of, signature_rule}
 use Rattle.mp_factor.proofs.TypedLemmas.{untyped_item}
 use Rattle.mp_factor.proofs.signature_values.WithBlocksListingSignatureUnit.read_item.Goals as goal
 

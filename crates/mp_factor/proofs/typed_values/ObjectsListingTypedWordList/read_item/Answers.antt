@@ -1,6 +1,4 @@
-use Rattle.std.proofs.Common.{false}
-use Rattle.mp_sexp.specs.Node.{node_of}
-use Rattle.mp_factor.specs.Rules.Words.{name_rule}
+use Rattle.mp_factor.proofs.Basics.{false, node_of, name_rule}
 use Rattle.mp_factor.proofs.TypedLemmas.{declared_item}
 use Rattle.mp_factor.proofs.typed_values.ObjectsListingTypedWordList.read_item.Goals as goal
 

@@ -1,4 +1,4 @@
-use Rattle.mp_sexp.specs.Node.{node_of}
+use Rattle.mp_factor.proofs.Basics.{node_of}
 use Rattle.mp_factor.proofs.TypedLemmas.{declared_item}
 use Rattle.mp_factor.proofs.typed_values.PlainListingTypedWordList.read_item.Goals as goal
 

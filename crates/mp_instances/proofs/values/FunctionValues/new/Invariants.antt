@@ -1,5 +1,4 @@
-use Rattle.std.proofs.Common.{take}
-use Rattle.mp_instances.specs.Tables.{HasValues}
+use Rattle.mp_instances.proofs.Basics.{take, HasValues}
 use Rattle.mp_instances.proofs.values.FunctionValues.new.Given as goal
 
 abbrev pub invariant-loop-value : goal.invariant-loop-value

@@ -1,4 +1,4 @@
-use Rattle.std.proofs.Common.{arith, ap, length}
+use Rattle.mp_lifted.proofs.Basics.{arith, ap, length}
 use Rattle.mp_lifted.proofs.FlatLemmas.{count}
 use Rattle.mp_lifted.proofs.bindings.ActionBindingList.at.Goals as goal
 

@@ -1,4 +1,4 @@
-use Rattle.std.proofs.Common.{◌≡◌, arith, sym, rules, length}
+use Rattle.mp_lifted.proofs.Basics.{◌≡◌, arith, sym, rules, length}
 use Rattle.std.proofs.lemmas.Option.{slice_get_past}
 use Rattle.mp_lifted.proofs.FlatLemmas.{count}
 use Rattle.mp_lifted.proofs.bindings.ActionBindingList.get.Goals as goal

@@ -1,4 +1,4 @@
-use Rattle.std.proofs.Common.{◌≡◌, ◌∙◌, sym, rules, length}
+use Rattle.mp_lifted.proofs.Basics.{◌≡◌, ◌∙◌, sym, rules, length}
 use Rattle.mp_lifted.proofs.FlatLemmas.{count}
 use Rattle.mp_lifted.proofs.bindings.ActionBindingList.len.Goals as goal
 

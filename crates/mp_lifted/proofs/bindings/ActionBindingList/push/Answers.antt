@@ -1,5 +1,4 @@
-use Rattle.std.proofs.Common.{◌≡◌, ◌∙◌, ◌+◌, ◌++◌, ◌∷◌, [], rules, length}
-use Rattle.mp_lifted.specs.declared.bindings.Head.{Head}
+use Rattle.mp_lifted.proofs.Basics.{◌≡◌, ◌∙◌, ◌+◌, ◌++◌, ◌∷◌, [], rules, length, Head}
 use Rattle.mp_lifted.proofs.FlatLemmas.{one_more, rise_on}
 use Rattle.mp_lifted.proofs.bindings.ActionBindingList.push.Goals as goal
 

@@ -1,4 +1,4 @@
-use Rattle.std.proofs.Common.{◌≡◌, ℕ, List, sym, subst, ◌∙◌}
+use Rattle.std.proofs.Common.{ℕ, sym, subst, ◌∙◌}
 use Rattle.mp_sets.specs.Numbers.{numbers_below}
 use Rattle.mp_sets.specs.Words.{has_bit, ArePacked}
 use Rattle.mp_sets.proofs.bits.Bits.from_view.Goals as goal

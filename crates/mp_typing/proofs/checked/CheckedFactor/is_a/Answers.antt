@@ -1,9 +1,4 @@
-use Rattle.std.proofs.Common.{Bool, List, subst}
-use Rattle.std.specs.Bool.{Decides}
-use Rattle.mp_factor.specs.declared.factor.Factor.{Factor}
-use Rattle.mp_factor.specs.declared.typed_values.Typed.{Typed}
-use Rattle.mp_typing.specs.Hierarchy.{IsOrder}
-use Rattle.mp_typing.specs.IsA.{IsA}
+use Rattle.mp_typing.proofs.Basics.{Bool, List, subst, Decides, Factor, Typed, IsOrder, IsA}
 use Rattle.mp_typing.proofs.GraphLemmas.{bounded}
 use Rattle.mp_typing.proofs.Typing.{where_ok}
 use Rattle.mp_typing.proofs.checked.CheckedFactor.is_a.Goals as goal

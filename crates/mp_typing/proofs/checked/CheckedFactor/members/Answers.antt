@@ -1,8 +1,4 @@
-use Rattle.std.proofs.Common.{List, ℕ, subst}
-use Rattle.mp_factor.specs.declared.factor.Factor.{Factor}
-use Rattle.mp_factor.specs.declared.typed_values.Typed.{Typed}
-use Rattle.mp_typing.specs.Hierarchy.{IsHierarchy}
-use Rattle.mp_typing.specs.Members.{Members}
+use Rattle.mp_typing.proofs.Basics.{List, ℕ, subst, Factor, Typed, IsHierarchy, Members}
 use Rattle.mp_typing.specs.ObjectList.{object_list}
 use Rattle.mp_typing.proofs.GraphLemmas.{bounded}
 use Rattle.mp_typing.proofs.Typing.{where_ok}

@@ -1,7 +1,4 @@
-use Rattle.std.proofs.Common.{◌∙◌, ap}
-use Rattle.std.specs.Option.{is_some}
-use Rattle.mp_factor.specs.declared.factor.Factor.{Factor}
-use Rattle.mp_typing.specs.Lookups.{is_object, objects_of}
+use Rattle.mp_typing.proofs.Basics.{◌∙◌, ap, is_some, Factor, is_object, objects_of}
 use Rattle.mp_typing.proofs.LookupLemmas.{is_placed}
 use Rattle.mp_typing.proofs.declared.Declared.has_object.Goals as goal
 

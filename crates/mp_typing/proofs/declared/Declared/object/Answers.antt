@@ -1,10 +1,5 @@
-use Rattle.std.proofs.Common.{Some, None, List, ◌++◌, ◌∙◌, ap, sym}
-use Rattle.std.specs.Prelude.{find, slice_get}
-use Rattle.std.specs.Str.{bytes_eq}
-use Rattle.mp_factor.specs.declared.factor.Factor.{Factor}
-use Rattle.mp_factor.specs.declared.typed_values.Typed.{Typed}
+use Rattle.mp_typing.proofs.Basics.{Some, None, List, ◌++◌, ◌∙◌, ap, sym, find, slice_get, bytes_eq, Factor, Typed, objects_of}
 use Rattle.mp_factor.specs.FactorParts.{DomainParts, ProblemParts}
-use Rattle.mp_typing.specs.Lookups.{objects_of}
 use Rattle.mp_typing.proofs.LookupLemmas.{first_at}
 use Rattle.mp_typing.proofs.declared.Declared.object.Goals as goal
 

@@ -1,7 +1,4 @@
-use Rattle.std.proofs.Common.{◌≡◌, ◌∷◌, ◌++◌, [], List, Bor, map, sym, subst, ap, ◌∙◌}
-use Rattle.std.proofs.lemmas.List.{map-append}
-use Rattle.mp_factor.specs.declared.typed_values.Typed.{Typed}
-use Rattle.mp_typing.specs.Listing.{AreFound}
+use Rattle.mp_typing.proofs.Basics.{◌≡◌, ◌∷◌, ◌++◌, [], List, Bor, map, sym, subst, ap, ◌∙◌, map-append, Typed, AreFound}
 use Rattle.mp_typing.proofs.Listing.{found_new, found_old}
 use Rattle.mp_typing.proofs.declared.Objects.add.Goals as goal
 

@@ -1,7 +1,4 @@
-use Rattle.std.proofs.Common.{◌++◌, List, Bor, map, subst, sym, take}
-use Rattle.std.proofs.lemmas.List.{append-nil}
-use Rattle.mp_factor.specs.declared.typed_values.Typed.{Typed}
-use Rattle.mp_typing.specs.Listing.{AreFound}
+use Rattle.mp_typing.proofs.Basics.{◌++◌, List, Bor, map, subst, sym, take, append-nil, Typed, AreFound}
 use Rattle.mp_typing.proofs.Listing.{one_more, count_before}
 use Rattle.mp_typing.proofs.declared.Objects.add_all.Goals as goal
 

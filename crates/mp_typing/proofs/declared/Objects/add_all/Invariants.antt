@@ -1,6 +1,5 @@
-use Rattle.std.proofs.Common.{◌≡◌, ◌++◌, List, length, map, take}
+use Rattle.mp_typing.proofs.Basics.{◌≡◌, ◌++◌, List, length, map, take, AreFound}
 use Rattle.mp_factor.specs.declared.typed_values.Typed.{Typed as TypedValue}
-use Rattle.mp_typing.specs.Listing.{AreFound}
 use Rattle.mp_typing.proofs.declared.Objects.add_all.Given as goal
 
 abbrev pub invariant-loop-i : goal.invariant-loop-i

@@ -1,7 +1,4 @@
-use Rattle.std.proofs.Common.{◌≡◌, ◌++◌, ◌<◌, ◌≤◌, ℕ, List, map, length, get_or, take, sym, subst}
-use Rattle.std.proofs.lemmas.List.{append-nil}
-use Rattle.mp_factor.specs.declared.word.Word.{Word}
-use Rattle.mp_typing.specs.Graph.{IsGraph}
+use Rattle.mp_typing.proofs.Basics.{◌≡◌, ◌++◌, ◌<◌, ◌≤◌, ℕ, List, map, length, get_or, take, sym, subst, append-nil, Word, IsGraph}
 use Rattle.mp_typing.proofs.GraphLemmas.{pair_with, pairs_more, all_taken}
 use Rattle.mp_typing.proofs.graph.TypeGraph.add_declared.Goals as goal
 

@@ -1,6 +1,4 @@
-use Rattle.std.proofs.Common.{◌≡◌, ◌++◌, ℕ, List, Some, map, length, take}
-use Rattle.mp_typing.specs.Indexed.{number_of}
-use Rattle.mp_typing.specs.Graph.{IsGraph}
+use Rattle.mp_typing.proofs.Basics.{◌≡◌, ◌++◌, ℕ, List, Some, map, length, take, number_of, IsGraph}
 use Rattle.mp_typing.proofs.GraphLemmas.{pair_with}
 use Rattle.mp_typing.proofs.graph.TypeGraph.add_declared.Given as goal
 

@@ -1,7 +1,4 @@
-use Rattle.std.proofs.Common.{◌≡◌, ◌++◌, ◌<◌, ◌≤◌, ℕ, List, length, get_or, take, subst}
-use Rattle.std.specs.List.{flat_map}
-use Rattle.mp_factor.specs.declared.typed_values.Typed.{Typed}
-use Rattle.mp_typing.specs.Graph.{IsGraph, pairs_of}
+use Rattle.mp_typing.proofs.Basics.{◌≡◌, ◌++◌, ◌<◌, ◌≤◌, ℕ, List, length, get_or, take, subst, flat_map, Typed, IsGraph, pairs_of}
 use Rattle.mp_typing.proofs.GraphLemmas.{declared_more, all_taken}
 use Rattle.mp_typing.proofs.graph.TypeGraph.add_types.Goals as goal
 

@@ -1,6 +1,4 @@
-use Rattle.std.proofs.Common.{◌≡◌, ◌++◌, ℕ, List, length, take}
-use Rattle.std.specs.List.{flat_map}
-use Rattle.mp_typing.specs.Graph.{IsGraph, pairs_of}
+use Rattle.mp_typing.proofs.Basics.{◌≡◌, ◌++◌, ℕ, List, length, take, flat_map, IsGraph, pairs_of}
 use Rattle.mp_typing.proofs.graph.TypeGraph.add_types.Given as goal
 
 abbrev pub invariant-loop-declared : goal.invariant-loop-declared

@@ -1,5 +1,4 @@
-use Rattle.std.proofs.Common.{◌≡◌, ◌∷◌, ◌++◌, ◌∙◌, [], ℕ, List, set, ap, arith}
-use Rattle.mp_typing.specs.Graph.{under}
+use Rattle.mp_typing.proofs.Basics.{◌≡◌, ◌∷◌, ◌++◌, ◌∙◌, [], ℕ, List, set, ap, arith, under}
 use Rattle.mp_typing.proofs.GraphLemmas.{graph_adds, row_is}
 use Rattle.mp_typing.proofs.graph.TypeGraph.add_upper.Goals as goal
 

@@ -1,6 +1,4 @@
-use Rattle.std.proofs.Common.{◌≡◌, ◌∷◌, ◌++◌, ◌∙◌, [], ℕ, List, length, ap, refl, arith}
-use Rattle.std.proofs.lemmas.List.{length-append}
-use Rattle.mp_typing.specs.Graph.{under}
+use Rattle.mp_typing.proofs.Basics.{◌≡◌, ◌∷◌, ◌++◌, ◌∙◌, [], ℕ, List, length, ap, refl, arith, length-append, under}
 use Rattle.mp_typing.proofs.GraphLemmas.{graph_numbers, empty_row}
 use Rattle.mp_typing.proofs.graph.TypeGraph.number.Goals as goal
 

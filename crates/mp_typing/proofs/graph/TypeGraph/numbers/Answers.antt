@@ -1,5 +1,4 @@
-use Rattle.std.proofs.Common.{◌≡◌, ◌<◌, List, length, get_or, subst}
-use Rattle.mp_factor.specs.declared.word.Word.{Word}
+use Rattle.mp_typing.proofs.Basics.{◌≡◌, ◌<◌, List, length, get_or, subst, Word}
 use Rattle.mp_typing.proofs.GraphLemmas.{numbers_more}
 use Rattle.mp_typing.proofs.graph.TypeGraph.numbers.Goals as goal
 

@@ -1,6 +1,4 @@
-use Rattle.std.proofs.Common.{◌≡◌, ℕ, List, Some, map, take}
-use Rattle.mp_typing.specs.Numbering.{KeepsNumbers}
-use Rattle.mp_typing.specs.Graph.{IsGraph, numbers_of}
+use Rattle.mp_typing.proofs.Basics.{◌≡◌, ℕ, List, Some, map, take, KeepsNumbers, IsGraph, numbers_of}
 use Rattle.mp_typing.proofs.graph.TypeGraph.numbers.Given as goal
 
 abbrev pub invariant-loop-word : goal.invariant-loop-word

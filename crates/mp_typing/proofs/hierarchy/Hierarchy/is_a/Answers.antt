@@ -1,5 +1,4 @@
-use Rattle.std.proofs.Common.{◌≡◌, ◌∷◌, ◌++◌, ◌||◌, ◌∙◌, [], ℕ, List, Bool, true, false, Option, sym, ap, subst}
-use Rattle.mp_typing.specs.Reach.{has_mark, is_marked}
+use Rattle.mp_typing.proofs.Basics.{◌≡◌, ◌∷◌, ◌++◌, ◌||◌, ◌∙◌, [], ℕ, List, Bool, true, false, Option, sym, ap, subst, has_mark, is_marked}
 use Rattle.mp_typing.proofs.HierarchyLemmas.{AreMarks, same_is, decides}
 use Rattle.mp_typing.proofs.hierarchy.Hierarchy.is_a.Goals as goal
 

@@ -1,12 +1,4 @@
-use Rattle.std.proofs.Common.{◌≡◌, ◌||◌, ◌==◌, ◌∙◌, ℕ, Bool, List, length, sym, ap, subst}
-use Rattle.std.specs.Prelude.{◌↔◌, Contains}
-use Rattle.std.specs.List.{range_with_len}
-use Rattle.std.specs.List.Sorted.{IsStrictlyIncreasing}
-use Rattle.mp_factor.specs.declared.typed_values.Typed.{Typed}
-use Rattle.mp_typing.specs.Hierarchy.{IsHierarchy}
-use Rattle.mp_typing.specs.Listed.{IsListed}
-use Rattle.mp_typing.specs.Members.{Members}
-use Rattle.mp_typing.specs.Reach.{is_marked}
+use Rattle.mp_typing.proofs.Basics.{◌≡◌, ◌||◌, ◌==◌, ◌∙◌, ℕ, Bool, List, length, sym, ap, subst, ◌↔◌, Contains, range_with_len, IsStrictlyIncreasing, Typed, IsHierarchy, IsListed, Members, is_marked}
 use Rattle.mp_typing.proofs.HierarchyLemmas.{are_all, are_marked}
 use Rattle.mp_typing.proofs.Typing.{where_ok}
 use Rattle.mp_typing.proofs.hierarchy.Hierarchy.members.Goals as goal

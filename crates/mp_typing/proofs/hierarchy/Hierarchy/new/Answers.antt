@@ -1,11 +1,4 @@
-use Rattle.std.proofs.Common.{◌≡◌, ◌∙◌, [], ℕ, List, Some, Bor, map, subst, arith}
-use Rattle.std.specs.Prelude.{Contains}
-use Rattle.std.specs.List.{flat_map}
-use Rattle.mp_factor.specs.declared.typed_values.Typed.{Typed}
-use Rattle.mp_typing.specs.Graph.{under, pairs_of}
-use Rattle.mp_typing.specs.Indexed.{number_of}
-use Rattle.mp_typing.specs.IsA.{object_name}
-use Rattle.mp_typing.specs.Listed.{AreListed}
+use Rattle.mp_typing.proofs.Basics.{◌≡◌, ◌∙◌, [], ℕ, List, Some, Bor, map, subst, arith, Contains, flat_map, Typed, under, pairs_of, number_of, object_name, AreListed}
 use Rattle.mp_typing.proofs.GraphLemmas.{kinds_of_objects}
 use Rattle.mp_typing.proofs.HierarchyLemmas.{kinds_below}
 use Rattle.mp_typing.proofs.hierarchy.Hierarchy.new.Goals as goal

@@ -1,7 +1,4 @@
-use Rattle.std.proofs.Common.{◌≡◌, ◌∷◌, ◌++◌, [], ◌∙◌, sym, ap, subst, cond, not, Some, None, Option, ℕ, List}
-use Rattle.std.specs.Option.{is_some}
-use Rattle.std.specs.Str.{bytes_eq}
-use Rattle.mp_typing.specs.Indexed.{Entry, number_of, SameNumbers}
+use Rattle.mp_typing.proofs.Basics.{◌≡◌, ◌∷◌, ◌++◌, [], ◌∙◌, sym, ap, subst, cond, not, Some, None, Option, ℕ, List, is_some, bytes_eq, Entry, number_of, SameNumbers}
 use Rattle.mp_typing.proofs.IndexLemmas.{entries_of, looked_up, known, added, restored}
 use Rattle.mp_typing.proofs.index.Index.add.Goals.{In-None, In_ok-insert-in-Some}
 use Rattle.mp_typing.proofs.index.Index.add.Goals as goal

@@ -1,5 +1,4 @@
-use Rattle.std.proofs.Common.{◌∙◌, ap}
-use Rattle.mp_typing.specs.Indexed.{number_of}
+use Rattle.mp_typing.proofs.Basics.{◌∙◌, ap, number_of}
 use Rattle.mp_typing.proofs.IndexLemmas.{looked_up}
 use Rattle.mp_typing.proofs.index.Index.find.Goals as goal
 

@@ -1,5 +1,4 @@
-use Rattle.std.proofs.Common.{◌∙◌, sym, ap}
-use Rattle.mp_typing.specs.Names.{is_among}
+use Rattle.mp_typing.proofs.Basics.{◌∙◌, sym, ap, is_among}
 use Rattle.mp_typing.proofs.NameSets.{among_keys}
 use Rattle.mp_typing.proofs.names.NameSet.contains.Goals as goal
 

@@ -1,7 +1,4 @@
-use Rattle.std.proofs.Common.{◌||◌, ◌∙◌, sym, ap, not}
-use Rattle.std.specs.Str.{bytes_eq}
-use Rattle.std.specs.List.{list_any}
-use Rattle.mp_typing.specs.Names.{is_among}
+use Rattle.mp_typing.proofs.Basics.{◌||◌, ◌∙◌, sym, ap, not, bytes_eq, list_any, is_among}
 use Rattle.mp_typing.proofs.NameSets.{among_keys, cond_or, same_either_way}
 use Rattle.mp_typing.proofs.names.NameSet.insert.Goals as goal
 

@@ -1,5 +1,4 @@
-use Rattle.std.proofs.Common.{sym, subst}
-use Rattle.mp_typing.specs.Numbering.{IsNumbering}
+use Rattle.mp_typing.proofs.Basics.{sym, subst, IsNumbering}
 use Rattle.mp_typing.proofs.IndexLemmas.{entries_of}
 use Rattle.mp_typing.proofs.NumberingLemmas.{no_names}
 use Rattle.mp_typing.proofs.numbering.Numbering.new.Goals as goal

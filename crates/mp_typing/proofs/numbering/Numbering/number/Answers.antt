@@ -1,11 +1,4 @@
-use Rattle.std.proofs.Common.{◌≡◌, ◌+◌, ◌∙◌, sym, ap, subst, cond, length, Option, Some, None, ℕ, List}
-use Rattle.std.specs.Prelude.{if◌then◌else◌}
-use Rattle.std.specs.Option.{is_some}
-use Rattle.std.specs.Map.{lookup}
-use Rattle.std.specs.Str.{bytes_eq}
-use Rattle.std.proofs.lemmas.List.{length-map}
-use Rattle.mp_typing.specs.Indexed.{Entry, number_of}
-use Rattle.mp_typing.specs.Numbering.{IsNumbering, KeepsNumbers}
+use Rattle.mp_typing.proofs.Basics.{◌≡◌, ◌+◌, ◌∙◌, sym, ap, subst, cond, length, Option, Some, None, ℕ, List, if◌then◌else◌, is_some, lookup, bytes_eq, length-map, Entry, number_of, IsNumbering, KeepsNumbers}
 use Rattle.mp_typing.proofs.IndexLemmas.{entries_of, looked_up}
 use Rattle.mp_typing.proofs.NumberingLemmas.{PutsName, numbered, keeps, put}
 use Rattle.mp_typing.proofs.numbering.Numbering.number.Goals.{In_ok-insert}

@@ -1,6 +1,4 @@
-use Rattle.std.proofs.Common.{◌≡◌, ◌+◌, ◌<◌, [], length, get_or, take, sym, subst, arith, List, ℕ, Some}
-use Rattle.mp_typing.specs.Indexed.{number_of}
-use Rattle.mp_typing.specs.Reach.{IsSearch}
+use Rattle.mp_typing.proofs.Basics.{◌≡◌, ◌+◌, ◌<◌, [], length, get_or, take, sym, subst, arith, List, ℕ, Some, number_of, IsSearch}
 use Rattle.mp_typing.proofs.ReachLemmas.{Marks, top_step, no_step}
 use Rattle.mp_typing.proofs.reach.Search.add_asked.Goals.{in-Some+in_ok-add, in_default}
 use Rattle.mp_typing.proofs.reach.Search.add_asked.Goals as goal

@@ -1,5 +1,4 @@
-use Rattle.std.proofs.Common.{[], take}
-use Rattle.mp_typing.specs.Reach.{IsSearch}
+use Rattle.mp_typing.proofs.Basics.{[], take, IsSearch}
 use Rattle.mp_typing.proofs.reach.Search.add_asked.Given as goal
 
 abbrev pub invariant-loop-name : goal.invariant-loop-name

@@ -1,5 +1,4 @@
-use Rattle.std.proofs.Common.{◌+◌, [], length}
-use Rattle.mp_typing.specs.Reach.{IsSearch, unmarked}
+use Rattle.mp_typing.proofs.Basics.{◌+◌, [], length, IsSearch, unmarked}
 use Rattle.mp_typing.proofs.reach.Search.add_lower.Given as goal
 
 abbrev pub invariant-loop-up : goal.invariant-loop-up

@@ -1,6 +1,4 @@
-use Rattle.std.proofs.Common.{◌≡◌, ◌∙◌, sym, subst, arith, List, ℕ}
-use Rattle.mp_typing.specs.Graph.{under}
-use Rattle.mp_typing.specs.Reach.{IsSearch}
+use Rattle.mp_typing.proofs.Basics.{◌≡◌, ◌∙◌, sym, subst, arith, List, ℕ, under, IsSearch}
 use Rattle.mp_typing.proofs.GraphLemmas.{row_is}
 use Rattle.mp_typing.proofs.ReachLemmas.{Marks, marked_below, fewer, row_step, row_below}
 use Rattle.mp_typing.proofs.reach.Search.add_under.Goals as goal

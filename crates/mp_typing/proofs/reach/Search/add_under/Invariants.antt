@@ -1,6 +1,4 @@
-use Rattle.std.proofs.Common.{◌≡◌, ◌+◌, ◌≤◌, drop, length}
-use Rattle.mp_typing.specs.Graph.{under}
-use Rattle.mp_typing.specs.Reach.{IsSearch, unmarked}
+use Rattle.mp_typing.proofs.Basics.{◌≡◌, ◌+◌, ◌≤◌, drop, length, under, IsSearch, unmarked}
 use Rattle.mp_typing.proofs.reach.Search.add_under.Given as goal
 
 abbrev pub invariant-loop-low : goal.invariant-loop-low

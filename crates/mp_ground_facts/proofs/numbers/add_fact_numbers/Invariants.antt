@@ -1,9 +1,0 @@
-use Rattle.std.proofs.Common.{◌≡◌, ◌++◌, map, drop}
-use Rattle.mp_ground_facts.specs.Facts.{fact_of}
-use Rattle.mp_ground_facts.specs.Ground.{numbers_of}
-use Rattle.mp_ground_facts.proofs.numbers.add_fact_numbers.Given as goal
-
-abbrev pub invariant-loop-atom : goal.invariant-loop-atom
-invariant-loop-atom l =
-    l.out ++ numbers_of l.facts.keys (map (fact_of l.factor l.is_complement) (drop l.atom-index l.atoms))
-    ≡ l.initial.out ++ numbers_of l.facts.keys (map (fact_of l.factor l.is_complement) l.atoms)

@@ -1,0 +1,2 @@
+-- that facts are the same says that they are equal
+pub mod SameFacts

@@ -1,8 +1,0 @@
-use Rattle.std.proofs.Common.{◌≡◌, map, take}
-use Rattle.std.specs.Prelude.{filter}
-use Rattle.mp_factor.specs.declared.signature_values.Signature.{Signature}
-use Rattle.mp_lifted.proofs.shown.private_predicates.Given as goal
-
-abbrev pub invariant-loop-signature : goal.invariant-loop-signature
-invariant-loop-signature l =
-    l.table ≡ map (λ (s : Signature). s.word.name) (filter (λ (s : Signature). s.private) (take l.signature-index l.predicates))
