@@ -4,7 +4,7 @@ use crate::answers::{answer_check, answer_fault, answer_members, answer_says, an
 use crate::lines::{Line, read_line};
 use crate::texts::Texts;
 use crate::words::{show, show_not_read};
-use mp_factor::File;
+use mp_forms::File;
 use mp_list::OutOfMemory;
 use std::alloc::Global;
 

@@ -1,7 +1,8 @@
 //! What is wrong with a file or with two files, as lines.
 
 use crate::words::{show, show_place};
-use mp_factor::{Fault, FaultKind, File, ShapeRefusal};
+use mp_factor::ShapeRefusal;
+use mp_forms::{Fault, FaultKind, File};
 use mp_list::OutOfMemory;
 use mp_sexp::{Name, Place};
 use mp_typing::{CheckRefusal, Found};

@@ -1,6 +1,6 @@
 //! What a line of the cases says.
 
-use mp_factor::File;
+use mp_forms::File;
 
 /// A line of the cases.
 #[derive(Clone, Copy, Debug)]

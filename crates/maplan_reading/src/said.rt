@@ -1,7 +1,7 @@
 //! What a file says, as lines, one for each item.
 
 use crate::words::{show, show_number, show_word};
-use mp_factor::{
+use mp_forms::{
     Atom, Domain, Increase, Literal, Problem, Schema, Signature, Term, Typed, Value, Word,
 };
 use mp_list::OutOfMemory;

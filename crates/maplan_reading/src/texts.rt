@@ -1,6 +1,7 @@
 //! What the texts of the two files say.
 
-use mp_factor::{Domain, Problem, domain, problem};
+use mp_factor::{domain, problem};
+use mp_forms::{Domain, Problem};
 use mp_sexp::{Tree, read};
 use mp_typing::{CheckRefusal, CheckedFactor, check};
 use std::alloc::Global;

@@ -1,6 +1,6 @@
 //! Pieces of the output.
 
-use mp_factor::Word;
+use mp_forms::Word;
 use mp_list::OutOfMemory;
 use mp_sexp::Place;
 

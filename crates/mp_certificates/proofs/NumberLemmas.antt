@@ -5,7 +5,7 @@ use Rattle.std.specs.Option.{option_map_or}
 use Rattle.std.proofs.lemmas.Bool.{and_from, and_parts, le-leb, leb-true, lt-ltb, ltb-true, ne_eqb}
 use Rattle.std.proofs.lemmas.Fmt.{decimal_by_steps_wide, decimal_digit, decimal_step}
 use Rattle.std.proofs.lemmas.Option.{cond_some}
-use Rattle.mp_factor.specs.Words.{is_digit}
+use Rattle.mp_forms.specs.Words.{is_digit}
 use Rattle.mp_messages.specs.Reading.{◌>>=◌}
 use Rattle.mp_messages.proofs.Taking.{bind_some, some_is}
 use Rattle.mp_text.specs.Lines.{Text}

@@ -4,7 +4,7 @@ use Rattle.std.specs.Option.{option_map_or}
 use Rattle.mp_task.specs.AgentTask.{AgentTask}
 use Rattle.mp_audit.specs.declared.certificate.Bound.{Bound}
 use Rattle.mp_audit.specs.Fits.{most, publics_of}
-use Rattle.mp_factor.specs.Words.{is_digit}
+use Rattle.mp_forms.specs.Words.{is_digit}
 use Rattle.mp_messages.specs.Reading.{◌>>=◌}
 use Rattle.mp_text.specs.Lines.{Text}
 use Rattle.mp_text.specs.Reading.{byte_at, read_or, text_behind}

@@ -1,7 +1,7 @@
 //! The two files of an agent.
 
 use mp_bracket_hints::{FileText, push_place};
-use mp_factor::File;
+use mp_forms::File;
 use mp_sexp::{Place, Tree};
 use std::alloc::AllocError;
 

@@ -2,7 +2,7 @@
 
 use crate::known::{Sort, constants, objects, parameters, signatures};
 use crate::pair::{Pair, push_place_of};
-use mp_factor::File;
+use mp_forms::File;
 use mp_positions::{Position, Role, Signed, first_named, head, members_of, place_of, word_at};
 use mp_sexp::{Place, Tree};
 use std::alloc::{AllocError, Global};

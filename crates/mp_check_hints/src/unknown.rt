@@ -2,7 +2,7 @@
 
 use crate::known::{Sort, usable};
 use crate::pair::Pair;
-use mp_factor::File;
+use mp_forms::File;
 use mp_hints::nearest;
 use mp_positions::{Position, Role, add_names};
 use mp_sexp::Tree;

@@ -5,12 +5,12 @@ use Rattle.std.specs.Option.{option_map_or}
 use Rattle.std.specs.Str.{bytes_eq}
 use Rattle.std.proofs.lemmas.Bool.{lt-ltb}
 use Rattle.std.proofs.lemmas.Bool.Decides.{nat_tests}
-use Rattle.mp_factor.specs.Limits.{name_of_term, names_of_atom}
-use Rattle.mp_factor.specs.declared.typed_values.Typed.{Typed}
-use Rattle.mp_factor.specs.declared.atom_values.Term.{Term}
-use Rattle.mp_factor.specs.declared.atom_values.Term.TheVariants as terms
-use Rattle.mp_factor.specs.declared.atom_values.Atom.{Atom}
-use Rattle.mp_factor.specs.declared.factor.Factor.{Factor}
+use Rattle.mp_forms.specs.Limits.{name_of_term, names_of_atom}
+use Rattle.mp_forms.specs.declared.typed_values.Typed.{Typed}
+use Rattle.mp_forms.specs.declared.atom_values.Term.{Term}
+use Rattle.mp_forms.specs.declared.atom_values.Term.TheVariants as terms
+use Rattle.mp_forms.specs.declared.atom_values.Atom.{Atom}
+use Rattle.mp_forms.specs.declared.factor.Factor.{Factor}
 use Rattle.mp_sexp.specs.Numbers.{is_named, number_in}
 use Rattle.mp_joint.specs.declared.fact.NamedFact.{NamedFact}
 use Rattle.mp_joint.specs.Fact.{Text, Privates, is_listed}

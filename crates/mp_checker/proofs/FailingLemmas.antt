@@ -4,11 +4,11 @@ use Rattle.std.specs.List.{position_from, find, flat_map}
 use Rattle.std.specs.Prelude.{slice_get}
 use Rattle.std.proofs.lemmas.Bool.{cases_Bool}
 use Rattle.std.proofs.lemmas.Option.{same_Some, none-some}
-use Rattle.mp_factor.specs.Limits.{names_of_atom}
-use Rattle.mp_factor.specs.declared.typed_values.Typed.{Typed}
-use Rattle.mp_factor.specs.declared.literal.Literal.{Literal}
-use Rattle.mp_factor.specs.declared.schema_values.Schema.{Schema}
-use Rattle.mp_factor.specs.declared.factor.Factor.{Factor}
+use Rattle.mp_forms.specs.Limits.{names_of_atom}
+use Rattle.mp_forms.specs.declared.typed_values.Typed.{Typed}
+use Rattle.mp_forms.specs.declared.literal.Literal.{Literal}
+use Rattle.mp_forms.specs.declared.schema_values.Schema.{Schema}
+use Rattle.mp_forms.specs.declared.factor.Factor.{Factor}
 use Rattle.mp_joint.specs.declared.fact.NamedFact.{NamedFact}
 use Rattle.mp_joint.specs.declared.fact.SignedFact.{SignedFact}
 use Rattle.mp_joint.specs.Fact.{Text, is_among}

@@ -2,15 +2,15 @@
 use Rattle.std.proofs.Common.{◌≡◌, ℕ, suc, ◌+◌, ◌<◌, Bool, true, false, ◌&&◌, ◌||◌, eqb, List, [], ◌∷◌, ◌++◌, map, length, get_or, Option, Some, None, refl, sym, ap, subst, ◌∙◌, arith, inl, inr}
 use Rattle.std.specs.List.{list_any, position_from}
 use Rattle.std.specs.Option.{option_map_or, is_some}
-use Rattle.std.specs.Prelude.{Contains, fold, find, replicate, slice_get, slice_set}
+use Rattle.std.specs.Prelude.{fold, find, replicate, slice_get, slice_set}
 use Rattle.std.specs.Str.{bytes_eq}
 use Rattle.std.proofs.lemmas.Bool.{cases_Bool, and_parts, eqb-true, eq-eqb, eqb-false, false≢true}
 use Rattle.std.proofs.lemmas.List.{get_or-set_same, get_or-set_other, length-set, length-replicate, get_or-replicate, get_or-map, map-append}
 use Rattle.std.proofs.lemmas.Option.{same_Some, slice_get_within}
 use Rattle.mp_list.proofs.Bools.{same_tests}
 use Rattle.mp_list.proofs.Members.{any_from, some_member}
-use Rattle.mp_factor.specs.declared.typed_values.Typed.{Typed}
-use Rattle.mp_factor.specs.declared.factor.Factor.{Factor}
+use Rattle.mp_forms.specs.declared.typed_values.Typed.{Typed}
+use Rattle.mp_forms.specs.declared.factor.Factor.{Factor}
 use Rattle.mp_sexp.specs.Numbers.{is_named, number_in, place_in}
 use Rattle.mp_sexp.proofs.NamesAt.{name_at_number, number_below}
 use Rattle.mp_sexp.proofs.Places.{has_place, is_name}
@@ -18,7 +18,7 @@ use Rattle.mp_typing.specs.Names.{names_of}
 use Rattle.mp_typing.specs.ObjectList.{object_list}
 use Rattle.mp_typing.specs.Places.{numbers_where}
 use Rattle.mp_typing.specs.Under.{is_of_type}
-use Rattle.mp_typing.proofs.Placing.{from_places, to_places}
+use Rattle.mp_typing.proofs.Placing.{passing_place, place_passes}
 use Rattle.mp_joint.specs.Fact.{Text}
 use Rattle.mp_joint.specs.FactorContribution.{declared_objects, may_stand, may_stand_for}
 use Rattle.mp_lifted.specs.Vocabulary.{declared_names}
@@ -81,13 +81,10 @@ placed test objects k o at =
     same_tests (has numbers k) (test o)
     (λ h.
     let (n, found, same) = some_member (λ m. eqb m k) numbers h in
-    let (i, t, is, there, ok) = from_places test 0 objects n found in
-    let e : i ≡ k = let f = eqb-true n k same in omega (arith, is, f) in
-    let t_is : t ≡ o = same_Some t o (sym there ∙ ap (slice_get objects) e ∙ at) in
+    let (t, there, ok) = place_passes test objects n found in
+    let t_is : t ≡ o = same_Some t o (sym there ∙ ap (slice_get objects) (eqb-true n k same) ∙ at) in
     subst (λ x. test x ≡ true) t_is ok)
-    (λ h.
-    let e : 0 + k ≡ k = omega arith in
-    any_from (λ m. eqb m k) numbers k (subst (Contains numbers) e (to_places test 0 objects k o at h)) (eq-eqb k k refl))
+    (λ h. any_from (λ m. eqb m k) numbers k (passing_place test objects k o at h) (eq-eqb k k refl))
 
 flag_of : (factor : Factor) (param : Typed) (k : ℕ) (o : Typed) → slice_get (object_list factor.domain factor.problem) k ≡ Some o
     → get_or (member_flags factor param) k false ≡ is_of_type factor.domain.types (names_of param.types) o

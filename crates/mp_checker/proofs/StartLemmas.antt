@@ -6,10 +6,10 @@ use Rattle.std.proofs.Math.ListN.{drop_of_length-le}
 use Rattle.std.proofs.lemmas.List.{drop_more}
 use Rattle.std.proofs.lemmas.List.Folds.{find-append}
 use Rattle.mp_list.proofs.Bools.{or_false}
-use Rattle.mp_factor.specs.Limits.{names_of_atom}
-use Rattle.mp_factor.specs.declared.atom_values.Atom.{Atom}
-use Rattle.mp_factor.specs.declared.typed_values.Typed.{Typed}
-use Rattle.mp_factor.specs.declared.factor.Factor.{Factor}
+use Rattle.mp_forms.specs.Limits.{names_of_atom}
+use Rattle.mp_forms.specs.declared.atom_values.Atom.{Atom}
+use Rattle.mp_forms.specs.declared.typed_values.Typed.{Typed}
+use Rattle.mp_forms.specs.declared.factor.Factor.{Factor}
 use Rattle.mp_joint.specs.declared.fact.NamedFact.{NamedFact}
 use Rattle.mp_joint.specs.declared.fact.SignedFact.{SignedFact}
 use Rattle.mp_joint.specs.Fact.{Text, same_fact, is_among}

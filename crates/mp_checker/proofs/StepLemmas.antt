@@ -6,11 +6,11 @@ use Rattle.std.specs.Option.{option_map}
 use Rattle.std.proofs.lemmas.Bool.{false≢true, cases_Bool}
 use Rattle.std.proofs.lemmas.List.{map-append, take_all}
 use Rattle.std.proofs.lemmas.Option.{same_Some, none-some}
-use Rattle.mp_factor.specs.Limits.{names_of_atom}
-use Rattle.mp_factor.specs.declared.factor.Factor.{Factor}
-use Rattle.mp_factor.specs.declared.literal.Literal.{Literal}
-use Rattle.mp_factor.specs.declared.schema_values.Schema.{Schema}
-use Rattle.mp_factor.specs.declared.typed_values.Typed.{Typed}
+use Rattle.mp_forms.specs.Limits.{names_of_atom}
+use Rattle.mp_forms.specs.declared.factor.Factor.{Factor}
+use Rattle.mp_forms.specs.declared.literal.Literal.{Literal}
+use Rattle.mp_forms.specs.declared.schema_values.Schema.{Schema}
+use Rattle.mp_forms.specs.declared.typed_values.Typed.{Typed}
 use Rattle.mp_joint.specs.declared.fact.NamedFact.{NamedFact}
 use Rattle.mp_joint.specs.declared.plan.PlanStep.{PlanStep}
 use Rattle.mp_joint.specs.Fact.{Text, same_fact, is_among}

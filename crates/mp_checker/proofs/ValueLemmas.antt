@@ -4,7 +4,7 @@ use Rattle.std.specs.List.{find}
 use Rattle.std.specs.Map.{lookup}
 use Rattle.std.specs.Option.{is_some, option_or, option_map}
 use Rattle.std.proofs.lemmas.List.Folds.{find-append}
-use Rattle.mp_factor.specs.declared.init_values.Value.{Value}
+use Rattle.mp_forms.specs.declared.init_values.Value.{Value}
 use Rattle.mp_joint.specs.Fact.{Text}
 use Rattle.mp_checker.specs.declared.fact.FactNumbers.{FactNumbers}
 use Rattle.mp_checker.specs.Costs.{HasValues, value_in, numbers_of_value}

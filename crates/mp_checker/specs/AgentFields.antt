@@ -1,6 +1,6 @@
 -- What is kept of an agent's factor in numbers.
 use Rattle.std.specs.Prelude.{◌≡◌, map}
-use Rattle.mp_factor.specs.declared.schema_values.Schema.{Schema}
+use Rattle.mp_forms.specs.declared.schema_values.Schema.{Schema}
 use Rattle.mp_joint.specs.FactorContribution.{privates_of, declared_objects}
 use Rattle.mp_lifted.specs.Vocabulary.{declared_names}
 use Rattle.mp_checker.specs.declared.factor.AgentFactor.TheInside.{Inside}

@@ -1,6 +1,6 @@
 -- An agent's factor, with the names of its team.
 use Rattle.std.specs.Prelude.{ℕ, zero, suc, ◌+◌, ◌≡◌, true, List, [], ◌∷◌, Option, None, slice_get}
-use Rattle.mp_factor.specs.declared.factor.Factor.{Factor}
+use Rattle.mp_forms.specs.declared.factor.Factor.{Factor}
 use Rattle.mp_sexp.specs.Numbers.{is_named}
 use Rattle.mp_joint.specs.Fact.{Text}
 

@@ -2,8 +2,8 @@
 use Rattle.std.specs.Prelude.{ℕ, ◌+◌, ◌≡◌, List, [], ◌∷◌, map, find, Option, Some, None, option_and_then}
 use Rattle.std.specs.Map.{lookup}
 use Rattle.std.specs.Option.{option_map}
-use Rattle.mp_factor.specs.Limits.{name_of_term}
-use Rattle.mp_factor.specs.declared.init_values.Value.{Value as FunctionValue}
+use Rattle.mp_forms.specs.Limits.{name_of_term}
+use Rattle.mp_forms.specs.declared.init_values.Value.{Value as FunctionValue}
 use Rattle.mp_sexp.specs.Numbers.{number_in}
 use Rattle.mp_joint.specs.Fact.{Text}
 use Rattle.mp_checker.specs.declared.fact.FactNumbers.{FactNumbers}

@@ -1,8 +1,8 @@
 -- The action of a factor that has a name.
 use Rattle.std.specs.Prelude.{◌≡◌, Some, find}
 use Rattle.std.specs.Str.{bytes_eq}
-use Rattle.mp_factor.specs.Limits.{SchemaFits}
-use Rattle.mp_factor.specs.declared.schema_values.Schema.{Schema}
+use Rattle.mp_forms.specs.Limits.{SchemaFits}
+use Rattle.mp_forms.specs.declared.schema_values.Schema.{Schema}
 use Rattle.mp_joint.specs.Fact.{Text}
 use Rattle.mp_checker.specs.declared.numbered.NumberedAction.{NumberedAction}
 use Rattle.mp_checker.specs.AgentView.{AgentView, Covers, names_of, factor_of}

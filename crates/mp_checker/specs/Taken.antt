@@ -1,6 +1,6 @@
 -- What is found of one step of one agent.
 use Rattle.std.specs.Prelude.{ℕ, ◌≡◌, ◌≤◌, not, List, length, map, find, Option, Some, None}
-use Rattle.mp_factor.specs.declared.factor.Factor.{Factor}
+use Rattle.mp_forms.specs.declared.factor.Factor.{Factor}
 use Rattle.mp_joint.specs.declared.fact.SignedFact.{SignedFact}
 use Rattle.mp_joint.specs.declared.plan.PlanStep.{PlanStep}
 use Rattle.mp_joint.specs.Instance.{State, Instance, holds, after}
@@ -8,7 +8,7 @@ use Rattle.mp_joint.specs.FactorContribution.{instance_at}
 use Rattle.mp_plan_verdict.specs.Written.{asked_at}
 use Rattle.mp_checker.specs.AgentView.{AreKnown}
 use Rattle.mp_checker.specs.Numbering.{object_number}
-use Rattle.mp_factor.specs.declared.typed_values.Typed.{Typed}
+use Rattle.mp_forms.specs.declared.typed_values.Typed.{Typed}
 use Rattle.mp_joint.specs.Fact.{Text}
 use Rattle.mp_joint.specs.FactorContribution.{privates_of}
 use Rattle.mp_checker.specs.declared.numbered.ObjectNumber.{ObjectNumber}

@@ -9,7 +9,7 @@ ghost use Rattle.mp_checker.specs.Private.{private_in};
 use crate::atoms::{numbered_atom, numbered_atoms, numbered_literals};
 use crate::members::all_members;
 use crate::numbered::{Amount, NumberedAction};
-use mp_factor::{Atom, Increase, IncreaseList, Schema, SchemaList, TypedList};
+use mp_forms::{Atom, Increase, IncreaseList, Schema, SchemaList, TypedList};
 use mp_lifted::PrivateNames;
 use mp_list::{List, OutOfMemory};
 use mp_sexp::NameTable;

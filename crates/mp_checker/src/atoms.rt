@@ -5,7 +5,7 @@ ghost use Rattle.mp_checker.specs.Numbering.{parameter_in, object_number as obje
 ghost use Rattle.mp_checker.specs.Private.{private_in};
 
 use crate::numbered::{NumberedAtom, NumberedLiteral, ObjectNumber, TermNumber};
-use mp_factor::{Atom, AtomList, Literal, LiteralList, Term, TermList, TypedList};
+use mp_forms::{Atom, AtomList, Literal, LiteralList, Term, TermList, TypedList};
 use mp_lifted::PrivateNames;
 use mp_list::{List, OutOfMemory, to_u32};
 use mp_sexp::{Name, NameTable};

@@ -1,7 +1,7 @@
 //! The check of a plan.
 
 ghost use Rattle.std.specs.Prelude.{◌≡◌, ◌≤◌, ◌++◌, ◌∷◌, [], ℕ, List as ListOf, length, IfOk, OnOk};
-ghost use Rattle.mp_factor.specs.declared.factor.Factor.{Factor as FactorParts};
+ghost use Rattle.mp_forms.specs.declared.factor.Factor.{Factor as FactorParts};
 ghost use Rattle.mp_joint.specs.FactorContribution.{team_of};
 ghost use Rattle.mp_joint.specs.Plan.{instance_of};
 ghost use Rattle.mp_plan_verdict.specs.Verdict.{verdict, verdict_from, failing_step as failing_step_of, failing_goal as failing_goal_for};

@@ -10,7 +10,7 @@ use crate::numbered::{NumberedAction, ObjectNumber};
 use crate::objects::object_numbers;
 use crate::values::kept_values;
 use indexmap::IndexMap;
-use mp_factor::SchemaList;
+use mp_forms::SchemaList;
 use mp_lifted::{PrivateNames, object_names, private_names};
 use mp_list::{List, OutOfMemory};
 use mp_sets::Agent;

@@ -8,7 +8,7 @@ ghost use Rattle.mp_checker.specs.Found.{IsActionOf};
 
 use crate::factor::AgentFactor;
 use crate::numbered::NumberedAction;
-use mp_factor::Schema;
+use mp_forms::Schema;
 use mp_sexp::Name;
 
 /// An action of a factor, as it is written and in numbers.

@@ -2,13 +2,12 @@
 
 ghost use Rattle.std.specs.Prelude.{◌≡◌, map, false, true, slice_set, slice_index_or, length, IfOk};
 ghost use Rattle.mp_typing.specs.Members.{Members};
-ghost use Rattle.mp_typing.specs.Names.{names_of as names_in};
 ghost use Rattle.mp_typing.specs.ObjectList.{object_list};
 ghost use Rattle.mp_checker.specs.Numbering.{flags_at, member_flags as flags_for};
 
-use mp_factor::{Typed, TypedList, WordList};
-use mp_list::{Copied, List, OutOfMemory};
-use mp_typing::{CheckedFactor, ObjectList, TypeList};
+use mp_forms::{Typed, TypedList};
+use mp_list::{List, OutOfMemory};
+use mp_typing::{CheckedFactor, ObjectList, names_of};
 use std::alloc::Global;
 use std::marker::Model;
 
@@ -61,17 +60,6 @@ fn set_flag(flags: &mut Vec<bool>, number: u64)
     if place < flags.len() {
         flags[place] = true;
     }
-}
-
-/// The names of words.
-fn names_of(alloc: Global, words: &WordList) -> Result<TypeList, OutOfMemory>
-    ensures { IfOk result (λ names. names ≡ names_in words.now) }
-{
-    let mut names = List::with_capacity(alloc, words.len())?;
-    for word in words.as_slice() {
-        names.push(word.name.copy()?)?;
-    }
-    Ok(names)
 }
 
 /// Of so many objects those that may stand for a parameter.

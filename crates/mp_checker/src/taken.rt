@@ -4,7 +4,7 @@ ghost use Rattle.std.specs.Prelude.{◌≡◌, ◌≤◌, map, Some, None, IfOk,
 ghost use Rattle.std.specs.List.{find};
 ghost use Rattle.std.specs.Option.{option_map};
 ghost use Rattle.std.specs.Str.{bytes_eq};
-ghost use Rattle.mp_factor.specs.Limits.{SchemaFits};
+ghost use Rattle.mp_forms.specs.Limits.{SchemaFits};
 ghost use Rattle.mp_joint.specs.FactorContribution.{privates_of, instance_at, instance_of_schema};
 ghost use Rattle.mp_plan_verdict.specs.Written.{signed_facts};
 ghost use Rattle.mp_checker.specs.At.{named_state};
@@ -26,7 +26,7 @@ use crate::numbered::{NumberedAction, NumberedLiteral};
 use crate::room::Room;
 use crate::standing::add_standing;
 use crate::told::signed_fact;
-use mp_factor::{LiteralList, Schema, TypedList};
+use mp_forms::{LiteralList, Schema, TypedList};
 use mp_joint::{PlanStep, SignedFact};
 use mp_list::{List, OutOfMemory};
 use mp_sexp::NameList;

@@ -6,7 +6,7 @@ ghost use Rattle.mp_joint.specs.Fact.{named as named_of, is_listed};
 ghost use Rattle.mp_joint.specs.Grounding.{standing_for as object_for, object_of as object_in, objects_of as objects_in, fact_of};
 ghost use Rattle.mp_checker.specs.Private.{private_in};
 
-use mp_factor::{Literal, Term, TermList, Typed, TypedList};
+use mp_forms::{Literal, Term, TermList, Typed, TypedList};
 use mp_joint::{NamedFact, SignedFact};
 use mp_lifted::PrivateNames;
 use mp_list::{Copied, List, OutOfMemory};

@@ -1,15 +1,14 @@
 //! The values of functions.
 
 ghost use Rattle.std.specs.Prelude.{◌≡◌, ◌++◌, ◌∷◌, [], ℕ, map, List as ListOf, IfOk, OnOk};
-ghost use Rattle.mp_factor.specs.Limits.{name_of_term};
-ghost use Rattle.mp_factor.specs.declared.init_values.Value.{Value as FunctionValue};
+ghost use Rattle.mp_forms.specs.Limits.{name_of_term};
+ghost use Rattle.mp_forms.specs.declared.init_values.Value.{Value as FunctionValue};
 ghost use Rattle.mp_sexp.specs.Numbers.{number_in};
 ghost use Rattle.mp_checker.specs.Costs.{HasValues, numbers_of_value};
 
 use crate::fact::FactNumbers;
-use crate::words::name_in;
 use indexmap::IndexMap;
-use mp_factor::{TermList, Value, ValueList};
+use mp_forms::{TermList, Value, ValueList};
 use mp_list::{List, OutOfMemory, to_u32};
 use mp_sexp::NameTable;
 use std::alloc::Global;
@@ -24,7 +23,7 @@ fn numbers_of_terms(
 {
     let mut numbers = List::with_capacity(alloc, terms.len())?;
     for term in terms.as_slice() {
-        numbers.push(to_u32(names.number(name_in(term)))?)?;
+        numbers.push(to_u32(names.number(term.name()))?)?;
     }
     Ok(numbers)
 }

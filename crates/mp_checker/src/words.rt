@@ -2,37 +2,27 @@
 
 ghost use Rattle.std.specs.Prelude.{◌≡◌, ◌++◌, map, IfOk, OnOk};
 ghost use Rattle.std.specs.List.{flat_map};
-ghost use Rattle.mp_factor.specs.Limits.{name_of_term, names_of_atom};
+ghost use Rattle.mp_forms.specs.Limits.{name_of_term, names_of_atom};
 ghost use Rattle.mp_checker.specs.Words.{names_of_schema, names_of_value, names_of_factor};
 
-use mp_factor::{Atom, AtomList, Factor, Schema, SchemaList, Term, TermList, TypedList, ValueList};
+use mp_forms::{Atom, AtomList, Factor, Schema, SchemaList, TermList, TypedList, ValueList};
 use mp_list::OutOfMemory;
-use mp_sexp::{Name, NameTable};
+use mp_sexp::NameTable;
 use mp_typing::CheckedFactor;
 use std::alloc::Global;
-
-/// The name of a term.
-pub fn name_in(term: &Term) -> &Name
-    ensures { result.now ≡ name_of_term term.now }
-{
-    match term {
-        Term::Variable(word) => &word.name,
-        Term::Object(word) => &word.name,
-    }
-}
 
 /// Adds the names of terms.
 fn add_terms<'a>(names: &mut NameTable<'a>, terms: &'a TermList) -> Result<(), OutOfMemory>
     ensures { OnOk result (names.new ≡ names.old ++ map name_of_term terms.now) }
 {
     for term in terms.as_slice() {
-        names.push(name_in(term))?;
+        names.push(term.name())?;
     }
     Ok(())
 }
 
 /// Adds the names of an atom.
-#[tactic(auto, using(mp_factor::proofs::BuildSteps::append_steps))]
+#[tactic(auto, using(mp_forms::proofs::BuildSteps::append_steps))]
 fn add_atom<'a>(names: &mut NameTable<'a>, atom: &'a Atom) -> Result<(), OutOfMemory>
     ensures { OnOk result (names.new ≡ names.old ++ names_of_atom atom.now) }
 {
@@ -41,7 +31,7 @@ fn add_atom<'a>(names: &mut NameTable<'a>, atom: &'a Atom) -> Result<(), OutOfMe
 }
 
 /// Adds the names of atoms.
-#[tactic(auto, using(mp_factor::proofs::BuildSteps::append_steps))]
+#[tactic(auto, using(mp_forms::proofs::BuildSteps::append_steps))]
 fn add_atoms<'a>(names: &mut NameTable<'a>, atoms: &'a AtomList) -> Result<(), OutOfMemory>
     ensures { OnOk result (names.new ≡ names.old ++ flat_map names_of_atom atoms.now) }
 {
@@ -52,7 +42,7 @@ fn add_atoms<'a>(names: &mut NameTable<'a>, atoms: &'a AtomList) -> Result<(), O
 }
 
 /// Adds the names of an action's effects.
-#[tactic(auto, using(mp_factor::proofs::BuildSteps::append_steps))]
+#[tactic(auto, using(mp_forms::proofs::BuildSteps::append_steps))]
 fn add_schema<'a>(names: &mut NameTable<'a>, schema: &'a Schema) -> Result<(), OutOfMemory>
     ensures { OnOk result (names.new ≡ names.old ++ names_of_schema schema.now) }
 {
@@ -61,7 +51,7 @@ fn add_schema<'a>(names: &mut NameTable<'a>, schema: &'a Schema) -> Result<(), O
 }
 
 /// Adds the names of the effects of actions.
-#[tactic(auto, using(mp_factor::proofs::BuildSteps::append_steps))]
+#[tactic(auto, using(mp_forms::proofs::BuildSteps::append_steps))]
 fn add_schemas<'a>(names: &mut NameTable<'a>, schemas: &'a SchemaList) -> Result<(), OutOfMemory>
     ensures { OnOk result (names.new ≡ names.old ++ flat_map names_of_schema schemas.now) }
 {
@@ -72,7 +62,7 @@ fn add_schemas<'a>(names: &mut NameTable<'a>, schemas: &'a SchemaList) -> Result
 }
 
 /// Adds the names of functions with values.
-#[tactic(auto, using(mp_factor::proofs::BuildSteps::append_steps))]
+#[tactic(auto, using(mp_forms::proofs::BuildSteps::append_steps))]
 fn add_values<'a>(names: &mut NameTable<'a>, values: &'a ValueList) -> Result<(), OutOfMemory>
     ensures { OnOk result (names.new ≡ names.old ++ flat_map names_of_value values.now) }
 {
@@ -93,7 +83,7 @@ fn add_objects<'a>(names: &mut NameTable<'a>, objects: &'a TypedList) -> Result<
 }
 
 /// Adds the names of a factor.
-#[tactic(auto, using(mp_factor::proofs::BuildSteps::append_steps))]
+#[tactic(auto, using(mp_forms::proofs::BuildSteps::append_steps))]
 fn add_factor<'a>(names: &mut NameTable<'a>, factor: &'a Factor) -> Result<(), OutOfMemory>
     ensures { OnOk result (names.new ≡ names.old ++ names_of_factor factor.now) }
 {
@@ -106,7 +96,7 @@ fn add_factor<'a>(names: &mut NameTable<'a>, factor: &'a Factor) -> Result<(), O
 
 /// The names of a team: those of its objects, and those that stand in effects, in initial facts and in values. A name
 /// that stands in several places is there several times.
-#[tactic(auto, using(mp_factor::proofs::BuildSteps::append_steps))]
+#[tactic(auto, using(mp_forms::proofs::BuildSteps::append_steps))]
 pub fn team_names<'a>(
     alloc: Global,
     factors: &'a [CheckedFactor],

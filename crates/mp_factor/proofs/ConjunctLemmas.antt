@@ -1,5 +1,5 @@
 -- The conjuncts of a tree, by the members of its list, and what is said of each of them.
-use Rattle.mp_factor.proofs.Basics.{◌≡◌, ◌<◌, ◌≤◌, Bool, true, false, List, [], ◌∷◌, ◌++◌, map, length, get_or, refl, sym, ap, ◌∙◌, arith, codes, if◌then◌else◌, Vec, append-nil, map-append, flat_map-append, Place, Tree, Node, list, node_of, nodes_in}
+use Rattle.mp_factor.proofs.Basics.{◌≡◌, ◌<◌, ◌≤◌, Bool, true, false, List, [], ◌∷◌, ◌++◌, length, get_or, refl, sym, ap, ◌∙◌, arith, codes, if◌then◌else◌, Vec, Place, Tree, Node, list, node_of, nodes_in}
 use Rattle.mp_factor.proofs.Basics.{node_of-list, is_word, conjuncts, conjuncts_of_all}
 use Rattle.std.proofs.Common.{flat_map}
 use Rattle.std.specs.Prelude.{ℕ}
@@ -66,21 +66,3 @@ of_other tree items place trees l head le is word =
 pub of_word : (tree : Tree) (name : List ℕ) (place : Place) → tree ≡ tree_word name place → conjuncts (node_of tree) ≡ node_of tree ∷ []
 unfolding conjuncts conjuncts_of_all
 of_word tree name place is = rw is refl
-
--- what is said of a lone conjunct, and of those of some members
-pub of_one : {X : Type 0} (says : Node → List X) (node : Node) → conjuncts node ≡ node ∷ [] → flat_map says (conjuncts node) ≡ says node
-of_one says node e = ap (flat_map says) e ∙ append-nil (says node)
-
-pub of_all : {X : Type 0} (says : Node → List X) (nodes : List Node)
-    → flat_map says (flat_map conjuncts nodes) ≡ flat_map (λ n. flat_map says (conjuncts n)) nodes
-of_all says [] = refl
-of_all {X} says (n ∷ ns) =
-    flat_map-append says (conjuncts n) (flat_map conjuncts ns)
-    ∙ ap (λ (xs : List X). flat_map says (conjuncts n) ++ xs) (of_all says ns)
-
-pub map_all : {X : Type 0} (value : Node → X) (nodes : List Node)
-    → map value (flat_map conjuncts nodes) ≡ flat_map (λ n. map value (conjuncts n)) nodes
-map_all value [] = refl
-map_all {X} value (n ∷ ns) =
-    map-append value (conjuncts n) (flat_map conjuncts ns)
-    ∙ ap (λ (xs : List X). map value (conjuncts n) ++ xs) (map_all value ns)

@@ -2,7 +2,7 @@
 use Rattle.mp_factor.proofs.Basics.{◌≡◌, List, ◌++◌, Result, Ok, Err, refl, append_assoc, append-nil, Fault, Change, Effect, Fact, Start, both_found, said_found, atom_in, value_in, empty_start, start_of}
 use Rattle.std.proofs.Common.{flat_map}
 use Rattle.mp_factor.specs.FoundForms.{grown, started}
-use Rattle.mp_factor.specs.Rules.Effects.{adds, deletes, increases}
+use Rattle.mp_forms.specs.Rules.Effects.{adds, deletes, increases}
 use Rattle.mp_factor.proofs.FoundLemmas.{Grows}
 
 -- an effect, and what further changes do

@@ -1,55 +1,12 @@
 -- A map that has the first cost of each function, while values are read.
-use Rattle.mp_factor.proofs.Basics.{◌≡◌, ℕ, suc, ◌+◌, ◌<◌, ◌≤◌, Bool, true, false, not, ◌&&◌, List, [], ◌∷◌, ◌++◌, length, get_or, take, drop, Option, Some, None, Result, refl, sym, ap, subst, ◌∙◌, drop-cons, arith, ◌==◌}
-use Rattle.mp_factor.proofs.Basics.{if◌then◌else◌, Vec, lookup, bytes_eq, drop_of_length-le, append_assoc, append-nil, map-append, flat_map-append, bytes_eq-Decides, Tree, Node, node_of, nodes_in, Fault, names_of_atom, Reading, Says, Wrong, both}
-use Rattle.mp_factor.proofs.Basics.{costly, all_right, found_in, second_found, nothing_found, key_of, key_of_given, AreFirst, Fact, Given, given_in, given, fact_rule, same_names, differs, differing}
-use Rattle.std.specs.Map.{KeepsOthers}
-use Rattle.std.proofs.lemmas.Bool.Decides.{nat_tests}
-use Rattle.std.proofs.lemmas.Cmp.{nat_list_eq_equiv}
+use Rattle.mp_factor.proofs.Basics.{◌≡◌, ℕ, suc, ◌+◌, ◌<◌, ◌≤◌, Bool, true, false, not, cond, List, [], ◌∷◌, ◌++◌, length, get_or, take, drop, Option, Some, None, Result, refl, sym, ap, subst, ◌∙◌, drop-cons, arith, ◌==◌}
+use Rattle.mp_factor.proofs.Basics.{if◌then◌else◌, lookup, drop_of_length-le, append_assoc, append-nil, map-append, flat_map-append, Tree, Node, node_of, nodes_in, Fault, names_of_atom, Reading, Says, Wrong, both}
+use Rattle.mp_factor.proofs.Basics.{costly, all_right, found_in, second_found, nothing_found, AreFirst, Fact, Given, given_in, given, fact_rule, same_names, differs, differing}
 use Rattle.std.proofs.lemmas.List.{take_more}
-use Rattle.mp_factor.specs.FirstCosts.{word_key, first_cost, given_by}
-use Rattle.mp_factor.specs.declared.init_values.Fact.TheVariants.{Holds, Gives}
+use Rattle.mp_forms.proofs.ValueLaws.{same_by_test}
+use Rattle.mp_factor.specs.FirstCosts.{first_cost, given_by}
+use Rattle.mp_forms.specs.declared.init_values.Fact.TheVariants.{Holds, Gives}
 use Rattle.mp_factor.proofs.FoundLemmas.{checks_begin, found_all_right, nothing_second, second_assoc}
-
--- ---- keys
-
-abbrev byte_by_byte : List ℕ → List ℕ → List ℕ → List ℕ → Type 0
-byte_by_byte a b k l = bytes_eq (word_key a ++ k) (word_key b ++ l) ≡ (bytes_eq a b && bytes_eq k l)
-
-one_higher : (x y : ℕ) → (suc x == suc y) ≡ (x == y)
-one_higher x y = grind (arith, nat_tests)
-
-one_byte : (x y : ℕ) (b c : Bool) (rest : Bool) → rest ≡ (b && c) → ((suc x == suc y) && rest) ≡ ((x == y && b) && c)
-one_byte x y b c rest e = rw (e, one_higher x y) (elim (x == y) as (λ t. (t && (b && c)) ≡ ((t && b) && c)) [ true ↦ refl | false ↦ refl ])
-
-zero_below : (y : ℕ) → (0 == suc y) ≡ false
-zero_below y = grind (arith, nat_tests)
-
-below_zero : (x : ℕ) → (suc x == 0) ≡ false
-below_zero x = grind (arith, nat_tests)
-
-word_by_word : (a b k l : List ℕ) → byte_by_byte a b k l
-word_by_word [] [] k l = refl
-word_by_word [] (y ∷ ys) k l = rw (zero_below y) refl
-word_by_word (x ∷ xs) [] k l = rw (below_zero x) refl
-word_by_word (x ∷ xs) (y ∷ ys) k l =
-    one_byte x y (bytes_eq xs ys) (bytes_eq k l) (bytes_eq (word_key xs ++ k) (word_key ys ++ l)) (word_by_word xs ys k l)
-
-some_key : (w k : List ℕ) → bytes_eq [] (word_key w ++ k) ≡ false
-some_key [] k = refl
-some_key (b ∷ bs) k = refl
-
-some_key' : (w k : List ℕ) → bytes_eq (word_key w ++ k) [] ≡ false
-some_key' [] k = refl
-some_key' (b ∷ bs) k = refl
-
--- the same names have the same key, and names of the same key are the same
-same_key : (as' bs : List (List ℕ)) → same_names as' bs ≡ bytes_eq (key_of as') (key_of bs)
-unfolding key_of
-same_key [] [] = refl
-same_key [] (b ∷ bs) = sym (some_key b (key_of bs))
-same_key (a ∷ as') [] = sym (some_key' a (key_of as'))
-same_key (a ∷ as') (b ∷ bs) =
-    ap (λ (t : Bool). bytes_eq a b && t) (same_key as' bs) ∙ sym (word_by_word a b (key_of as') (key_of bs))
 
 -- ---- values that differ
 
@@ -62,12 +19,14 @@ other_by : (b : Bool) (first cost : ℕ) (rest : Bool) (others : Option ℕ) →
 other_by true first cost rest others e = refl
 other_by false first cost rest others e = e
 
-pub differs_by_key : (before : List Given) (g : Given) → differs before g ≡ is_other (first_cost (key_of_given g) before) g.value.cost
+abbrev pub names : Given → List (List ℕ)
+names g = names_of_atom g.value.of
+
+pub differs_by_names : (before : List Given) (g : Given) → differs before g ≡ is_other (first_cost (names g) before) g.value.cost
 unfolding differs first_cost
-differs_by_key [] g = refl
-differs_by_key (e ∷ es) g =
-    rw (same_key (names_of_atom e.value.of) (names_of_atom g.value.of))
-    (other_by (bytes_eq (key_of_given e) (key_of_given g)) e.value.cost g.value.cost (differs es g) (first_cost (key_of_given g) es) (differs_by_key es g))
+differs_by_names [] g = refl
+differs_by_names (e ∷ es) g =
+    other_by (same_names (names e) (names g)) e.value.cost g.value.cost (differs es g) (first_cost (names g) es) (differs_by_names es g)
 
 if_wrong : (b : Bool) (g : Given) → found_in (all_right (λ g. costly g.at) ((if b then g ∷ [] else []) ++ [])) ≡ found_in (if b then costly g.at else Says tt)
 unfolding all_right both
@@ -77,11 +36,11 @@ if_wrong false g = refl
 -- what is wrong with one value
 pub one_differs : (before : List Given) (g : Given)
     → found_in (all_right (λ g. costly g.at) (differing before (g ∷ [])))
-    ≡ found_in (if is_other (first_cost (key_of_given g) before) g.value.cost then costly g.at else Says tt)
+    ≡ found_in (if is_other (first_cost (names g) before) g.value.cost then costly g.at else Says tt)
 unfolding differing
 one_differs before g =
     if_wrong (differs before g) g
-    ∙ ap (λ (b : Bool). found_in {X = Unit {0}} (if b then costly g.at else Says tt)) (differs_by_key before g)
+    ∙ ap (λ (b : Bool). found_in {X = Unit {0}} (if b then costly g.at else Says tt)) (differs_by_names before g)
 
 -- ---- one more value
 
@@ -93,13 +52,13 @@ moves_in : (b : Bool) (cost : ℕ) (x y : Option ℕ) → (if b then Some cost e
 moves_in true cost x y = refl
 moves_in false cost x y = refl
 
-one_more : (key : List ℕ) (before : List Given) (g : Given)
-    → first_cost key (before ++ g ∷ []) ≡ or_else (first_cost key before) (if bytes_eq (key_of_given g) key then Some g.value.cost else None)
+one_more : (key : List (List ℕ)) (before : List Given) (g : Given)
+    → first_cost key (before ++ g ∷ []) ≡ or_else (first_cost key before) (if same_names (names g) key then Some g.value.cost else None)
 unfolding first_cost
 one_more key [] g = refl
 one_more key (e ∷ es) g =
-    ap (λ (o : Option ℕ). if bytes_eq (key_of_given e) key then Some e.value.cost else o) (one_more key es g)
-    ∙ moves_in (bytes_eq (key_of_given e) key) e.value.cost (first_cost key es) (if bytes_eq (key_of_given g) key then Some g.value.cost else None)
+    ap (λ (o : Option ℕ). if same_names (names e) key then Some e.value.cost else o) (one_more key es g)
+    ∙ moves_in (same_names (names e) key) e.value.cost (first_cost key es) (if same_names (names g) key then Some g.value.cost else None)
 
 of_none : (o : Option ℕ) → or_else o None ≡ o
 of_none None = refl
@@ -111,77 +70,51 @@ of_some (Some first) other cost e = refl
 
 -- ---- the map
 
--- the entries of a map from keys to costs
+-- the entries of a map from names to costs
 abbrev pub Entries : Type 0
-Entries = List (Vec ℕ × ℕ)
-
-abbrev pub by_bytes : List ℕ → Vec ℕ → Bool
-by_bytes key k = bytes_eq key k.items
+Entries = List (List (List ℕ) × ℕ)
 
 pub empty : (costs : Entries) → costs ≡ [] → AreFirst costs []
 unfolding first_cost
-empty costs none key = ap (λ (es : Entries). lookup (by_bytes key) es) none
+empty costs none key = ap (λ (es : Entries). lookup (same_names key) es) none
 
-same : (a b : List ℕ) → bytes_eq a b ≡ true → a ≡ b
-same a b e = (bytes_eq-Decides a b).0 e
-
-known_by : (k q : List ℕ) (cost first : ℕ) (before : List Given) (b : Bool) → b ≡ bytes_eq k q → first_cost k before ≡ Some first
+known_by : (k q : List (List ℕ)) (cost first : ℕ) (before : List Given) (b : Bool) → b ≡ same_names k q → first_cost k before ≡ Some first
     → first_cost q before ≡ or_else (first_cost q before) (if b then Some cost else None)
 known_by k q cost first before true e some =
-    sym (of_some (first_cost q before) (Some cost) first (subst (λ (x : List ℕ). first_cost x before ≡ Some first) (same k q (sym e)) some))
+    sym (of_some (first_cost q before) (Some cost) first (subst (λ (x : List (List ℕ)). first_cost x before ≡ Some first) (same_by_test k q (sym e)) some))
 known_by k q cost first before false e some = sym (of_none (first_cost q before))
 
 -- a function that has a first cost keeps it
 pub known : (costs : Entries) (before : List Given) (g : Given) (first : ℕ) → AreFirst costs before
-    → lookup (by_bytes (key_of_given g)) costs ≡ Some first → AreFirst costs (before ++ g ∷ [])
+    → lookup (same_names (names g)) costs ≡ Some first → AreFirst costs (before ++ g ∷ [])
 known costs before g first holds some q =
     holds q
-    ∙ known_by (key_of_given g) q g.value.cost first before (bytes_eq (key_of_given g) q) refl (sym (holds (key_of_given g)) ∙ some)
+    ∙ known_by (names g) q g.value.cost first before (same_names (names g) q) refl (sym (holds (names g)) ∙ some)
     ∙ sym (one_more q before g)
 
-abbrev same_bytes : Vec ℕ → Vec ℕ → Bool
-same_bytes a b = bytes_eq a.items b.items
-
--- a key has this cost now, and all other keys have what they had
-abbrev pub Puts : Entries → Entries → Vec ℕ → ℕ → Type 0
-Puts costs after key cost = (lookup (same_bytes key) after ≡ Some cost) × KeepsOthers same_bytes (same_bytes key) costs after
-
-apart : (a b k : List ℕ) → bytes_eq a b ≡ false → bytes_eq a k ≡ true → bytes_eq b k ≡ false
-apart a b k n y = nat_list_eq_equiv.symm b k ∙ sym (nat_list_eq_equiv.congr a k b y) ∙ n
-
--- other functions keep their first costs
-others : (key : Vec ℕ) (cost : ℕ) (costs after : Entries) → Puts costs after key cost → (q : List ℕ)
-    → bytes_eq key.items q ≡ false → lookup (by_bytes q) after ≡ lookup (by_bytes q) costs
-unfolding KeepsOthers
-others key cost costs after changed q other =
-    changed.1 (by_bytes q) (λ x y. nat_list_eq_equiv.congr q x.items y.items) (λ k. apart key.items q k.items other)
-
-new_by : (key : Vec ℕ) (q : List ℕ) (cost : ℕ) (costs after : Entries) (before : List Given) (b : Bool) → b ≡ bytes_eq key.items q
-    → AreFirst costs before → first_cost key.items before ≡ None → Puts costs after key cost
-    → lookup (by_bytes q) after ≡ or_else (first_cost q before) (if b then Some cost else None)
-new_by key q cost costs after before true e holds none changed =
-    let is : key.items ≡ q = same key.items q (sym e) in
-    subst (λ (k : List ℕ). lookup (by_bytes k) after ≡ or_else (first_cost k before) (Some cost)) is
-    (changed.0 ∙ sym (ap (λ (o : Option ℕ). or_else o (Some cost)) none))
-new_by key q cost costs after before false e holds none changed =
-    others key cost costs after changed q (sym e) ∙ holds q ∙ sym (of_none (first_cost q before))
+new_by : (k q : List (List ℕ)) (cost : ℕ) (before : List Given) (b : Bool) → b ≡ same_names k q → first_cost k before ≡ None
+    → cond b (Some cost) (first_cost q before) ≡ or_else (first_cost q before) (if b then Some cost else None)
+new_by k q cost before true e none =
+    sym (ap (λ (o : Option ℕ). or_else o (Some cost)) (subst (λ (x : List (List ℕ)). first_cost x before ≡ None) (same_by_test k q (sym e)) none))
+new_by k q cost before false e none = sym (of_none (first_cost q before))
 
 -- a function that has no first cost yet
-pub new : (costs after : Entries) (before : List Given) (g : Given) (key : Vec ℕ) → AreFirst costs before
-    → key.items ≡ key_of_given g
-    → lookup (by_bytes key.items) costs ≡ None → Puts costs after key g.value.cost → AreFirst after (before ++ g ∷ [])
-new costs after before g key holds key_is none changed q =
-    new_by key q g.value.cost costs after before (bytes_eq key.items q) refl holds (sym (holds key.items) ∙ none) changed
-    ∙ ap (λ (k : List ℕ). or_else (first_cost q before) (if bytes_eq k q then Some g.value.cost else None)) key_is
+pub new : (costs after : Entries) (before : List Given) (g : Given) → AreFirst costs before → lookup (same_names (names g)) costs ≡ None
+    → ((q : List (List ℕ)) → lookup (same_names q) after ≡ cond (same_names (names g) q) (Some g.value.cost) (lookup (same_names q) costs))
+    → AreFirst after (before ++ g ∷ [])
+new costs after before g holds none puts q =
+    puts q
+    ∙ ap (λ (o : Option ℕ). cond (same_names (names g) q) (Some g.value.cost) o) (holds q)
+    ∙ new_by (names g) q g.value.cost before (same_names (names g) q) refl (sym (holds (names g)) ∙ none)
     ∙ sym (one_more q before g)
 
 -- what the map says of a value
 pub fault_by : (costs : Entries) (before : List Given) (g : Given) → AreFirst costs before
     → found_in (all_right (λ g. costly g.at) (differing before (g ∷ [])))
-    ≡ found_in (if is_other (lookup (by_bytes (key_of_given g)) costs) g.value.cost then costly g.at else Says tt)
+    ≡ found_in (if is_other (lookup (same_names (names g)) costs) g.value.cost then costly g.at else Says tt)
 fault_by costs before g holds =
     one_differs before g
-    ∙ ap (λ (o : Option ℕ). found_in {X = Unit {0}} (if is_other o g.value.cost then costly g.at else Says tt)) (sym (holds (key_of_given g)))
+    ∙ ap (λ (o : Option ℕ). found_in {X = Unit {0}} (if is_other o g.value.cost then costly g.at else Says tt)) (sym (holds (names g)))
 
 -- what is found to be given is what is given
 pub given_found : (r : Reading Fact) → given_by (found_in r) ≡ given_in r

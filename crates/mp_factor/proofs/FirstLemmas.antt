@@ -6,8 +6,8 @@ use Rattle.mp_list.specs.First.{IsStrictOrder, IsTotal, leftmost}
 use Rattle.mp_list.proofs.Orders.{is_less, strict_on, total_on, numbers_strict, numbers_total}
 use Rattle.mp_list.proofs.FirstLemmas.{found_first}
 use Rattle.mp_list.proofs.OneFirst.{first_is_one}
-use Rattle.mp_factor.specs.declared.fault.FaultKind.TheVariants.{Unsupported}
-use Rattle.mp_factor.specs.Faults.{rank_of, order_of, is_earlier}
+use Rattle.mp_forms.specs.declared.fault.FaultKind.TheVariants.{Unsupported}
+use Rattle.mp_forms.specs.Faults.{rank_of, order_of, is_earlier}
 
 abbrev kind_of : ℕ → FaultKind
 kind_of zero = Shape

@@ -1,7 +1,14 @@
 -- What is found where readings are put together.
-use Rattle.mp_factor.proofs.Basics.{◌≡◌, ℕ, suc, ◌+◌, ◌<◌, ◌≤◌, Bool, true, false, List, [], ◌∷◌, ◌++◌, length, get_or, drop, map, Result, Ok, Err, refl, sym, ap, subst, ◌∙◌, drop-cons, arith, if◌then◌else◌, drop_of_length-le, append_assoc}
+use Rattle.mp_factor.proofs.Basics.{◌≡◌, ℕ, suc, ◌+◌, ◌<◌, ◌≤◌, List, [], ◌∷◌, ◌++◌, length, get_or, drop, map, Result, Ok, Err, refl, sym, ap, subst, ◌∙◌, drop-cons, arith, drop_of_length-le, append_assoc}
 use Rattle.mp_factor.proofs.Basics.{append-nil, Node, Fault, IsFirst, Reading, Says, Wrong, faults_in, said, both, each, all_right, earliest_of, found_in, both_found, said_found, more_found, second_found, nothing_found}
 use Rattle.mp_factor.proofs.FirstLemmas.{earliest_append, earliest_first, earlier_assoc}
+
+pub pair_said : {X Y Z : Type 0} → (f : X → Y → Z) (a : Result X Fault) (b : Result Y Fault)
+    → said_found (λ (p : X × Y). f p.0 p.1) (both_found (λ (x : X) (y : Y). (x, y)) a b) ≡ both_found f a b
+pair_said {X} {Y} {Z} f (Ok x) (Ok y) = refl
+pair_said {X} {Y} {Z} f (Ok x) (Err h) = refl
+pair_said {X} {Y} {Z} f (Err g) (Ok y) = refl
+pair_said {X} {Y} {Z} f (Err g) (Err h) = refl
 
 pub found_both : {X Y Z : Type 0} → (join : X → Y → Z) (a : Reading X) (b : Reading Y)
     → found_in (both join a b) ≡ both_found join (found_in a) (found_in b)
@@ -15,10 +22,6 @@ pub found_said : {X Y : Type 0} → (of : X → Y) (a : Reading X) → found_in 
 unfolding said
 found_said of (Says x) = refl
 found_said of (Wrong f fs) = refl
-
-pub found_if : {X : Type 0} → (b : Bool) (r s : Reading X) → found_in (if b then r else s) ≡ (if b then found_in r else found_in s)
-found_if true r s = refl
-found_if false r s = refl
 
 -- ---- a value that grows
 

@@ -1,6 +1,6 @@
 -- A record of what is read part after part.
 use Rattle.mp_factor.proofs.Basics.{◌≡◌, Result, ap, ◌∙◌, Fault, Reading, Says, found_in, both_found, said_found}
-use Rattle.mp_factor.specs.Reading.{◌with◌}
+use Rattle.mp_forms.specs.Reading.{◌with◌}
 use Rattle.mp_factor.proofs.FoundLemmas.{found_both, with_first, with_next}
 
 -- two findings as a pair

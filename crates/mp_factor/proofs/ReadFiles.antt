@@ -1,12 +1,11 @@
 -- A file that is read part after part.
 use Rattle.mp_factor.proofs.Basics.{◌≡◌, ◌<◌, false, List, [], ◌∷◌, length, Option, Some, None, Result, Ok, Err, refl, sym, ap, ◌∙◌, true≢false, arith, codes, Place, Tree, Node, word, list, nodes_in, Fault, Word, Typed, Literal, Start, place_of}
-use Rattle.mp_factor.proofs.Basics.{parts, IsFirst, Reading, Says, faults_in, misshapen, besides, found_in, said_found, second_found, problem_from, KeepsOthers, objects, empty_start, in_section, listed_rule, named_rule, start_rule, goal_rule}
+use Rattle.mp_factor.proofs.Basics.{parts, IsFirst, Reading, Says, faults_in, misshapen, besides, found_in, said_found, second_found, problem_from, objects, empty_start, in_section, listed_rule, named_rule, start_rule, goal_rule}
 use Rattle.mp_factor.proofs.Basics.{define_members, file_rule, problem_of, problem_parts}
 use Rattle.std.specs.Prelude.{ℕ, Bool, IsOk, MatchOption}
-use Rattle.mp_factor.specs.Rules.Sections.{metric_rule}
+use Rattle.mp_forms.specs.Rules.Sections.{metric_rule}
 use Rattle.mp_factor.proofs.FoundLemmas.{found_both, found_says, found_wrong, said_second}
 use Rattle.mp_factor.proofs.PartLemmas.{paired, with_six}
-use Rattle.mp_factor.proofs.SectionLemmas.{same_section}
 
 -- a file by the members of its list; a word has none
 pub file_members : {X : Type 0} → (kind : List ℕ) (inside : Place → Reading Word → List Node → Reading X) (node : Node)
@@ -45,31 +44,26 @@ behind_two {P} {X} of a b r first second p inner out is_first is_second is_p is_
     ∙ ap (λ (o : Result (Unit {0}) Fault). second_found (found_in a) (second_found o (found_in r))) is_second
     ∙ sym (found_both (λ x y. y) a (besides b r) ∙ ap (λ (o : Result X Fault). second_found (found_in a) o) (found_both (λ x y. y) b r))
 
--- a problem of which the objects may be gone once they are read
-pub problem_read : (whole : Place) (title : Reading Word) (sections after : List Node) → KeepsOthers (codes ":objects") sections after
+-- a problem, part by part
+pub problem_read : (whole : Place) (title : Reading Word) (sections : List Node)
     → (name : Result Word Fault) (known : Result ((Word × Word) × List Typed) Fault)
     (found : Result (((((Word × Word) × List Typed) × Start) × List Literal) × Bool) Fault)
     → name ≡ found_in title
     → known ≡ paired (paired name (found_in (in_section (codes ":domain") named_rule (misshapen whole) sections)))
     (found_in (in_section (codes ":objects") (listed_rule objects) (Says []) sections))
-    → found ≡ paired (paired (paired known (found_in (in_section (codes ":init") start_rule (Says empty_start) after)))
-    (found_in (in_section (codes ":goal") goal_rule (Says []) after)))
-    (found_in (in_section (codes ":metric") metric_rule (Says false) after))
+    → found ≡ paired (paired (paired known (found_in (in_section (codes ":init") start_rule (Says empty_start) sections)))
+    (found_in (in_section (codes ":goal") goal_rule (Says []) sections)))
+    (found_in (in_section (codes ":metric") metric_rule (Says false) sections))
     → said_found problem_from found ≡ found_in (problem_parts whole title sections)
 unfolding problem_parts
-problem_read whole title sections after kept name known found is_name is_known is =
+problem_read whole title sections name known found is_name is_known is =
     let domain = in_section (codes ":domain") named_rule (misshapen whole) sections in
     let declared = in_section (codes ":objects") (listed_rule objects) (Says []) sections in
-    let init = in_section (codes ":init") start_rule (Says empty_start) in
-    let goals = in_section (codes ":goal") goal_rule (Says []) in
-    let metric = in_section (codes ":metric") metric_rule (Says false) in
-    let same_init : init after ≡ init sections = same_section _ _ _ sections after (kept (codes ":init") refl) in
-    let same_goals : goals after ≡ goals sections = same_section _ _ _ sections after (kept (codes ":goal") refl) in
-    let same_metric : metric after ≡ metric sections = same_section _ _ _ sections after (kept (codes ":metric") refl) in
-    let read : found ≡ paired (paired (paired (paired (paired (found_in title) (found_in domain)) (found_in declared)) (found_in (init sections))) (found_in (goals sections)))
-    (found_in (metric sections)) = cc in
-    ap (λ r. said_found problem_from r) read
-    ∙ sym (with_six problem_of title domain declared (init sections) (goals sections) (metric sections))
+    let init = in_section (codes ":init") start_rule (Says empty_start) sections in
+    let goals = in_section (codes ":goal") goal_rule (Says []) sections in
+    let metric = in_section (codes ":metric") metric_rule (Says false) sections in
+    let read : found ≡ paired (paired (paired (paired (paired (found_in title) (found_in domain)) (found_in declared)) (found_in init)) (found_in goals)) (found_in metric) = cc in
+    ap (λ r. said_found problem_from r) read ∙ sym (with_six problem_of title domain declared init goals metric)
 
 -- the first of what is wrong, where there is something
 pub first_fault : {P X : Type 0} → (of : P → X) (found : Result P Fault) (reading : Reading X) (o : Option Fault)

@@ -1,9 +1,6 @@
--- Sections: what each of some says, and which stay where one is let go.
-use Rattle.mp_factor.proofs.Basics.{◌≡◌, ℕ, zero, suc, ◌+◌, ◌<◌, ◌≤◌, Bool, true, false, List, [], ◌∷◌, ◌++◌, length, drop, map, Result, Ok, Err, refl, sym, ap, ◌∙◌, get_or, drop-cons, arith, if◌then◌else◌, filter, bytes_eq, drop_of_length-le}
-use Rattle.mp_factor.proofs.Basics.{append_assoc, Tree, Node, node_of, nodes_in, Fault, is_headed, parts, place_of, Reading, misshapen, besides, each, all_right, at_most, of_first, once, found_in, both_found, more_found, KeepsOthers, in_section}
-use Rattle.std.proofs.Common.{set}
-use Rattle.mp_factor.specs.Parts.{begins_with}
-use Rattle.mp_factor.proofs.OneWord.{no_other_word}
+-- What each of some sections says.
+use Rattle.mp_factor.proofs.Basics.{◌≡◌, ℕ, suc, ◌+◌, ◌<◌, ◌≤◌, Bool, true, false, List, [], ◌∷◌, ◌++◌, length, drop, map, Result, Ok, Err, refl, sym, ap, ◌∙◌, get_or, drop-cons, arith, if◌then◌else◌, filter, drop_of_length-le}
+use Rattle.mp_factor.proofs.Basics.{append_assoc, Node, Fault, Reading, each, found_in, both_found, more_found}
 use Rattle.mp_factor.proofs.FirstLemmas.{earlier_assoc}
 use Rattle.mp_factor.proofs.FoundLemmas.{lists, begins, found_each, none_more, one_more}
 
@@ -88,35 +85,3 @@ unfolding each
 each_that_ends {A} f test rule so_far whole xs i le known =
     sym (no_more so_far)
     ∙ sym (ap (λ (ys : List A). more_found so_far (each_that test rule (map f ys))) (drop_of_length-le xs le)) ∙ known
-
--- ---- a section is let go
-
--- what a section says stays where the sections of its word stay
-pub same_section : {X : Type 0} → (w : List ℕ) (rule : Node → Reading X) (missing : Reading X) (before after : List Node)
-    → filter (is_headed w) after ≡ filter (is_headed w) before → in_section w rule missing after ≡ in_section w rule missing before
-unfolding once at_most
-same_section {X} w rule missing before after same =
-    ap (λ (ns : List Node). besides (all_right (λ n. misshapen (place_of n)) (drop 1 ns)) (of_first rule missing ns)) same
-
-begins_otherwise : (keyword other : List ℕ) (ns : List Node) → bytes_eq keyword other ≡ false → begins_with keyword ns ≡ true
-    → begins_with other ns ≡ false
-begins_otherwise keyword other [] apart is = refl
-begins_otherwise keyword other (n ∷ ns) apart is = no_other_word keyword other n apart is
-
-others_stay : (keyword other : List ℕ) (trees : List Tree) (i : ℕ) (emptied d : Tree) → bytes_eq keyword other ≡ false
-    → is_headed keyword (node_of (get_or trees i d)) ≡ true → parts (node_of emptied) ≡ []
-    → filter (is_headed other) (nodes_in (set trees i emptied)) ≡ filter (is_headed other) (nodes_in trees)
-others_stay keyword other [] i emptied d apart headed gone = refl
-others_stay keyword other (t ∷ ts) zero emptied d apart headed gone =
-    let rest = filter (is_headed other) (nodes_in ts) in
-    ap (λ (ns : List Node). (if begins_with other ns then node_of emptied ∷ rest else rest)) gone
-    ∙ sym (ap (λ (b : Bool). (if b then node_of t ∷ rest else rest)) (begins_otherwise keyword other (parts (node_of t)) apart headed))
-others_stay keyword other (t ∷ ts) (suc i) emptied d apart headed gone =
-    ap (λ (ns : List Node). (if is_headed other (node_of t) then node_of t ∷ ns else ns))
-    (others_stay keyword other ts i emptied d apart headed gone)
-
-pub kept_with_one_more : (keyword : List ℕ) (before : List Node) (trees : List Tree) (i : ℕ) (emptied d : Tree)
-    → KeepsOthers keyword before (nodes_in trees) → is_headed keyword (node_of (get_or trees i d)) ≡ true
-    → parts (node_of emptied) ≡ [] → KeepsOthers keyword before (nodes_in (set trees i emptied))
-kept_with_one_more keyword before trees i emptied d kept headed gone other apart =
-    others_stay keyword other trees i emptied d apart headed gone ∙ kept other apart

@@ -1,10 +1,6 @@
 -- The first of some trees and the others, as a pattern on a slice has them.
 use Rattle.mp_factor.proofs.Basics.{◌≡◌, ◌<◌, ◌≤◌, ◌-◌, ℕ, List, [], ◌∷◌, length, get_or, take, drop, refl, sym, ap, ◌∙◌, arith, Tree, node_of, nodes_in}
-
--- all of some trees
-take_whole : (ts : List Tree) → take (length ts) ts ≡ ts
-take_whole [] = refl
-take_whole (t ∷ ts) = ap (λ (xs : List Tree). t ∷ xs) (take_whole ts)
+use Rattle.std.proofs.lemmas.List.{take_all}
 
 -- what stands behind this many trees
 abbrev pub behind : ℕ → List Tree → List Tree
@@ -16,7 +12,7 @@ pub first_and_others : (trees : List Tree) (tree : Tree) → 1 ≤ length trees 
 first_and_others [] tree le is = absurd (omega (arith, le))
 first_and_others (t ∷ ts) tree le is =
     let e : length (t ∷ ts) - 1 ≡ length ts = omega arith in
-    let others : take (length (t ∷ ts) - 1) ts ≡ ts = rw e (take_whole ts) in
+    let others : take (length (t ∷ ts) - 1) ts ≡ ts = take_all _ ts (omega (arith, e)) in
     ap (λ (x : Tree). node_of x ∷ nodes_in ts) (sym is)
     ∙ ap (λ (xs : List Tree). node_of tree ∷ nodes_in xs) (sym others)
 
@@ -27,7 +23,7 @@ two_and_others [] one two le is is' = absurd (omega (arith, le))
 two_and_others (t ∷ []) one two le is is' = absurd (omega (arith, le))
 two_and_others (t ∷ u ∷ ts) one two le is is' =
     let e : length (t ∷ u ∷ ts) - 2 ≡ length ts = omega arith in
-    let others : take (length (t ∷ u ∷ ts) - 2) ts ≡ ts = rw e (take_whole ts) in
+    let others : take (length (t ∷ u ∷ ts) - 2) ts ≡ ts = take_all _ ts (omega (arith, e)) in
     ap (λ (x : Tree). node_of x ∷ node_of u ∷ nodes_in ts) (sym is)
     ∙ ap (λ (x : Tree). node_of one ∷ node_of x ∷ nodes_in ts) (sym is')
     ∙ ap (λ (xs : List Tree). node_of one ∷ node_of two ∷ nodes_in xs) (sym others)

@@ -5,6 +5,7 @@ use Rattle.mp_factor.proofs.Basics.{second_found, group_size, items_found, AreBe
 use Rattle.mp_factor.specs.FoundForms.{ends, group_found}
 use Rattle.mp_factor.proofs.FirstLemmas.{earlier_assoc}
 use Rattle.mp_factor.proofs.FoundLemmas.{found_both, found_said, found_each, lists, none_more, begins}
+use Rattle.std.proofs.lemmas.Bool.{or_parts}
 
 -- ---- one member
 
@@ -85,10 +86,6 @@ one_with (Err f) (Ok ms) (Err h) = refl
 one_with (Err f) (Err g) (Ok d) = refl
 one_with (Err f) (Err g) (Err h) = ap Err (sym (earlier_assoc f g h))
 
-neither : (a b : Bool) → (a || b) ≡ false → (a ≡ false) × (b ≡ false)
-neither true b e = absurd (true≢false e)
-neither false b e = (refl, e)
-
 group_by : {X T : Type 0} → (l : Listing X T) (whole : Place) (t : Node) (ts : List Node) (k : ℕ) (b : Bool) → ends l t ≡ b
     → found_in (typed_from l whole l.takes_type ts)
     ≡ both_found items_with (found_in (each l.item (take k ts))) (found_in (typed_from l whole l.takes_type (drop k ts)))
@@ -98,7 +95,7 @@ group_by : {X T : Type 0} → (l : Listing X T) (whole : Place) (t : Node) (ts :
 unfolding each
 group_by l whole t ts k true e shorter = sym (none_with (found_in (typed_from l whole l.takes_type (t ∷ ts))))
 group_by {X} {T} l whole t ts k false e shorter =
-    let parts = neither (l.takes_type && is_dash t) (l.is_block t) e in
+    let parts = or_parts (l.takes_type && is_dash t) (l.is_block t) e in
     let rest = found_in (typed_from l whole l.takes_type (drop k ts)) in
     item_from l whole l.takes_type t ts parts.0 parts.1
     ∙ ap (λ (r : Result (Declared X T) Fault). both_found with_item (found_in (l.item t)) r) shorter

@@ -1,9 +1,9 @@
 -- What the functions that read find in a tree: what it says, or the first of all that is wrong with it. No public clause
 -- cites this module.
 use Rattle.std.specs.Prelude.{List, [], ◌∷◌, ◌++◌, Result, Ok, Err, if◌then◌else◌}
-use Rattle.mp_factor.specs.declared.fault.Fault.{Fault}
-use Rattle.mp_factor.specs.Faults.{is_earlier}
-use Rattle.mp_factor.specs.Reading.{Reading, Says, Wrong}
+use Rattle.mp_forms.specs.declared.fault.Fault.{Fault}
+use Rattle.mp_forms.specs.Faults.{is_earlier}
+use Rattle.mp_forms.specs.Reading.{Reading, Says, Wrong}
 
 -- the earlier of two faults, the first where none is earlier
 unfoldable pub earlier_of : Fault → Fault → Fault

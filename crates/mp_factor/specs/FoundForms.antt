@@ -2,24 +2,24 @@
 -- this module.
 use Rattle.std.specs.Prelude.{◌≡◌, ◌&&◌, ◌||◌, ℕ, suc, Bool, true, List, [], ◌∷◌, ◌++◌, map, Result, if◌then◌else◌}
 use Rattle.mp_sexp.specs.Node.{Node, node_of, nodes_in}
-use Rattle.mp_factor.specs.declared.fault.Fault.{Fault}
+use Rattle.mp_forms.specs.declared.fault.Fault.{Fault}
 use Rattle.mp_factor.specs.declared.keys.Key.{Key as KeyTrees}
-use Rattle.mp_factor.specs.declared.word.Word.{Word}
-use Rattle.mp_factor.specs.declared.typed_values.Typed.{Typed}
-use Rattle.mp_factor.specs.declared.signature_values.Signature.{Signature}
-use Rattle.mp_factor.specs.declared.literal.Literal.{Literal}
-use Rattle.mp_factor.specs.declared.schema_values.Schema.{Schema}
-use Rattle.mp_factor.specs.declared.effect_values.Change.{Change}
-use Rattle.mp_factor.specs.declared.effect_values.Effect.{Effect}
-use Rattle.mp_factor.specs.declared.init_values.Fact.{Fact}
-use Rattle.mp_factor.specs.declared.init_values.Start.{Start}
-use Rattle.mp_factor.specs.FactorParts.{DomainParts, ProblemParts}
+use Rattle.mp_forms.specs.declared.word.Word.{Word}
+use Rattle.mp_forms.specs.declared.typed_values.Typed.{Typed}
+use Rattle.mp_forms.specs.declared.signature_values.Signature.{Signature}
+use Rattle.mp_forms.specs.declared.literal.Literal.{Literal}
+use Rattle.mp_forms.specs.declared.schema_values.Schema.{Schema}
+use Rattle.mp_forms.specs.declared.effect_values.Change.{Change}
+use Rattle.mp_forms.specs.declared.effect_values.Effect.{Effect}
+use Rattle.mp_forms.specs.declared.init_values.Fact.{Fact}
+use Rattle.mp_forms.specs.declared.init_values.Start.{Start}
+use Rattle.mp_forms.specs.FactorParts.{DomainParts, ProblemParts}
 use Rattle.mp_factor.specs.Found.{both_found, said_found}
-use Rattle.mp_factor.specs.Rules.Effects.{add_in, delete_in, increase_in}
-use Rattle.mp_factor.specs.Rules.Typed.{Listing, Declared, is_dash}
-use Rattle.mp_factor.specs.Rules.Actions.{Key, keyed, schema_of}
-use Rattle.mp_factor.specs.Rules.Init.{atom_in, value_in}
-use Rattle.mp_factor.specs.Rules.Files.{domain_of, problem_of}
+use Rattle.mp_forms.specs.Rules.Effects.{add_in, delete_in, increase_in}
+use Rattle.mp_forms.specs.Rules.Typed.{Listing, Declared, is_dash}
+use Rattle.mp_forms.specs.Rules.Actions.{Key, keyed, schema_of}
+use Rattle.mp_forms.specs.Rules.Init.{atom_in, value_in}
+use Rattle.mp_forms.specs.Rules.Files.{domain_of, problem_of}
 
 -- what an effect does with one change more
 abbrev pub grown : Effect → Change → Effect

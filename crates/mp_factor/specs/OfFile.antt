@@ -1,8 +1,8 @@
 -- What is said of domains and of problems, by which of an agent's two files it is.
 use Rattle.std.specs.Prelude.{ℕ, List, codes}
-use Rattle.mp_factor.specs.declared.files.File.{File}
-use Rattle.mp_factor.specs.declared.files.File.TheVariants.{Domain, Problem}
-use Rattle.mp_factor.specs.Rules.Sections.{domain_words, problem_words}
+use Rattle.mp_forms.specs.declared.files.File.{File}
+use Rattle.mp_forms.specs.declared.files.File.TheVariants.{Domain, Problem}
+use Rattle.mp_forms.specs.Rules.Sections.{domain_words, problem_words}
 
 -- the words that begin its sections, and those that begin the sections of the other file
 abbrev pub own_words : File → List (List ℕ)

@@ -1,11 +1,11 @@
 -- What a refusal says of a tree that is no domain or problem.
 use Rattle.std.specs.Prelude.{◌≡◌, ◌⊎◌}
-use Rattle.mp_factor.specs.declared.fault.Fault.{Fault}
-use Rattle.mp_factor.specs.declared.fault.FaultKind.TheVariants as kinds
+use Rattle.mp_forms.specs.declared.fault.Fault.{Fault}
+use Rattle.mp_forms.specs.declared.fault.FaultKind.TheVariants as kinds
 use Rattle.mp_factor.specs.declared.refusal.ShapeRefusal.{ShapeRefusal}
 use Rattle.mp_factor.specs.declared.refusal.ShapeRefusal.TheVariants.{Shape, Unsupported, Parameters, Cost, OutOfMemory}
-use Rattle.mp_factor.specs.Faults.{IsFirst}
-use Rattle.mp_factor.specs.Reading.{Reading, faults_in}
+use Rattle.mp_forms.specs.Faults.{IsFirst}
+use Rattle.mp_forms.specs.Reading.{Reading, faults_in}
 
 -- this refusal tells this fault; want of memory may always be told
 abbrev pub Says : Fault → ShapeRefusal → Type 0

@@ -2,54 +2,17 @@
 
 ghost use Rattle.std.specs.Prelude.{◌≡◌, IfOk};
 ghost use Rattle.mp_sexp.specs.Node.{node_of, nodes_in};
-ghost use Rattle.mp_factor.specs.Reading.{both, each};
-ghost use Rattle.mp_factor.specs.Found.{found_in, both_found, said_found};
-ghost use Rattle.mp_factor.specs.declared.atom_values.Term.TheVariants.{Object as ObjectOf};
-ghost use Rattle.mp_factor.specs.Rules.Atoms.{object_rule, term_rule, predicate_rule, applied, applied_rule, atom_rule};
+ghost use Rattle.mp_forms.specs.Reading.{both, each};
+ghost use Rattle.mp_factor.specs.Found.{found_in};
+ghost use Rattle.mp_forms.specs.Rules.Atoms.{object_rule, term_rule, predicate_rule, applied, applied_rule, atom_rule};
 
 use crate::found::{Form, Found, pair, read_each, shape_fault, word_fault};
 use crate::trees::{is_fixed, is_variable, members, place};
-use crate::word::{NameForm, Word, word_in};
-use mp_list::{List, OutOfMemory};
+use crate::word::{NameForm, word_in};
+use mp_forms::{Atom, Term, Word};
+use mp_list::OutOfMemory;
 use mp_sexp::Tree;
 use std::alloc::Global;
-
-/// What an atom is about.
-#[derive(Drop)]
-pub enum Term {
-    /// A variable, its `?` included.
-    Variable(Word),
-    /// The name of an object or constant.
-    Object(Word),
-}
-
-/// Terms in the order of the file.
-pub type TermList = List<Term>;
-
-/// A predicate or function applied to terms.
-pub struct Atom {
-    pub word: Word,
-    pub terms: TermList,
-}
-
-impl Drop for Atom {
-    fn drop(self) {
-        let Atom { word: _, terms: _ } = self;
-    }
-}
-
-/// Atoms in the order of the file.
-pub type AtomList = List<Atom>;
-
-/// The object of this name.
-fn object(name: Found<Word>) -> Found<Term>
-    ensures { result ≡ said_found ObjectOf name }
-{
-    match name {
-        Ok(word) => Ok(Term::Object(word)),
-        Err(fault) => Err(fault),
-    }
-}
 
 /// The name of an object.
 #[derive(Clone, Copy)]
@@ -60,7 +23,7 @@ impl Form<Term> for ObjectForm {
     ghost rule = { λ form node. object_rule node };
 
     fn read(&self, alloc: Global, tree: &Tree) -> Result<Found<Term>, OutOfMemory> {
-        Ok(object(NameForm.read(alloc, tree)?))
+        Ok(NameForm.read(alloc, tree)?.map(|word| Term::Object(word)))
     }
 }
 
@@ -68,7 +31,7 @@ impl Form<Term> for ObjectForm {
 #[derive(Clone, Copy)]
 pub struct TermForm;
 
-#[tactic(auto, unfolding(crate::specs::Rules::Atoms::term_rule))]
+#[tactic(auto, unfolding(mp_forms::specs::Rules::Atoms::term_rule))]
 impl Form<Term> for TermForm {
     ghost rule = { λ form node. term_rule node };
 
@@ -85,7 +48,7 @@ impl Form<Term> for TermForm {
 #[derive(Clone, Copy)]
 pub struct PredicateForm;
 
-#[tactic(auto, unfolding(crate::specs::Rules::Atoms::predicate_rule))]
+#[tactic(auto, unfolding(mp_forms::specs::Rules::Atoms::predicate_rule))]
 impl Form<Word> for PredicateForm {
     ghost rule = { λ form node. predicate_rule node };
 
@@ -98,18 +61,8 @@ impl Form<Word> for PredicateForm {
     }
 }
 
-/// This name applied to these terms.
-fn atom_of(word: Found<Word>, terms: Found<TermList>) -> Found<Atom>
-    ensures { result ≡ both_found applied word terms }
-{
-    match pair(word, terms) {
-        Ok((word, terms)) => Ok(Atom { word, terms }),
-        Err(fault) => Err(fault),
-    }
-}
-
 /// A name applied to terms, of these forms. Refuses only for want of memory.
-#[tactic(auto, using(crate::proofs::FoundLemmas::found_both))]
+#[tactic(auto, using(crate::proofs::FoundLemmas::found_both, crate::proofs::FoundLemmas::pair_said))]
 fn read_members<N: Form<Word>, T: Form<Term>>(
     alloc: Global,
     forms: &Applied<N, T>,
@@ -120,7 +73,8 @@ fn read_members<N: Form<Word>, T: Form<Term>>(
         (N.rule forms.now.name (node_of head.now)) (each (T.rule forms.now.term) (nodes_in terms.now)))) }
 {
     let word = forms.name.read(alloc, head)?;
-    Ok(atom_of(word, read_each(alloc, &forms.term, terms)?))
+    let atom = pair(word, read_each(alloc, &forms.term, terms)?);
+    Ok(atom.map(|(word, terms)| Atom { word, terms }))
 }
 
 /// A name of a form applied to terms of a form.
@@ -130,7 +84,7 @@ pub struct Applied<N, T> {
     pub term: T,
 }
 
-#[tactic(auto, unfolding(crate::specs::Rules::Atoms::applied_rule))]
+#[tactic(auto, unfolding(mp_forms::specs::Rules::Atoms::applied_rule))]
 impl<N: Form<Word>, T: Form<Term>> Form<Atom> for Applied<N, T> {
     ghost rule = { λ forms node. applied_rule (N.rule forms.name) (T.rule forms.term) node };
 

@@ -2,9 +2,9 @@
 
 ghost use Rattle.std.specs.Prelude.{◌≡◌, ◌++◌, ◌∷◌, [], List, map, IfOk, OnOk};
 ghost use Rattle.std.specs.List.{flat_map};
-ghost use Rattle.mp_sexp.specs.Node.{Node, node_of, nodes_in};
-ghost use Rattle.mp_factor.specs.Conjuncts.{conjuncts};
-ghost use Rattle.mp_factor.specs.Reading.{each};
+ghost use Rattle.mp_sexp.specs.Node.{node_of, nodes_in};
+ghost use Rattle.mp_forms.specs.Conjuncts.{conjuncts};
+ghost use Rattle.mp_forms.specs.Reading.{each};
 ghost use Rattle.mp_factor.specs.Found.{found_in};
 
 use crate::found::{Form, Found, with_item};
@@ -45,7 +45,7 @@ fn add_conjuncts<'t>(out: &mut Vec<&'t Tree>, tree: &'t Tree) -> Result<(), OutO
 }
 
 /// Adds the conjuncts of some trees. Refuses only for want of memory.
-#[tactic(auto, using(crate::proofs::BuildSteps::append_steps))]
+#[tactic(auto, using(mp_forms::proofs::BuildSteps::append_steps))]
 #[cycle(conjuncts)]
 fn add_all_conjuncts<'t>(out: &mut Vec<&'t Tree>, trees: &'t [Tree]) -> Result<(), OutOfMemory>
     ensures { OnOk result (map (λ t. node_of t.now) out.new.items

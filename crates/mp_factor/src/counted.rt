@@ -1,11 +1,12 @@
 //! What may stand at most so many times.
 
 ghost use Rattle.std.specs.Prelude.{◌≡◌, ◌==◌, ◌&&◌, ◌-◌, Err, if◌then◌else◌};
-ghost use Rattle.mp_factor.specs.Faults.{fault_at};
+ghost use Rattle.mp_forms.specs.Faults.{fault_at};
 ghost use Rattle.mp_factor.specs.Found.{second_found, nothing_found};
 
-use crate::fault::{FaultKind, without_word};
+use crate::fault::without_word;
 use crate::found::{Found, second};
+use mp_forms::FaultKind;
 use mp_sexp::Place;
 use std::alloc::Global;
 

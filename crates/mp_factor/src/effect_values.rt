@@ -1,63 +1,27 @@
 //! Costs, and what effects say: adds, deletes and increases of the total cost.
 
-ghost use Rattle.std.specs.Prelude.{◌≡◌, ◌++◌, ◌∷◌, [], List, ℕ, map, ◌-◌, if◌then◌else◌, IfOk, OnOk};
-ghost use Rattle.std.specs.List.{flat_map};
+ghost use Rattle.std.specs.Prelude.{◌≡◌, [], List, map, ◌-◌, IfOk, OnOk};
 ghost use Rattle.mp_sexp.specs.Node.{node_of, nodes_in};
-ghost use Rattle.mp_factor.specs.declared.effect_values.Change.{Change as ChangeOf};
-ghost use Rattle.mp_factor.specs.declared.effect_values.Change.TheVariants.{Add as AddOf, Delete as DeleteOf, Grow as GrowOf};
-ghost use Rattle.mp_factor.specs.declared.effect_values.Increase.TheVariants.{Number as NumberOf, Function as FunctionOf};
-ghost use Rattle.mp_factor.specs.Conjuncts.{is_increase as increase_test};
-ghost use Rattle.mp_factor.specs.Limits.{most_increases};
-ghost use Rattle.mp_factor.specs.Reading.{besides, each, nothing_more, at_most};
-ghost use Rattle.mp_factor.specs.Found.{found_in, said_found, both_found, second_found};
+ghost use Rattle.mp_forms.specs.Conjuncts.{is_increase as increase_test};
+ghost use Rattle.mp_forms.specs.Limits.{most_increases};
+ghost use Rattle.mp_forms.specs.Reading.{besides, each, nothing_more, at_most};
+ghost use Rattle.mp_factor.specs.Found.{found_in, said_found, both_found};
 ghost use Rattle.mp_factor.specs.FoundForms.{grown};
-ghost use Rattle.mp_factor.specs.Rules.Words.{name_rule};
-ghost use Rattle.mp_factor.specs.Rules.Costs.{allowed, cost_rule};
-ghost use Rattle.mp_factor.specs.Rules.Effects.{target_rule, amount_rule, increase_members, increase_rule, change_rule, surplus_increase, effect_rule, effect_of};
+ghost use Rattle.mp_forms.specs.Rules.Costs.{allowed, cost_rule};
+ghost use Rattle.mp_forms.specs.Rules.Effects.{target_rule, amount_rule, increase_rule, change_rule, surplus_increase, effect_rule, effect_of};
 
-use crate::atom_values::{Applied, Atom, AtomForm, AtomList, TermForm};
+use crate::atom_values::{Applied, AtomForm, TermForm};
 use crate::conjuncts::conjuncts_in;
 use crate::counted::{Room, counted};
-use crate::fault::FaultKind;
 use crate::found::{Form, Found, cost_fault, expect_end, pair, second, shape_fault, word_fault};
 use crate::literal::NegatedForm;
 use crate::numbers::{cost, is_number};
 use crate::trees::{is_headed, is_list, is_word, members, place, word};
 use crate::word::NameForm;
+use mp_forms::{Change, Effect, FaultKind, Increase};
 use mp_list::{List, OutOfMemory};
 use mp_sexp::{Place, Tree};
 use std::alloc::Global;
-
-/// By how much an action increases the total cost.
-#[derive(Drop)]
-pub enum Increase {
-    /// By a cost of at most 1,000,000.
-    Number(u64),
-    /// By the value of a function.
-    Function(Atom),
-}
-
-/// Increases in the order of the file.
-pub type IncreaseList = List<Increase>;
-
-/// What a conjunct of an effect does.
-#[derive(Drop)]
-pub enum Change {
-    /// It makes an atom true.
-    Add(Atom),
-    /// It makes an atom false.
-    Delete(Atom),
-    /// It increases the total cost.
-    Grow(Increase),
-}
-
-/// What an effect does.
-#[derive(Drop)]
-pub struct Effect {
-    pub add: AtomList,
-    pub del: AtomList,
-    pub increases: IncreaseList,
-}
 
 /// The most increases of an action.
 const MOST_INCREASES: u64 = 16;
@@ -76,7 +40,7 @@ fn allowed_cost(alloc: Global, place: Place, cost: Option<u64>) -> Found<u64>
 #[derive(Clone, Copy)]
 pub struct CostForm;
 
-#[tactic(auto, unfolding(crate::specs::Rules::Costs::cost_rule))]
+#[tactic(auto, unfolding(mp_forms::specs::Rules::Costs::cost_rule))]
 impl Form<u64> for CostForm {
     ghost rule = { λ form node. cost_rule node };
 
@@ -90,7 +54,7 @@ impl Form<u64> for CostForm {
 }
 
 /// What is increased, where `head` is the word `increase`: the total cost alone. Refuses only for want of memory.
-#[tactic(auto, unfolding(crate::specs::Rules::Effects::target_rule))]
+#[tactic(auto, unfolding(mp_forms::specs::Rules::Effects::target_rule))]
 fn check_target(alloc: Global, head: &Tree, tree: &Tree) -> Result<Found<()>, OutOfMemory>
     ensures { IfOk result (λ found. found ≡ found_in (target_rule (node_of head.now) (node_of tree.now))) }
 {
@@ -109,28 +73,8 @@ fn check_target(alloc: Global, head: &Tree, tree: &Tree) -> Result<Found<()>, Ou
     }
 }
 
-/// The increase by this cost.
-fn by_number(cost: Found<u64>) -> Found<Increase>
-    ensures { result ≡ said_found NumberOf cost }
-{
-    match cost {
-        Ok(cost) => Ok(Increase::Number(cost)),
-        Err(fault) => Err(fault),
-    }
-}
-
-/// The increase by the value of this function.
-fn by_function(atom: Found<Atom>) -> Found<Increase>
-    ensures { result ≡ said_found FunctionOf atom }
-{
-    match atom {
-        Ok(atom) => Ok(Increase::Function(atom)),
-        Err(fault) => Err(fault),
-    }
-}
-
 /// A number, or a function applied to terms. Refuses only for want of memory.
-#[tactic(auto, using(crate::proofs::FoundLemmas::found_said), unfolding(crate::specs::Rules::Effects::amount_rule))]
+#[tactic(auto, using(crate::proofs::FoundLemmas::found_said), unfolding(mp_forms::specs::Rules::Effects::amount_rule))]
 fn read_amount(alloc: Global, tree: &Tree) -> Result<Found<Increase>, OutOfMemory>
     ensures { IfOk result (λ found. found ≡ found_in (amount_rule (node_of tree.now))) }
 {
@@ -139,9 +83,17 @@ fn read_amount(alloc: Global, tree: &Tree) -> Result<Found<Increase>, OutOfMemor
             name: NameForm,
             term: TermForm,
         };
-        Ok(by_function(function.read(alloc, tree)?))
+        Ok(
+            function
+                .read(alloc, tree)?
+                .map(|atom| Increase::Function(atom)),
+        )
     } else {
-        Ok(by_number(CostForm.read(alloc, tree)?))
+        Ok(
+            CostForm
+                .read(alloc, tree)?
+                .map(|cost| Increase::Number(cost)),
+        )
     }
 }
 
@@ -163,7 +115,7 @@ fn increase_by(
 }
 
 /// `(increase (total-cost) AMOUNT)`.
-#[tactic(auto, unfolding(crate::specs::Rules::Effects::increase_rule))]
+#[tactic(auto, unfolding(mp_forms::specs::Rules::Effects::increase_rule))]
 fn read_increase(alloc: Global, tree: &Tree) -> Result<Found<Increase>, OutOfMemory>
     ensures { IfOk result (λ found. found ≡ found_in (increase_rule (node_of tree.now))) }
 {
@@ -173,47 +125,21 @@ fn read_increase(alloc: Global, tree: &Tree) -> Result<Found<Increase>, OutOfMem
     }
 }
 
-/// What makes this atom true.
-fn add_of(atom: Found<Atom>) -> Found<Change>
-    ensures { result ≡ said_found AddOf atom }
-{
-    match atom {
-        Ok(atom) => Ok(Change::Add(atom)),
-        Err(fault) => Err(fault),
-    }
-}
-
-/// What makes this atom false.
-fn delete_of(atom: Found<Atom>) -> Found<Change>
-    ensures { result ≡ said_found DeleteOf atom }
-{
-    match atom {
-        Ok(atom) => Ok(Change::Delete(atom)),
-        Err(fault) => Err(fault),
-    }
-}
-
-/// What increases the total cost so.
-fn grow_of(increase: Found<Increase>) -> Found<Change>
-    ensures { result ≡ said_found GrowOf increase }
-{
-    match increase {
-        Ok(increase) => Ok(Change::Grow(increase)),
-        Err(fault) => Err(fault),
-    }
-}
-
 /// An atom, `(not ATOM)` or an increase. Refuses only for want of memory.
-#[tactic(auto, using(crate::proofs::FoundLemmas::found_said), unfolding(crate::specs::Rules::Effects::change_rule))]
+#[tactic(auto, using(crate::proofs::FoundLemmas::found_said), unfolding(mp_forms::specs::Rules::Effects::change_rule))]
 fn read_change(alloc: Global, tree: &Tree) -> Result<Found<Change>, OutOfMemory>
     ensures { IfOk result (λ found. found ≡ found_in (change_rule (node_of tree.now))) }
 {
     if is_headed(tree, b"not") {
-        Ok(delete_of(NegatedForm.read(alloc, tree)?))
+        Ok(
+            NegatedForm
+                .read(alloc, tree)?
+                .map(|atom| Change::Delete(atom)),
+        )
     } else if is_headed(tree, b"increase") {
-        Ok(grow_of(read_increase(alloc, tree)?))
+        Ok(read_increase(alloc, tree)?.map(|increase| Change::Grow(increase)))
     } else {
-        Ok(add_of(AtomForm.read(alloc, tree)?))
+        Ok(AtomForm.read(alloc, tree)?.map(|atom| Change::Add(atom)))
     }
 }
 
@@ -281,7 +207,7 @@ fn check_increases(alloc: Global, trees: &[&Tree]) -> Found<()>
 #[derive(Clone, Copy)]
 pub struct EffectForm;
 
-#[tactic(auto, using(crate::proofs::FoundLemmas::found_both, crate::proofs::FoundLemmas::found_said), unfolding(crate::specs::Rules::Effects::effect_rule))]
+#[tactic(auto, using(crate::proofs::FoundLemmas::found_both, crate::proofs::FoundLemmas::found_said), unfolding(mp_forms::specs::Rules::Effects::effect_rule))]
 impl Form<Effect> for EffectForm {
     ghost rule = { λ form node. effect_rule node };
 

@@ -2,35 +2,14 @@
 
 ghost use Rattle.std.specs.Prelude.{◌≡◌, ◌∷◌, [], IfOk};
 ghost use Rattle.mp_sexp.specs.Node.{node_of};
-ghost use Rattle.mp_factor.specs.Faults.{rank_of, is_earlier, fault_at, unsupported_fault};
+ghost use Rattle.mp_forms.specs.Faults.{rank_of, is_earlier, fault_at, unsupported_fault};
 ghost use Rattle.mp_factor.specs.Found.{earlier_of};
 
 use crate::trees::place;
+use mp_forms::{Fault, FaultKind};
 use mp_list::{Copied, OutOfMemory};
 use mp_sexp::{Name, Place, Tree};
 use std::alloc::Global;
-
-/// What is wrong with a word or list.
-#[derive(Clone, Copy, Debug, PartialEq, Eq)]
-pub enum FaultKind {
-    /// It has no place in the shape of the file, or lacks something.
-    Shape,
-    /// It begins something that is not supported.
-    Unsupported,
-    /// It is a parameter behind the twelfth of its action.
-    Parameters,
-    /// It is no cost that is allowed, or an increase behind the sixteenth of its action.
-    Cost,
-}
-
-/// Something that is wrong, the place of the word or list, and the word where it is not supported.
-#[derive(Drop)]
-pub struct Fault {
-    pub place: Place,
-    pub kind: FaultKind,
-    /// The word that is not supported; a fault of another kind has none.
-    pub word: Name,
-}
 
 /// Which fault at one place is answered: the lowest.
 fn rank(kind: FaultKind) -> u32

@@ -1,30 +1,23 @@
 //! The two files, section by section.
 
-ghost use Rattle.std.specs.Prelude.{◌≡◌, [], IfOk, IfErr, Ok, MatchOption};
+ghost use Rattle.std.specs.Prelude.{◌≡◌, [], IfOk, Ok};
 ghost use Rattle.mp_sexp.specs.Node.{node_of, nodes_in};
-ghost use Rattle.mp_factor.specs.Words.{is_among};
-ghost use Rattle.mp_factor.specs.Reading.{Reading, Says, all_right, alone, besides, keyword};
-ghost use Rattle.mp_factor.specs.Found.{found_in, both_found, second_found};
-ghost use Rattle.mp_factor.specs.Faults.{IsFirst};
+ghost use Rattle.mp_forms.specs.Words.{is_among};
+ghost use Rattle.mp_forms.specs.Reading.{all_right, alone, besides, keyword};
+ghost use Rattle.mp_factor.specs.Found.{found_in};
 ghost use Rattle.mp_factor.specs.OfFile.{own_words, other_words, kind_word as kind_word_of};
-ghost use Rattle.mp_factor.specs.Rules.Words.{name_rule};
-ghost use Rattle.mp_factor.specs.Rules.Sections.{domain_words, problem_words, section_rule};
-ghost use Rattle.mp_factor.specs.Rules.Files.{title_rule};
+ghost use Rattle.mp_forms.specs.Rules.Words.{name_rule};
+ghost use Rattle.mp_forms.specs.Rules.Sections.{domain_words, problem_words, section_rule};
+ghost use Rattle.mp_forms.specs.Rules.Files.{title_rule};
 
 use crate::found::{Form, Found, check_each, expect, read_alone, second, shape_fault, word_fault};
 use crate::trees::{is_list, members, place, word};
-use crate::word::{NameForm, Word};
+use crate::word::NameForm;
 use crate::words::is_same;
+use mp_forms::{File, Word};
 use mp_list::OutOfMemory;
 use mp_sexp::{Place, Tree};
 use std::alloc::Global;
-
-/// Which of an agent's two files.
-#[derive(Clone, Copy, Debug, PartialEq, Eq)]
-pub enum File {
-    Domain,
-    Problem,
-}
 
 /// The other file.
 fn other(file: File) -> File
@@ -37,7 +30,7 @@ fn other(file: File) -> File
 }
 
 /// Whether a word begins a section of a domain.
-#[tactic(auto, unfolding(crate::specs::Rules::Sections::domain_words))]
+#[tactic(auto, unfolding(mp_forms::specs::Rules::Sections::domain_words))]
 fn begins_in_domain(word: &[u8]) -> bool
     ensures { result ≡ is_among domain_words word.now }
 {
@@ -50,7 +43,7 @@ fn begins_in_domain(word: &[u8]) -> bool
 }
 
 /// Whether a word begins a section of a problem.
-#[tactic(auto, unfolding(crate::specs::Rules::Sections::problem_words))]
+#[tactic(auto, unfolding(mp_forms::specs::Rules::Sections::problem_words))]
 fn begins_in_problem(word: &[u8]) -> bool
     ensures { result ≡ is_among problem_words word.now }
 {
@@ -78,7 +71,7 @@ struct SectionForm {
     file: File,
 }
 
-#[tactic(auto, unfolding(crate::specs::Rules::Sections::section_rule))]
+#[tactic(auto, unfolding(mp_forms::specs::Rules::Sections::section_rule))]
 impl Form<()> for SectionForm {
     ghost rule = { λ form node. section_rule (own_words form.file) (other_words form.file) node };
 
@@ -139,7 +132,7 @@ fn read_named(
 }
 
 /// The name of a file. Refuses only for want of memory.
-#[tactic(auto, unfolding(crate::specs::Rules::Files::title_rule))]
+#[tactic(auto, unfolding(mp_forms::specs::Rules::Files::title_rule))]
 pub fn read_title(alloc: Global, file: File, tree: &Tree) -> Result<Found<Word>, OutOfMemory>
     ensures { IfOk result (λ found. found ≡ found_in (title_rule (kind_word_of file) (node_of tree.now))) }
 {

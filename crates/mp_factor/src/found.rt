@@ -2,11 +2,12 @@
 
 ghost use Rattle.std.specs.Prelude.{◌≡◌, ◌++◌, ◌∷◌, [], IfOk};
 ghost use Rattle.mp_sexp.specs.Node.{Node, node_of, nodes_in};
-ghost use Rattle.mp_factor.specs.Reading.{Reading, all_right, alone, besides, costly, each, keyword, misshapen, nothing_more, unsupported, wanted};
+ghost use Rattle.mp_forms.specs.Reading.{Reading, all_right, alone, besides, costly, each, keyword, misshapen, nothing_more, unsupported, wanted};
 ghost use Rattle.mp_factor.specs.Found.{found_in, both_found, second_found};
 
-use crate::fault::{Fault, FaultKind, earlier, of_word, without_word};
+use crate::fault::{earlier, of_word, without_word};
 use crate::trees::{is_word, place};
+use mp_forms::{Fault, FaultKind};
 use mp_list::{List, OutOfMemory};
 use mp_sexp::{Place, Tree};
 use std::alloc::Global;
@@ -65,7 +66,7 @@ pub fn cost_fault<T>(alloc: Global, place: Place) -> Found<T>
 }
 
 /// This word is wanted.
-#[tactic(auto, unfolding(crate::specs::Reading::keyword))]
+#[tactic(auto, unfolding(mp_forms::specs::Reading::keyword))]
 pub fn expect(alloc: Global, word: &[u8], tree: &Tree) -> Found<()>
     ensures { result ≡ found_in (keyword word.now (node_of tree.now)) }
 {
@@ -77,7 +78,7 @@ pub fn expect(alloc: Global, word: &[u8], tree: &Tree) -> Found<()>
 }
 
 /// Nothing more is wanted.
-#[tactic(auto, unfolding(crate::specs::Reading::nothing_more))]
+#[tactic(auto, unfolding(mp_forms::specs::Reading::nothing_more))]
 pub fn expect_end(alloc: Global, trees: &[Tree]) -> Found<()>
     ensures { result ≡ found_in (nothing_more (nodes_in trees.now)) }
 {
@@ -143,7 +144,7 @@ pub fn check_each<F: Form<()>>(
 }
 
 /// What the one member that is wanted says, in the list at this place. Refuses only for want of memory.
-#[tactic(auto, unfolding(crate::specs::Reading::wanted))]
+#[tactic(auto, unfolding(mp_forms::specs::Reading::wanted))]
 pub fn read_wanted<T: Drop, F: Form<T>>(
     alloc: Global,
     form: &F,
@@ -173,7 +174,7 @@ fn read_last<T: Drop, F: Form<T>>(
 }
 
 /// What the one member that may stand here says, in the list at this place. Refuses only for want of memory.
-#[tactic(auto, unfolding(crate::specs::Reading::alone))]
+#[tactic(auto, unfolding(mp_forms::specs::Reading::alone))]
 pub fn read_alone<T: Drop, F: Form<T>>(
     alloc: Global,
     form: &F,

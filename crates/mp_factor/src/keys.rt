@@ -3,9 +3,9 @@
 ghost use Rattle.std.specs.Prelude.{◌≡◌, ◌<◌, ◌∷◌, [], ⊤, length, map, MatchOption, IfOk};
 ghost use Rattle.mp_sexp.specs.Node.{node_of, nodes_in};
 ghost use Rattle.mp_factor.specs.Found.{found_in};
-ghost use Rattle.mp_factor.specs.Reading.{all_right};
+ghost use Rattle.mp_forms.specs.Reading.{all_right};
 ghost use Rattle.mp_factor.specs.FoundForms.{key_nodes};
-ghost use Rattle.mp_factor.specs.Rules.Actions.{is_key, value_length, keys_of, is_cut_short as cut_short_test, key_rule};
+ghost use Rattle.mp_forms.specs.Rules.Actions.{is_key, value_length, keys_of, is_cut_short as cut_short_test, key_rule};
 
 use crate::found::{Found, second, shape_fault, word_fault};
 use crate::trees::{is_list, is_word, place, split};
@@ -28,7 +28,7 @@ struct FirstKey<'t> {
 }
 
 /// Whether a tree is a word that is a key.
-#[tactic(auto, unfolding(crate::specs::Rules::Actions::is_key))]
+#[tactic(auto, unfolding(mp_forms::specs::Rules::Actions::is_key))]
 fn names_key(tree: &Tree) -> bool
     ensures { result ≡ is_key (node_of tree.now) }
 {
@@ -39,7 +39,7 @@ fn names_key(tree: &Tree) -> bool
 }
 
 /// How many members the value of a key has.
-#[tactic(auto, unfolding(crate::specs::Rules::Actions::value_length))]
+#[tactic(auto, unfolding(mp_forms::specs::Rules::Actions::value_length))]
 fn value_len(tree: &Tree) -> usize
     ensures { result ≡ value_length (node_of tree.now) }
 {
@@ -92,7 +92,7 @@ fn is_cut_short(key: Key<'_>) -> bool
 
 /// Whether a word that is a key stands in its place and has its value, in the action at this place. Refuses only for
 /// want of memory.
-#[tactic(auto, unfolding(crate::specs::Rules::Actions::key_rule))]
+#[tactic(auto, unfolding(mp_forms::specs::Rules::Actions::key_rule))]
 fn check_key(alloc: Global, whole: Place, key: Key<'_>) -> Result<Found<()>, OutOfMemory>
     ensures { IfOk result (λ found. found ≡ found_in (key_rule whole (key_nodes key.entry))) }
 {

@@ -5,7 +5,6 @@ mod atom_values;
 mod conjuncts;
 mod counted;
 mod effect_values;
-mod factor;
 mod fault;
 mod files;
 mod first_costs;
@@ -13,7 +12,6 @@ mod found;
 mod init_values;
 mod keys;
 mod laws;
-mod let_go;
 mod literal;
 mod numbers;
 mod refusal;
@@ -26,18 +24,11 @@ mod typed_values;
 mod word;
 mod words;
 
-pub use atom_values::{Atom, AtomList, Term, TermList};
-pub use effect_values::{Increase, IncreaseList};
-pub use factor::{Domain, Factor, Problem};
-pub use fault::{Fault, FaultKind};
-pub use files::File;
-pub use init_values::{Value, ValueList};
-pub use laws::{first_fault_is_one, values_are_taken_from_the_file, words_are_names_or_variables};
-pub use let_go::into_problem;
-pub use literal::{Literal, LiteralList};
+pub use laws::first_fault_is_one;
+pub use mp_forms::{
+    Atom, AtomList, Domain, Factor, Fault, FaultKind, File, Increase, IncreaseList, Literal,
+    LiteralList, Problem, Schema, SchemaList, Signature, SignatureList, Term, TermList, Typed,
+    TypedList, Value, ValueList, Word, WordList,
+};
 pub use refusal::ShapeRefusal;
-pub use schema_values::{Schema, SchemaList};
-pub use shape::{domain, domain_fault, problem, problem_fault};
-pub use signature_values::{Signature, SignatureList};
-pub use typed_values::{Typed, TypedList};
-pub use word::{Word, WordList};
+pub use shape::{domain, domain_fault, into_problem, problem, problem_fault};

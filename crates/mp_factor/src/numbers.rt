@@ -2,8 +2,8 @@
 
 ghost use Rattle.std.specs.Prelude.{◌≡◌, ◌==◌, ◌<◌, length, position, IfSome};
 ghost use Rattle.std.specs.List.{list_all};
-ghost use Rattle.mp_factor.specs.Words.{is_digit as digit_of};
-ghost use Rattle.mp_factor.specs.Numbers.{whole_part as whole_part_of, decimals as decimals_of, is_digits as digits_test, is_number as number_test, least_of_whole, cost_of};
+ghost use Rattle.mp_forms.specs.Words.{is_digit as digit_of};
+ghost use Rattle.mp_forms.specs.Numbers.{whole_part as whole_part_of, decimals as decimals_of, is_digits as digits_test, is_number as number_test, least_of_whole, cost_of};
 
 use crate::words::is_digit;
 
@@ -33,7 +33,7 @@ fn is_digits(bytes: &[u8]) -> bool
 }
 
 /// What stands before the first point.
-#[tactic(auto, unfolding(crate::specs::Numbers::whole_part))]
+#[tactic(auto, unfolding(mp_forms::specs::Numbers::whole_part))]
 fn whole_part(word: &[u8]) -> &[u8]
     ensures { result.now ≡ whole_part_of word.now }
 {
@@ -44,7 +44,7 @@ fn whole_part(word: &[u8]) -> &[u8]
 }
 
 /// What stands behind the first point.
-#[tactic(auto, unfolding(crate::specs::Numbers::decimals))]
+#[tactic(auto, unfolding(mp_forms::specs::Numbers::decimals))]
 fn decimals(word: &[u8]) -> &[u8]
     ensures { result.now ≡ decimals_of word.now }
 {
@@ -55,7 +55,7 @@ fn decimals(word: &[u8]) -> &[u8]
 }
 
 /// Whether a word is a number: digits, or digits, a point and digits.
-#[tactic(auto, unfolding(crate::specs::Numbers::is_number))]
+#[tactic(auto, unfolding(mp_forms::specs::Numbers::is_number))]
 pub fn is_number(word: &[u8]) -> bool
     ensures { result ≡ number_test word.now }
 {
@@ -63,7 +63,7 @@ pub fn is_number(word: &[u8]) -> bool
 }
 
 /// The value of these digits, or 1,000,001 where it is above the greatest cost.
-#[tactic(auto, unfolding(crate::specs::Numbers::least_of_whole))]
+#[tactic(auto, unfolding(mp_forms::specs::Numbers::least_of_whole))]
 fn least_value(digits: &[u8]) -> u64
     ensures { result ≡ least_of_whole digits.now }
 {
@@ -82,7 +82,7 @@ fn are_zeros(bytes: &[u8]) -> bool
 }
 
 /// The cost that a number is: none where it has decimals other than zeros, or is above 1,000,000.
-#[tactic(auto, unfolding(crate::specs::Numbers::cost_of))]
+#[tactic(auto, unfolding(mp_forms::specs::Numbers::cost_of))]
 pub fn cost(word: &[u8]) -> Option<u64>
     ensures { result ≡ cost_of word.now }
 {

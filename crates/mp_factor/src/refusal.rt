@@ -2,7 +2,7 @@
 
 ghost use Rattle.mp_factor.specs.Shapes.{Says};
 
-use crate::fault::{Fault, FaultKind};
+use mp_forms::{Fault, FaultKind};
 use mp_list::OutOfMemory;
 use mp_sexp::{Name, Place};
 use thiserror::Error;

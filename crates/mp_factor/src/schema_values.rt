@@ -3,61 +3,29 @@
 ghost use Rattle.std.specs.Prelude.{◌≡◌, ◌++◌, ◌∷◌, [], false, List, codes, map, take, option_map, IfOk};
 ghost use Rattle.std.specs.List.{find, flat_map};
 ghost use Rattle.mp_sexp.specs.Node.{Node, node_of, nodes_in};
-ghost use Rattle.mp_factor.specs.Parts.{place_of, is_word as word_test, is_variable_word};
-ghost use Rattle.mp_factor.specs.Limits.{most_parameters};
-ghost use Rattle.mp_factor.specs.Reading.{both, besides, keyword, wanted, at_most, all_right, misshapen};
+ghost use Rattle.mp_forms.specs.Parts.{place_of, is_word as word_test, is_variable_word};
+ghost use Rattle.mp_forms.specs.Limits.{most_parameters};
+ghost use Rattle.mp_forms.specs.Reading.{both, besides, keyword, wanted, at_most, misshapen};
 ghost use Rattle.mp_factor.specs.Found.{found_in, both_found, second_found, said_found};
 ghost use Rattle.mp_factor.specs.FoundForms.{key_nodes, schema_from};
-ghost use Rattle.mp_factor.specs.Rules.Words.{variable_rule};
-ghost use Rattle.mp_factor.specs.Rules.Typed.{type_rule, typed_of};
-ghost use Rattle.mp_factor.specs.Rules.Actions.{keys_of, in_key, key_rule, agent_rule, parameters_rule, parameter_members, surplus_parameter, first_parts, keys_rule, by_keys, action_rule};
-ghost use Rattle.mp_factor.specs.Rules.Conditions.{condition_rule};
-ghost use Rattle.mp_factor.specs.Rules.Effects.{effect_rule, no_effect};
+ghost use Rattle.mp_forms.specs.Rules.Words.{variable_rule};
+ghost use Rattle.mp_forms.specs.Rules.Typed.{type_rule, typed_of};
+ghost use Rattle.mp_forms.specs.Rules.Actions.{keys_of, in_key, agent_rule, parameters_rule, parameter_members, surplus_parameter, first_parts, keys_rule, by_keys, action_rule};
+ghost use Rattle.mp_forms.specs.Rules.Conditions.{condition_rule};
+ghost use Rattle.mp_forms.specs.Rules.Effects.{effect_rule, no_effect};
 
-use crate::atom_values::AtomList;
 use crate::counted::{Room, counted};
-use crate::effect_values::{Effect, EffectForm, IncreaseList};
-use crate::fault::FaultKind;
+use crate::effect_values::EffectForm;
 use crate::found::{Form, Found, expect, pair, read_wanted, second, shape_fault};
 use crate::keys::{Key, check_keys, keys_in};
-use crate::literal::{ConditionForm, LiteralList};
+use crate::literal::ConditionForm;
 use crate::trees::{behind_first, is_list, is_variable, is_word, members, place};
-use crate::typed_values::{TypeForm, Typed, TypedList, VARIABLES, append, read_typed};
-use crate::word::{NameForm, VariableForm, Word, WordList};
+use crate::typed_values::{TypeForm, VARIABLES, append, read_typed};
+use crate::word::{NameForm, VariableForm};
+use mp_forms::{Effect, FaultKind, LiteralList, Schema, Typed, TypedList, Word, WordList};
 use mp_list::{List, OutOfMemory};
 use mp_sexp::{Place, Tree};
 use std::alloc::Global;
-
-/// An action with variables for its parameters.
-pub struct Schema {
-    pub word: Word,
-    /// The parameters, of which the agent is the first where there is one.
-    pub params: TypedList,
-    /// The literals that must hold.
-    pub pre: LiteralList,
-    /// The atoms that it makes true.
-    pub add: AtomList,
-    /// The atoms that it makes false.
-    pub del: AtomList,
-    /// By how much it increases the total cost.
-    pub increases: IncreaseList,
-}
-
-impl Drop for Schema {
-    fn drop(self) {
-        let Schema {
-            word: _,
-            params: _,
-            pre: _,
-            add: _,
-            del: _,
-            increases: _,
-        } = self;
-    }
-}
-
-/// Actions in the order of the file.
-pub type SchemaList = List<Schema>;
 
 /// The most parameters of an action.
 const MOST_PARAMETERS: u64 = 12;
@@ -111,7 +79,7 @@ fn agent_by(
 }
 
 /// What stands behind `:agent`. Refuses only for want of memory.
-#[tactic(auto, unfolding(crate::specs::Rules::Actions::agent_rule))]
+#[tactic(auto, unfolding(mp_forms::specs::Rules::Actions::agent_rule))]
 fn read_agent(alloc: Global, whole: Place, value: &[Tree]) -> Result<Found<TypedList>, OutOfMemory>
     ensures { IfOk result (λ found. found ≡ found_in (agent_rule whole (nodes_in value.now))) }
 {
@@ -125,7 +93,7 @@ fn read_agent(alloc: Global, whole: Place, value: &[Tree]) -> Result<Found<Typed
 #[derive(Clone, Copy)]
 struct ParametersForm;
 
-#[tactic(auto, unfolding(crate::specs::Rules::Actions::parameters_rule))]
+#[tactic(auto, unfolding(mp_forms::specs::Rules::Actions::parameters_rule))]
 impl Form<TypedList> for ParametersForm {
     ghost rule = { λ form node. parameters_rule node };
 
@@ -325,7 +293,7 @@ fn first_alone(trees: &[Tree]) -> &[Tree]
 }
 
 /// Where a key names parameters.
-#[tactic(auto, unfolding(crate::specs::Rules::Actions::parameter_members))]
+#[tactic(auto, unfolding(mp_forms::specs::Rules::Actions::parameter_members))]
 fn naming_members<'t>(key: Key<'t>) -> &'t [Tree]
     ensures { nodes_in result.now ≡ parameter_members (key_nodes key.entry) }
 {
@@ -409,7 +377,7 @@ fn read_members(
 #[derive(Clone, Copy)]
 pub struct ActionForm;
 
-#[tactic(auto, unfolding(crate::specs::Rules::Actions::action_rule))]
+#[tactic(auto, unfolding(mp_forms::specs::Rules::Actions::action_rule))]
 impl Form<Schema> for ActionForm {
     ghost rule = { λ form node. action_rule node };
 

@@ -3,23 +3,23 @@
 ghost use Rattle.std.specs.Prelude.{◌≡◌, ◌∷◌, [], codes, option_map, IfOk};
 ghost use Rattle.std.specs.List.{filter, find};
 ghost use Rattle.mp_sexp.specs.Node.{node_of, nodes_in};
-ghost use Rattle.mp_factor.specs.Parts.{place_of, is_headed as headed_test};
-ghost use Rattle.mp_factor.specs.Reading.{Reading, all_right, at_most, each, misshapen, Says};
+ghost use Rattle.mp_forms.specs.Parts.{place_of, is_headed as headed_test};
+ghost use Rattle.mp_forms.specs.Reading.{Reading, at_most, each, misshapen, Says};
 ghost use Rattle.mp_factor.specs.Found.{found_in, more_found};
-ghost use Rattle.mp_factor.specs.Rules.Actions.{action_rule};
-ghost use Rattle.mp_factor.specs.Rules.Sections.{in_section, requirement_rule, requirements_rule, listed_rule, named_rule, start_rule, goal_rule, is_total_cost as total_cost_test, is_cost_metric as cost_metric_test, metric_rule, actions_rule};
+ghost use Rattle.mp_forms.specs.Rules.Actions.{action_rule};
+ghost use Rattle.mp_forms.specs.Rules.Sections.{in_section, requirement_rule, requirements_rule, listed_rule, named_rule, start_rule, goal_rule, is_total_cost as total_cost_test, is_cost_metric as cost_metric_test, metric_rule, actions_rule};
 
 use crate::counted::{Room, counted};
-use crate::fault::FaultKind;
 use crate::found::{
     Form, Found, check_each, read_alone, second, shape_fault, with_item, word_fault,
 };
-use crate::init_values::{Start, read_start};
-use crate::literal::{ConditionForm, LiteralList};
-use crate::schema_values::{ActionForm, SchemaList};
+use crate::init_values::read_start;
+use crate::literal::ConditionForm;
+use crate::schema_values::ActionForm;
 use crate::trees::{behind_first, is_headed, is_list, is_word, members, place};
 use crate::typed_values::{Listing, read_typed};
-use crate::word::{NameForm, Word};
+use crate::word::NameForm;
+use mp_forms::{FaultKind, LiteralList, SchemaList, Start, Word};
 use mp_list::{List, OutOfMemory};
 use mp_sexp::Tree;
 use std::alloc::Global;
@@ -76,7 +76,7 @@ pub fn read_section<T: Drop, F: Form<T>>(
 }
 
 /// What the section of a typed list says. Refuses only for want of memory.
-#[tactic(auto, unfolding(crate::specs::Rules::Sections::listed_rule))]
+#[tactic(auto, unfolding(mp_forms::specs::Rules::Sections::listed_rule))]
 fn read_list<X: Drop, T: Drop, L: Listing<X, T>>(
     alloc: Global,
     listing: &L,
@@ -108,7 +108,7 @@ pub fn read_listed<X: Drop, T: Drop, L: Listing<X, T>>(
 #[derive(Clone, Copy)]
 struct RequirementForm;
 
-#[tactic(auto, unfolding(crate::specs::Rules::Sections::requirement_rule))]
+#[tactic(auto, unfolding(mp_forms::specs::Rules::Sections::requirement_rule))]
 impl Form<()> for RequirementForm {
     ghost rule = { λ form node. requirement_rule node };
 
@@ -127,7 +127,7 @@ impl Form<()> for RequirementForm {
 #[derive(Clone, Copy)]
 pub struct RequirementsForm;
 
-#[tactic(auto, unfolding(crate::specs::Rules::Sections::requirements_rule))]
+#[tactic(auto, unfolding(mp_forms::specs::Rules::Sections::requirements_rule))]
 impl Form<()> for RequirementsForm {
     ghost rule = { λ form node. requirements_rule node };
 
@@ -140,7 +140,7 @@ impl Form<()> for RequirementsForm {
 #[derive(Clone, Copy)]
 pub struct NamedForm;
 
-#[tactic(auto, unfolding(crate::specs::Rules::Sections::named_rule))]
+#[tactic(auto, unfolding(mp_forms::specs::Rules::Sections::named_rule))]
 impl Form<Word> for NamedForm {
     ghost rule = { λ form node. named_rule node };
 
@@ -153,7 +153,7 @@ impl Form<Word> for NamedForm {
 #[derive(Clone, Copy)]
 pub struct StartForm;
 
-#[tactic(auto, unfolding(crate::specs::Rules::Sections::start_rule))]
+#[tactic(auto, unfolding(mp_forms::specs::Rules::Sections::start_rule))]
 impl Form<Start> for StartForm {
     ghost rule = { λ form node. start_rule node };
 
@@ -166,7 +166,7 @@ impl Form<Start> for StartForm {
 #[derive(Clone, Copy)]
 pub struct GoalForm;
 
-#[tactic(auto, unfolding(crate::specs::Rules::Sections::goal_rule))]
+#[tactic(auto, unfolding(mp_forms::specs::Rules::Sections::goal_rule))]
 impl Form<LiteralList> for GoalForm {
     ghost rule = { λ form node. goal_rule node };
 
@@ -204,7 +204,7 @@ fn is_cost_metric(trees: &[Tree]) -> bool
 #[derive(Clone, Copy)]
 pub struct MetricForm;
 
-#[tactic(auto, unfolding(crate::specs::Rules::Sections::metric_rule))]
+#[tactic(auto, unfolding(mp_forms::specs::Rules::Sections::metric_rule))]
 impl Form<bool> for MetricForm {
     ghost rule = { λ form node. metric_rule node };
 

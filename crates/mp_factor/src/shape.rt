@@ -2,36 +2,33 @@
 
 ghost use Rattle.std.specs.Prelude.{◌≡◌, [], false, codes, Err, IsOk, IfOk, IfErr, MatchOption};
 ghost use Rattle.mp_sexp.specs.Node.{node_of, nodes_in};
-ghost use Rattle.mp_factor.specs.Faults.{IsFirst};
-ghost use Rattle.mp_factor.specs.Reading.{Reading, Says, misshapen, besides, keyword};
+ghost use Rattle.mp_forms.specs.Faults.{IsFirst};
+ghost use Rattle.mp_forms.specs.Reading.{Reading, Says, misshapen, besides, keyword};
 ghost use Rattle.mp_factor.specs.Found.{found_in, both_found, said_found};
 ghost use Rattle.mp_factor.specs.FoundForms.{domain_from, problem_from};
-ghost use Rattle.mp_factor.specs.declared.word.Word.{Word as WordOf};
-ghost use Rattle.mp_factor.specs.FromFile.{IsDomainOfFile, IsProblemOfFile};
+ghost use Rattle.mp_forms.specs.declared.word.Word.{Word as WordOf};
+ghost use Rattle.mp_forms.specs.FromFile.{IsDomainOfFile, IsProblemOfFile};
 ghost use Rattle.mp_factor.specs.OfFile.{own_words, other_words};
-ghost use Rattle.mp_factor.specs.Rules.Typed.{names, objects};
-ghost use Rattle.mp_factor.specs.Rules.Signatures.{predicates, functions};
-ghost use Rattle.mp_factor.specs.Rules.Init.{empty_start};
-ghost use Rattle.mp_factor.specs.Rules.Sections.{domain_words, problem_words, in_section, sections_rule, listed_rule, named_rule, start_rule, goal_rule, metric_rule};
-ghost use Rattle.mp_factor.specs.Rules.Files.{domain_parts, problem_sections, title_rule, domain_rule, problem_rule, domain_faults, problem_faults};
+ghost use Rattle.mp_forms.specs.Rules.Typed.{names, objects};
+ghost use Rattle.mp_forms.specs.Rules.Signatures.{predicates, functions};
+ghost use Rattle.mp_forms.specs.Rules.Init.{empty_start};
+ghost use Rattle.mp_forms.specs.Rules.Sections.{domain_words, problem_words, in_section, sections_rule, listed_rule, named_rule, start_rule, goal_rule, metric_rule};
+ghost use Rattle.mp_forms.specs.Rules.Files.{domain_parts, problem_sections, title_rule, domain_rule, problem_rule, domain_faults, problem_faults};
 ghost use Rattle.mp_factor.specs.Shapes.{Refuses};
 
-use crate::factor::{Domain, Problem};
-use crate::fault::Fault;
-use crate::files::{File, check_sections, read_title};
+use crate::files::{check_sections, read_title};
 use crate::found::{Found, expect, pair, second, shape_fault};
-use crate::init_values::Start;
-use crate::literal::LiteralList;
 use crate::refusal::{ShapeRefusal, refusal_of};
-use crate::schema_values::SchemaList;
 use crate::sections::{
     GoalForm, MetricForm, NamedForm, RequirementsForm, StartForm, read_actions, read_listed,
     read_section,
 };
-use crate::signature_values::{DeclaredFunction, DeclaredPredicate, SignatureList, WithBlocks};
+use crate::signature_values::{DeclaredFunction, DeclaredPredicate, with_private};
 use crate::trees::{members, place};
-use crate::typed_values::{NAMES, Objects, TypedList};
-use crate::word::Word;
+use crate::typed_values::{NAMES, OBJECTS};
+use mp_forms::{
+    Domain, Fault, File, LiteralList, Problem, SchemaList, SignatureList, Start, TypedList, Word,
+};
 use mp_list::{List, OutOfMemory};
 use mp_sexp::{Place, Tree};
 use std::alloc::Global;
@@ -46,23 +43,20 @@ type ReadFunctions = ((ReadConstants, SignatureList), SignatureList);
 type ReadDomain = (ReadFunctions, SchemaList);
 
 /// What a problem says, part by part, as far as its objects.
-pub(crate) type ReadObjects = ((Word, Word), TypedList);
+type ReadObjects = ((Word, Word), TypedList);
 
 /// What a problem says, part by part, as far as its goal.
 type ReadGoal = ((ReadObjects, Start), LiteralList);
 
 /// What a problem says, part by part.
-pub(crate) type ReadProblem = (ReadGoal, bool);
+type ReadProblem = (ReadGoal, bool);
 
 /// The predicates. Refuses only for want of memory.
 fn read_predicates(alloc: Global, sections: &[Tree]) -> Result<Found<SignatureList>, OutOfMemory>
     ensures { IfOk result (λ found. found
         ≡ found_in (in_section (codes ":predicates") (listed_rule predicates) (Says []) (nodes_in sections.now))) }
 {
-    let predicates = WithBlocks {
-        takes_number: false,
-        name: DeclaredPredicate,
-    };
+    let predicates = with_private(false, DeclaredPredicate);
     read_listed(alloc, &predicates, sections, b":predicates")
 }
 
@@ -71,10 +65,7 @@ fn read_functions(alloc: Global, sections: &[Tree]) -> Result<Found<SignatureLis
     ensures { IfOk result (λ found. found
         ≡ found_in (in_section (codes ":functions") (listed_rule functions) (Says []) (nodes_in sections.now))) }
 {
-    let functions = WithBlocks {
-        takes_number: true,
-        name: DeclaredFunction,
-    };
+    let functions = with_private(true, DeclaredFunction);
     read_listed(alloc, &functions, sections, b":functions")
 }
 
@@ -91,7 +82,7 @@ fn read_constants(
     let types = pair(name, read_listed(alloc, &NAMES, sections, b":types")?);
     Ok(pair(
         types,
-        read_listed(alloc, &Objects, sections, b":constants")?,
+        read_listed(alloc, &OBJECTS, sections, b":constants")?,
     ))
 }
 
@@ -125,12 +116,8 @@ fn read_domain_parts(
 }
 
 /// What is wrong with the sections of a file, or with its requirements. Refuses only for want of memory.
-#[tactic(auto, using(crate::proofs::FoundLemmas::found_both), unfolding(crate::specs::Rules::Sections::sections_rule))]
-pub(crate) fn check_file(
-    alloc: Global,
-    file: File,
-    sections: &[Tree],
-) -> Result<Found<()>, OutOfMemory>
+#[tactic(auto, using(crate::proofs::FoundLemmas::found_both), unfolding(mp_forms::specs::Rules::Sections::sections_rule))]
+fn check_file(alloc: Global, file: File, sections: &[Tree]) -> Result<Found<()>, OutOfMemory>
     ensures { IfOk result (λ found. found ≡ found_in (sections_rule (own_words file) (other_words file) (nodes_in sections.now))) }
 {
     let right = check_sections(alloc, file, sections)?;
@@ -207,7 +194,7 @@ fn fault_in<T: Drop>(found: Found<T>) -> Option<Fault>
 
 /// What a problem of this name says in its sections, part by part, as far as its objects. Refuses only for want of
 /// memory.
-pub(crate) fn read_objects(
+fn read_objects(
     alloc: Global,
     whole: Place,
     name: Found<Word>,
@@ -222,7 +209,7 @@ pub(crate) fn read_objects(
         name,
         read_section(alloc, &NamedForm, sections, b":domain", missing)?,
     );
-    Ok(pair(domain, read_listed(alloc, &Objects, sections, b":objects")?))
+    Ok(pair(domain, read_listed(alloc, &OBJECTS, sections, b":objects")?))
 }
 
 /// What a problem says, part by part, as far as its facts and values at the start, where it is known as far as its objects.
@@ -259,7 +246,7 @@ fn read_goal(
 
 /// What a problem says in its sections, part by part, where it is known as far as its objects. Refuses only for want of
 /// memory.
-pub(crate) fn read_behind_objects(
+fn read_behind_objects(
     alloc: Global,
     known: Found<ReadObjects>,
     sections: &[Tree],
@@ -307,7 +294,7 @@ fn read_problem(alloc: Global, tree: &Tree) -> Result<Found<ReadProblem>, OutOfM
 }
 
 /// The problem of these parts.
-pub(crate) fn problem_with(parts: ReadProblem) -> Problem
+fn problem_with(parts: ReadProblem) -> Problem
     requires { IsProblemOfFile (problem_from parts) }
     ensures { result ≡ problem_from parts }
 {
@@ -335,6 +322,14 @@ pub fn problem(alloc: Global, tree: &Tree) -> Result<Problem, ShapeRefusal>
         Ok(parts) => Ok(problem_with(parts)),
         Err(fault) => Err(refusal_of(fault)),
     }
+}
+
+/// What a problem's tree says, or why it is refused, as [`problem`] answers, for a tree of which nobody has more need.
+pub fn into_problem(alloc: Global, tree: Tree) -> Result<Problem, ShapeRefusal>
+    ensures said { IfOk result (λ problem. problem_rule (node_of tree) ≡ Says problem) }
+    ensures fault { IfErr result (Refuses (problem_rule (node_of tree))) }
+{
+    problem(alloc, &tree)
 }
 
 /// The first fault of a domain's tree, by its place, its kind and its word: none exactly where the tree

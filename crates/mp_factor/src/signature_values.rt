@@ -1,47 +1,26 @@
 //! Predicates and functions with their typed variables, and private blocks of them.
 
-ghost use Rattle.std.specs.Prelude.{◌≡◌, Bool, IfOk};
-ghost use Rattle.mp_sexp.specs.Node.{Node, node_of, nodes_in};
-ghost use Rattle.mp_factor.specs.Reading.{both};
-ghost use Rattle.mp_factor.specs.Found.{found_in, both_found};
-ghost use Rattle.mp_factor.specs.Rules.Typed.{typed_rule, variables};
-ghost use Rattle.mp_factor.specs.Rules.Signatures.{declared_predicate, declared_function, is_no_signature as no_signature_test, signature_of, signature_rule, signatures, with_blocks};
+ghost use Rattle.std.specs.Prelude.{◌≡◌, false, true, IfOk};
+ghost use Rattle.mp_sexp.specs.Node.{node_of, nodes_in};
+ghost use Rattle.mp_forms.specs.Reading.{both};
+ghost use Rattle.mp_factor.specs.Found.{found_in};
+ghost use Rattle.mp_forms.specs.Rules.Typed.{typed_rule, variables};
+ghost use Rattle.mp_forms.specs.Rules.Signatures.{declared_predicate, declared_function, is_no_signature as no_signature_test, signature_of, signature_rule, signatures};
 
 use crate::found::{Form, Found, expect, pair, shape_fault};
 use crate::trees::{is_fixed, is_headed, is_list, is_word, members, place};
-use crate::typed_values::{Listing, TypedList, VARIABLES, read_block_of, read_typed};
-use crate::word::{NameForm, Word};
-use mp_list::{List, OutOfMemory};
+use crate::typed_values::{Listing, VARIABLES, WithBlocks, read_typed};
+use crate::word::NameForm;
+use mp_forms::{Signature, SignatureList, Word};
+use mp_list::OutOfMemory;
 use mp_sexp::{Place, Tree};
 use std::alloc::Global;
-
-/// A predicate or a function as it is declared.
-pub struct Signature {
-    pub word: Word,
-    /// Its variables and their types, which restrict nothing.
-    pub params: TypedList,
-    /// Whether it stands in a private block.
-    pub private: bool,
-}
-
-impl Drop for Signature {
-    fn drop(self) {
-        let Signature {
-            word: _,
-            params: _,
-            private: _,
-        } = self;
-    }
-}
-
-/// Signatures in the order of the file.
-pub type SignatureList = List<Signature>;
 
 /// A name that a predicate may have.
 #[derive(Clone, Copy)]
 pub struct DeclaredPredicate;
 
-#[tactic(auto, unfolding(crate::specs::Rules::Signatures::declared_predicate))]
+#[tactic(auto, unfolding(mp_forms::specs::Rules::Signatures::declared_predicate))]
 impl Form<Word> for DeclaredPredicate {
     ghost rule = { λ form node. declared_predicate node };
 
@@ -58,7 +37,7 @@ impl Form<Word> for DeclaredPredicate {
 #[derive(Clone, Copy)]
 pub struct DeclaredFunction;
 
-#[tactic(auto, unfolding(crate::specs::Rules::Signatures::declared_function))]
+#[tactic(auto, unfolding(mp_forms::specs::Rules::Signatures::declared_function))]
 impl Form<Word> for DeclaredFunction {
     ghost rule = { λ form node. declared_function node };
 
@@ -68,20 +47,6 @@ impl Form<Word> for DeclaredFunction {
         } else {
             DeclaredPredicate.read(alloc, tree)
         }
-    }
-}
-
-/// A signature of this name and these parameters.
-fn signature_with(private: bool, word: Found<Word>, params: Found<TypedList>) -> Found<Signature>
-    ensures { result ≡ both_found (signature_of private) word params }
-{
-    match pair(word, params) {
-        Ok((word, params)) => Ok(Signature {
-            word,
-            params,
-            private,
-        }),
-        Err(fault) => Err(fault),
     }
 }
 
@@ -103,7 +68,7 @@ pub struct Signatures<N> {
 }
 
 /// A signature with this first member and these behind it, in the list at this place. Refuses only for want of memory.
-#[tactic(auto, using(crate::proofs::FoundLemmas::found_both))]
+#[tactic(auto, using(crate::proofs::FoundLemmas::found_both, crate::proofs::FoundLemmas::pair_said))]
 fn read_members<N: Form<Word>>(
     alloc: Global,
     list: &Signatures<N>,
@@ -115,15 +80,17 @@ fn read_members<N: Form<Word>>(
         (N.rule list.now.name (node_of head.now)) (typed_rule variables whole (nodes_in params.now)))) }
 {
     let word = list.name.read(alloc, head)?;
-    Ok(signature_with(
-        list.private,
+    let signature = pair(word, read_typed(alloc, &VARIABLES, whole, params)?);
+    let private = list.private;
+    Ok(signature.map(|(word, params)| Signature {
         word,
-        read_typed(alloc, &VARIABLES, whole, params)?,
-    ))
+        params,
+        private,
+    }))
 }
 
 /// A name with typed variables. Refuses only for want of memory.
-#[tactic(auto, unfolding(crate::specs::Rules::Signatures::signature_rule))]
+#[tactic(auto, unfolding(mp_forms::specs::Rules::Signatures::signature_rule))]
 fn read_signature<N: Form<Word>>(
     alloc: Global,
     list: &Signatures<N>,
@@ -170,50 +137,22 @@ impl<N: Form<Word>> Listing<Signature, ()> for Signatures<N> {
 }
 
 /// The signatures of a list that may hold private blocks.
-#[derive(Clone, Copy)]
-pub struct WithBlocks<N> {
-    /// Whether `- number` may stand behind one.
-    pub takes_number: bool,
-    pub name: N,
-}
-
-impl<N: Form<Word> + Copy> Listing<Signature, ()> for WithBlocks<N> {
-    ghost listing = { λ list. with_blocks list.takes_number (N.rule list.name) };
-
-    fn read_item(
-        &self,
-        alloc: Global,
-        _item_type: &(),
-        tree: &Tree,
-    ) -> Result<Found<Signature>, OutOfMemory> {
-        let public = Signatures {
-            takes_number: self.takes_number,
+pub fn with_private<N: Copy>(takes_number: bool, name: N) -> WithBlocks<Signatures<N>>
+    ensures { result ≡ record {
+      public = record { takes_number = takes_number; private = false; name = name };
+      private = record { takes_number = takes_number; private = true; name = name };
+    } }
+{
+    WithBlocks {
+        public: Signatures {
+            takes_number,
             private: false,
-            name: self.name,
-        };
-        read_signature(alloc, &public, tree)
-    }
-
-    fn takes_type(&self) -> bool {
-        self.takes_number
-    }
-
-    fn read_type(&self, alloc: Global, tree: &Tree) -> Result<Found<()>, OutOfMemory> {
-        Ok(expect(alloc, b"number", tree))
-    }
-
-    fn untyped(&self, _alloc: Global) {}
-
-    fn is_block(&self, tree: &Tree) -> bool {
-        is_no_signature(tree)
-    }
-
-    fn read_block(&self, alloc: Global, tree: &Tree) -> Result<Found<SignatureList>, OutOfMemory> {
-        let private = Signatures {
-            takes_number: self.takes_number,
+            name,
+        },
+        private: Signatures {
+            takes_number,
             private: true,
-            name: self.name,
-        };
-        read_block_of(alloc, &private, tree)
+            name,
+        },
     }
 }

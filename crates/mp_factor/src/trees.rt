@@ -1,9 +1,8 @@
 //! Words and lists of a tree.
 
 ghost use Rattle.std.specs.Prelude.{◌≡◌, ◌≤◌, take, drop, length};
-ghost use Rattle.std.specs.Str.{bytes_eq};
 ghost use Rattle.mp_sexp.specs.Node.{node_of, nodes_in};
-ghost use Rattle.mp_factor.specs.Parts.{is_word as word_test, place_of, word_of, parts, is_list as list_test, is_headed as headed_test, is_name_word, is_variable_word, is_fixed_word, rest_of};
+ghost use Rattle.mp_forms.specs.Parts.{is_word as word_test, place_of, word_of, parts, is_list as list_test, is_headed as headed_test, is_name_word, is_variable_word, is_fixed_word, rest_of};
 
 use crate::words;
 use mp_sexp::{Place, Tree};

@@ -1,43 +1,20 @@
 //! Typed lists: items, behind which may stand `-` and their type.
 
 ghost use Rattle.std.specs.Prelude.{◌≡◌, ◌&&◌, ◌<◌, ◌≤◌, ◌++◌, ◌∷◌, [], false, Err, List, length, map, codes, IfOk, OnOk};
-ghost use Rattle.mp_sexp.specs.Node.{Node, node_of, nodes_in};
-ghost use Rattle.mp_factor.specs.Reading.{besides, each, keyword, said};
+ghost use Rattle.mp_sexp.specs.Node.{node_of, nodes_in};
+ghost use Rattle.mp_forms.specs.Reading.{besides, each, keyword, said};
 ghost use Rattle.mp_factor.specs.Found.{found_in, both_found, more_found, said_found, second_found};
 ghost use Rattle.mp_factor.specs.FoundForms.{items_found, group_found, ends, group_size, AreBehindItems};
-ghost use Rattle.mp_factor.specs.Rules.Words.{name_rule};
-ghost use Rattle.mp_factor.specs.Rules.Typed.{Listing as ListingOf, is_dash, typed_from, type_first, typed_rule, block_rule, type_rule, typed_of, with_type, is_no_word as no_word_test, plain, objects};
+ghost use Rattle.mp_forms.specs.Rules.Words.{name_rule};
+ghost use Rattle.mp_forms.specs.Rules.Typed.{Listing as ListingOf, is_dash, typed_from, type_first, typed_rule, block_rule, type_rule, typed_of, with_type, is_no_word as no_word_test, plain, with_blocks};
 
-use crate::fault::{Fault, earlier};
 use crate::found::{Form, Found, expect, pair, second, shape_fault, with_item};
 use crate::trees::{is_list, is_word, members, place, split};
-use crate::word::{NameForm, VariableForm, Word, WordList};
+use crate::word::{NameForm, VariableForm};
+use mp_forms::{Typed, TypedList, Word, WordList};
 use mp_list::{Copied, List, OutOfMemory, SmallList};
 use mp_sexp::{Place, Tree};
 use std::alloc::Global;
-
-/// A type, an object or a parameter as it is declared.
-pub struct Typed {
-    /// The name, or the variable with its `?`.
-    pub word: Word,
-    /// The types of which it is one; none where none is written, which means `object`.
-    pub types: WordList,
-    /// Whether it stands in a private block.
-    pub private: bool,
-}
-
-impl Drop for Typed {
-    fn drop(self) {
-        let Typed {
-            word: _,
-            types: _,
-            private: _,
-        } = self;
-    }
-}
-
-/// Typed names or variables in the order of the file.
-pub type TypedList = List<Typed>;
 
 /// What the items of a typed list are, and their types.
 pub trait Listing<X, T> {
@@ -97,7 +74,7 @@ fn group_len<X, T, L: Listing<X, T>>(listing: &L, trees: &[Tree]) -> usize
 }
 
 /// The type that these trees begin with, and what stands behind it. Refuses only for want of memory.
-#[tactic(auto, using(crate::proofs::FoundLemmas::found_both), unfolding(crate::specs::Rules::Typed::type_first, crate::specs::Rules::Typed::typed_from))]
+#[tactic(auto, using(crate::proofs::FoundLemmas::found_both), unfolding(mp_forms::specs::Rules::Typed::type_first, mp_forms::specs::Rules::Typed::typed_from))]
 fn type_first_of<'t, X, T, L: Listing<X, T>>(
     alloc: Global,
     listing: &L,
@@ -181,16 +158,6 @@ fn with_group_of<X: Drop, T, L: Listing<X, T>>(
     Ok(all)
 }
 
-/// What is found, with a fault behind it.
-fn with_fault<X: Drop>(found: Found<List<X>>, fault: Fault) -> Found<List<X>>
-    ensures { result ≡ second_found found (Err fault) }
-{
-    match found {
-        Ok(_) => Err(fault),
-        Err(known) => Err(earlier(known, fault)),
-    }
-}
-
 /// The items so far and those of a group, of the type that is found. Refuses only for want of memory.
 fn with_group<X: Drop, T: Drop, L: Listing<X, T>>(
     alloc: Global,
@@ -210,7 +177,7 @@ fn with_group<X: Drop, T: Drop, L: Listing<X, T>>(
         Err(fault) => {
             let item_type = listing.untyped(alloc);
             let items = with_group_of(alloc, listing, so_far, &item_type, group)?;
-            Ok(with_fault(items, fault))
+            Ok(second(items, Err(fault)))
         }
     }
 }
@@ -300,8 +267,8 @@ pub fn read_typed<X: Drop, T: Drop, L: Listing<X, T>>(
 }
 
 /// A private block of such a list. Refuses only for want of memory.
-#[tactic(auto, unfolding(crate::specs::Rules::Typed::block_rule))]
-pub fn read_block_of<X: Drop, T: Drop, L: Listing<X, T>>(
+#[tactic(auto, unfolding(mp_forms::specs::Rules::Typed::block_rule))]
+fn read_block_of<X: Drop, T: Drop, L: Listing<X, T>>(
     alloc: Global,
     listing: &L,
     tree: &Tree,
@@ -317,6 +284,47 @@ pub fn read_block_of<X: Drop, T: Drop, L: Listing<X, T>>(
                 Ok(shape_fault(alloc, place(head)))
             }
         }
+    }
+}
+
+/// A listing in which private blocks may stand.
+#[derive(Clone, Copy)]
+pub struct WithBlocks<L> {
+    pub public: L,
+    /// What stands in such a block.
+    pub private: L,
+}
+
+impl<X: Drop, T: Drop, L: Listing<X, T>> Listing<X, T> for WithBlocks<L> {
+    ghost listing = { λ list. with_blocks (L.listing list.public) (L.listing list.private) };
+
+    fn read_item(
+        &self,
+        alloc: Global,
+        item_type: &T,
+        tree: &Tree,
+    ) -> Result<Found<X>, OutOfMemory> {
+        self.public.read_item(alloc, item_type, tree)
+    }
+
+    fn takes_type(&self) -> bool {
+        self.public.takes_type()
+    }
+
+    fn read_type(&self, alloc: Global, tree: &Tree) -> Result<Found<T>, OutOfMemory> {
+        self.public.read_type(alloc, tree)
+    }
+
+    fn untyped(&self, alloc: Global) -> T {
+        self.public.untyped(alloc)
+    }
+
+    fn is_block(&self, tree: &Tree) -> bool {
+        self.public.is_block(tree)
+    }
+
+    fn read_block(&self, alloc: Global, tree: &Tree) -> Result<Found<List<X>>, OutOfMemory> {
+        read_block_of(alloc, &self.private, tree)
     }
 }
 
@@ -372,7 +380,7 @@ fn read_either(alloc: Global, head: &Tree, names: &[Tree]) -> Result<Found<WordL
 #[derive(Clone, Copy)]
 pub struct TypeForm;
 
-#[tactic(auto, using(crate::proofs::FoundLemmas::found_said), unfolding(crate::specs::Rules::Typed::type_rule))]
+#[tactic(auto, using(crate::proofs::FoundLemmas::found_said), unfolding(mp_forms::specs::Rules::Typed::type_rule))]
 impl Form<WordList> for TypeForm {
     ghost rule = { λ form node. type_rule node };
 
@@ -468,38 +476,7 @@ const PRIVATE_NAMES: Plain<NameForm> = Plain {
 };
 
 /// A list of objects, and of private blocks of them.
-#[derive(Clone, Copy)]
-pub struct Objects;
-
-impl Listing<Typed, WordList> for Objects {
-    ghost listing = { λ items. objects };
-
-    fn read_item(
-        &self,
-        alloc: Global,
-        item_type: &WordList,
-        tree: &Tree,
-    ) -> Result<Found<Typed>, OutOfMemory> {
-        declared(false, NameForm.read(alloc, tree)?, item_type)
-    }
-
-    fn takes_type(&self) -> bool {
-        true
-    }
-
-    fn read_type(&self, alloc: Global, tree: &Tree) -> Result<Found<WordList>, OutOfMemory> {
-        TypeForm.read(alloc, tree)
-    }
-
-    fn untyped(&self, alloc: Global) -> WordList {
-        SmallList::new(alloc)
-    }
-
-    fn is_block(&self, tree: &Tree) -> bool {
-        is_no_word(tree)
-    }
-
-    fn read_block(&self, alloc: Global, tree: &Tree) -> Result<Found<TypedList>, OutOfMemory> {
-        read_block_of(alloc, &PRIVATE_NAMES, tree)
-    }
-}
+pub const OBJECTS: WithBlocks<Plain<NameForm>> = WithBlocks {
+    public: NAMES,
+    private: PRIVATE_NAMES,
+};

@@ -2,34 +2,14 @@
 
 ghost use Rattle.std.specs.Prelude.{◌≡◌, IfOk};
 ghost use Rattle.mp_sexp.specs.Node.{node_of};
-ghost use Rattle.mp_factor.specs.Found.{found_in};
-ghost use Rattle.mp_factor.specs.Rules.Words.{word_at, name_rule, variable_rule};
+ghost use Rattle.mp_forms.specs.Rules.Words.{word_at, name_rule, variable_rule};
 
 use crate::found::{Form, Found, shape_fault};
 use crate::trees::{is_name, is_variable, place};
-use mp_list::{Copied, OutOfMemory, SmallList};
-use mp_sexp::{Name, Place, Tree};
+use mp_forms::Word;
+use mp_list::{Copied, OutOfMemory};
+use mp_sexp::{Name, Tree};
 use std::alloc::Global;
-
-/// A word of a file, a variable's `?` included, and the place of its first byte.
-#[derive(Drop)]
-pub struct Word {
-    /// The word's bytes, folded to lower case.
-    pub name: Name,
-    pub at: Place,
-}
-
-/// Words in the order of the file. Most types are one word, which takes no memory beside its list.
-pub type WordList = SmallList<Word>;
-
-impl Copied for Word {
-    fn copy(&self) -> Result<Word, OutOfMemory> {
-        Ok(Word {
-            name: self.name.copy()?,
-            at: self.at,
-        })
-    }
-}
 
 /// The word that a tree is; of a list, the empty word at its bracket.
 pub fn word_in(alloc: Global, tree: &Tree) -> Result<Word, OutOfMemory>
@@ -51,7 +31,7 @@ pub fn word_in(alloc: Global, tree: &Tree) -> Result<Word, OutOfMemory>
 #[derive(Clone, Copy)]
 pub struct NameForm;
 
-#[tactic(auto, unfolding(crate::specs::Rules::Words::name_rule))]
+#[tactic(auto, unfolding(mp_forms::specs::Rules::Words::name_rule))]
 impl Form<Word> for NameForm {
     ghost rule = { λ form node. name_rule node };
 
@@ -68,7 +48,7 @@ impl Form<Word> for NameForm {
 #[derive(Clone, Copy)]
 pub struct VariableForm;
 
-#[tactic(auto, unfolding(crate::specs::Rules::Words::variable_rule))]
+#[tactic(auto, unfolding(mp_forms::specs::Rules::Words::variable_rule))]
 impl Form<Word> for VariableForm {
     ghost rule = { λ form node. variable_rule node };
 

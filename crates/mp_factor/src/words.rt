@@ -3,8 +3,8 @@
 ghost use Rattle.std.specs.Prelude.{◌≡◌};
 ghost use Rattle.std.specs.List.{list_all};
 ghost use Rattle.std.specs.Str.{bytes_eq};
-ghost use Rattle.mp_factor.specs.Words.{is_letter as letter_of, is_digit as digit_of, is_name_byte as name_byte_of, begins_with_letter as letter_first, is_among as among, is_fixed as fixed, connectives, quantifiers, assignments, other_words};
-ghost use Rattle.mp_factor.specs.Kinds.{is_name as name_test, is_variable as variable_test};
+ghost use Rattle.mp_forms.specs.Words.{is_letter as letter_of, is_digit as digit_of, is_name_byte as name_byte_of, begins_with_letter as letter_first, is_among as among, is_fixed as fixed, connectives, quantifiers, assignments, other_words};
+ghost use Rattle.mp_forms.specs.Kinds.{is_name as name_test, is_variable as variable_test};
 
 /// Whether two words are the same.
 pub fn is_same(a: &[u8], b: &[u8]) -> bool
@@ -52,7 +52,7 @@ fn has_name_bytes(word: &[u8]) -> bool
 }
 
 /// Whether a word is a letter and then letters, digits, `-` and `_`.
-#[tactic(auto, unfolding(crate::specs::Kinds::is_name))]
+#[tactic(auto, unfolding(mp_forms::specs::Kinds::is_name))]
 pub fn is_name(word: &[u8]) -> bool
     ensures { result ≡ name_test word.now }
 {
@@ -60,7 +60,7 @@ pub fn is_name(word: &[u8]) -> bool
 }
 
 /// Whether a word is `?` and then a name.
-#[tactic(auto, unfolding(crate::specs::Kinds::is_variable))]
+#[tactic(auto, unfolding(mp_forms::specs::Kinds::is_variable))]
 pub fn is_variable(word: &[u8]) -> bool
     ensures { result ≡ variable_test word.now }
 {
@@ -71,7 +71,7 @@ pub fn is_variable(word: &[u8]) -> bool
 }
 
 /// Whether a word joins conditions.
-#[tactic(auto, unfolding(crate::specs::Words::connectives))]
+#[tactic(auto, unfolding(mp_forms::specs::Words::connectives))]
 fn is_connective(word: &[u8]) -> bool
     ensures { result ≡ among connectives word.now }
 {
@@ -84,7 +84,7 @@ fn is_connective(word: &[u8]) -> bool
 }
 
 /// Whether a word ranges over objects or types.
-#[tactic(auto, unfolding(crate::specs::Words::quantifiers))]
+#[tactic(auto, unfolding(mp_forms::specs::Words::quantifiers))]
 fn is_quantifier(word: &[u8]) -> bool
     ensures { result ≡ among quantifiers word.now }
 {
@@ -92,7 +92,7 @@ fn is_quantifier(word: &[u8]) -> bool
 }
 
 /// Whether a word changes a number.
-#[tactic(auto, unfolding(crate::specs::Words::assignments))]
+#[tactic(auto, unfolding(mp_forms::specs::Words::assignments))]
 fn is_assignment(word: &[u8]) -> bool
     ensures { result ≡ among assignments word.now }
 {
@@ -104,7 +104,7 @@ fn is_assignment(word: &[u8]) -> bool
 }
 
 /// Whether a word has a meaning of its own elsewhere.
-#[tactic(auto, unfolding(crate::specs::Words::other_words))]
+#[tactic(auto, unfolding(mp_forms::specs::Words::other_words))]
 fn is_other_word(word: &[u8]) -> bool
     ensures { result ≡ among other_words word.now }
 {
@@ -116,7 +116,7 @@ fn is_other_word(word: &[u8]) -> bool
 }
 
 /// Whether a word has a meaning of its own.
-#[tactic(auto, unfolding(crate::specs::Words::is_fixed))]
+#[tactic(auto, unfolding(mp_forms::specs::Words::is_fixed))]
 pub fn is_fixed(word: &[u8]) -> bool
     ensures { result ≡ fixed word.now }
 {

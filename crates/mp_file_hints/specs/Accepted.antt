@@ -2,12 +2,12 @@
 use Rattle.std.specs.Prelude.{◌≡◌, ◌≤◌, ℕ, List, [], length}
 use Rattle.mp_sexp.specs.Node.{Node}
 use Rattle.mp_sexp.specs.Spelling.{HasTree}
-use Rattle.mp_factor.specs.FactorParts.{DomainParts, ProblemParts}
-use Rattle.mp_factor.specs.Reading.{Says}
-use Rattle.mp_factor.specs.Rules.Files.{domain_rule, problem_rule, domain_faults, problem_faults}
-use Rattle.mp_factor.specs.declared.fault.Fault.{Fault}
-use Rattle.mp_factor.specs.declared.files.File.{File}
-use Rattle.mp_factor.specs.declared.files.File.TheVariants.{Domain, Problem}
+use Rattle.mp_forms.specs.FactorParts.{DomainParts, ProblemParts}
+use Rattle.mp_forms.specs.Reading.{Says}
+use Rattle.mp_forms.specs.Rules.Files.{domain_rule, problem_rule, domain_faults, problem_faults}
+use Rattle.mp_forms.specs.declared.fault.Fault.{Fault}
+use Rattle.mp_forms.specs.declared.files.File.{File}
+use Rattle.mp_forms.specs.declared.files.File.TheVariants.{Domain, Problem}
 use Rattle.mp_typing.specs.CheckFaults.{check_faults}
 
 -- the greatest number of bytes of a factor's file

@@ -5,7 +5,8 @@ ghost use Rattle.mp_sexp.specs.Node.{node_of};
 ghost use Rattle.mp_file_hints.specs.Accepted.{HaveNames};
 
 use mp_check_hints::{Pair, tell_check};
-use mp_factor::{Domain, ShapeRefusal, domain, problem};
+use mp_factor::{ShapeRefusal, domain, problem};
+use mp_forms::Domain;
 use mp_list::OutOfMemory;
 use mp_typing::{CheckRefusal, check};
 use std::alloc::{AllocError, Global};

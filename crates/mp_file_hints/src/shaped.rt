@@ -6,7 +6,8 @@ ghost use Rattle.mp_sexp.specs.Spelling.{HasTree};
 ghost use Rattle.mp_file_hints.specs.Accepted.{IsShaped, longest_file, shape_faults};
 
 use mp_bracket_hints::{FileText, tell_char, tell_deep, tell_trailing, tell_unbalanced};
-use mp_factor::{Fault, FaultKind, File, domain_fault, problem_fault};
+use mp_factor::{domain_fault, problem_fault};
+use mp_forms::{Fault, FaultKind, File};
 use mp_hints::text_of;
 use mp_list::OutOfMemory;
 use mp_sexp::{ReadRefusal, Tree, read};

@@ -7,7 +7,7 @@ use crate::checked::is_factor;
 use crate::shaped::tree_of;
 use mp_bracket_hints::FileText;
 use mp_check_hints::Pair;
-use mp_factor::File;
+use mp_forms::File;
 use mp_list::OutOfMemory;
 use std::alloc::Global;
 

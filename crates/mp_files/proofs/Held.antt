@@ -4,8 +4,8 @@ use Rattle.std.specs.Prelude.{slice_get}
 use Rattle.std.proofs.lemmas.List.{length-take, take_all}
 use Rattle.mp_joint.specs.Fact.{Text}
 use Rattle.mp_outside.specs.Source.{Files, FaultAt, IsFrontOf, Lacks}
-use Rattle.mp_factor.specs.declared.files.File.{File}
-use Rattle.mp_factor.specs.declared.files.File.TheVariants as file
+use Rattle.mp_forms.specs.declared.files.File.{File}
+use Rattle.mp_forms.specs.declared.files.File.TheVariants as file
 use Rattle.mp_files.specs.Cause.{AreFittingBefore, IsFittingBefore, Rests, SeenSource, name_in}
 use Rattle.mp_files.specs.Fetched.{AreFetched, IsFetched, IsTextOf}
 use Rattle.mp_files.specs.File.{IsLong, file_of, longest_file}

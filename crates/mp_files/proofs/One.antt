@@ -1,12 +1,12 @@
 -- What the files of a team lead to is one thing alone.
 use Rattle.std.proofs.Common.{◌≡◌, ◌<◌, ◌≤◌, ◌⊎◌, inl, inr, ℕ, zero, suc, List, [], length, map, Option, Some, None, Result, Ok, Err, refl, sym, ap, ◌∙◌, subst, arith}
 use Rattle.std.specs.Prelude.{Contains}
-use Rattle.mp_factor.specs.Faults.{IsFirst as IsFirstOf}
-use Rattle.mp_factor.specs.Reading.{Reading as ShapeReading, faults_in}
-use Rattle.mp_factor.specs.Rules.Files.{domain_rule, problem_rule}
-use Rattle.mp_factor.specs.declared.fault.Fault.{Fault as ShapeFault}
-use Rattle.mp_factor.specs.declared.factor.Factor.{Factor}
-use Rattle.mp_factor.specs.declared.files.File.TheVariants as file
+use Rattle.mp_forms.specs.Faults.{IsFirst as IsFirstOf}
+use Rattle.mp_forms.specs.Reading.{Reading as ShapeReading, faults_in}
+use Rattle.mp_forms.specs.Rules.Files.{domain_rule, problem_rule}
+use Rattle.mp_forms.specs.declared.fault.Fault.{Fault as ShapeFault}
+use Rattle.mp_forms.specs.declared.factor.Factor.{Factor}
+use Rattle.mp_forms.specs.declared.files.File.TheVariants as file
 use Rattle.mp_joint.specs.Fact.{Text}
 use Rattle.mp_outside.specs.Source.{Files}
 use Rattle.mp_sexp.specs.Fault.{ReadFault}

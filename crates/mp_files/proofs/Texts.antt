@@ -1,11 +1,11 @@
 -- From the texts of a team to its factors, and to what the files hold.
 use Rattle.std.proofs.Common.{◌≡◌, inl, inr, ℕ, List, length, Option, Some, None, Result, Ok, Err, IfOk, IfErr, IfSome, OnOk, ◌∙◌}
-use Rattle.mp_factor.specs.declared.factor.Factor.{Factor}
+use Rattle.mp_forms.specs.declared.factor.Factor.{Factor}
 use Rattle.mp_joint.specs.Fact.{Text}
 use Rattle.mp_outside.specs.Source.{Files}
 use Rattle.mp_sexp.specs.declared.refusal.ReadRefusal.{ReadRefusal}
 use Rattle.mp_sexp.specs.declared.refusal.ReadRefusal.TheVariants as text
-use Rattle.mp_factor.specs.declared.files.File.TheVariants as file
+use Rattle.mp_forms.specs.declared.files.File.TheVariants as file
 use Rattle.mp_files.specs.Cause.{Rests, SeenSource}
 use Rattle.mp_files.specs.Fetched.{AreAllFetched}
 use Rattle.mp_files.specs.File.{Checks, Parts, SaysDomain, SaysProblem, file_of, text_refusal}

@@ -1,8 +1,8 @@
 -- What is seen of a source in a call, and what a refusal rests on.
 use Rattle.std.specs.Prelude.{◌≡◌, ◌<◌, ◌⊎◌, ℕ, List, Option, Some, IfSome, IsSomeAnd, slice_get}
 use Rattle.mp_joint.specs.Fact.{Text}
-use Rattle.mp_factor.specs.declared.files.File.{File}
-use Rattle.mp_factor.specs.declared.files.File.TheVariants as file
+use Rattle.mp_forms.specs.declared.files.File.{File}
+use Rattle.mp_forms.specs.declared.files.File.TheVariants as file
 use Rattle.mp_outside.specs.Source.{Files, FaultAt}
 use Rattle.mp_files.specs.File.{IsFitting}
 use Rattle.mp_files.specs.Team.{IsFirst, Two}

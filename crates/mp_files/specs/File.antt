@@ -1,17 +1,17 @@
 -- What a file leads to: its text, where it is there and not too long; what its text says, where that is well
 -- formed; and the factor of two files, where nothing is wrong with its names.
 use Rattle.std.specs.Prelude.{◌≡◌, ◌<◌, ◌≤◌, ℕ, [], length, Option, Some, None, Ok, Err, IsSomeAnd}
-use Rattle.mp_factor.specs.Faults.{IsFirst as IsFirstOf}
-use Rattle.mp_factor.specs.Reading.{Reading as ShapeReading, Says as ShapeSays, faults_in}
-use Rattle.mp_factor.specs.Rules.Files.{domain_rule, problem_rule}
-use Rattle.mp_factor.specs.declared.fault.Fault.{Fault as ShapeFault}
-use Rattle.mp_factor.specs.declared.fault.FaultKind.{FaultKind}
-use Rattle.mp_factor.specs.declared.fault.FaultKind.TheVariants as shape
-use Rattle.mp_factor.specs.FactorParts.{DomainParts, ProblemParts}
-use Rattle.mp_factor.specs.declared.factor.Factor.{Factor}
+use Rattle.mp_forms.specs.Faults.{IsFirst as IsFirstOf}
+use Rattle.mp_forms.specs.Reading.{Reading as ShapeReading, Says as ShapeSays, faults_in}
+use Rattle.mp_forms.specs.Rules.Files.{domain_rule, problem_rule}
+use Rattle.mp_forms.specs.declared.fault.Fault.{Fault as ShapeFault}
+use Rattle.mp_forms.specs.declared.fault.FaultKind.{FaultKind}
+use Rattle.mp_forms.specs.declared.fault.FaultKind.TheVariants as shape
+use Rattle.mp_forms.specs.FactorParts.{DomainParts, ProblemParts}
+use Rattle.mp_forms.specs.declared.factor.Factor.{Factor}
 use Rattle.mp_factor.specs.declared.refusal.ShapeRefusal.{ShapeRefusal}
 use Rattle.mp_factor.specs.declared.refusal.ShapeRefusal.TheVariants as shapes
-use Rattle.mp_factor.specs.declared.files.File.{File}
+use Rattle.mp_forms.specs.declared.files.File.{File}
 use Rattle.mp_joint.specs.Fact.{Text}
 use Rattle.mp_outside.specs.Source.{Files}
 use Rattle.mp_sexp.specs.Fault.{ReadFault}

@@ -2,8 +2,8 @@
 -- problem, is looked for and measured; then each text is read and its shape looked at; then names, numbers of
 -- terms and declarations of each agent's factor are checked.
 use Rattle.std.specs.Prelude.{◌≡◌, ℕ, List, length, Option, Some, Ok, Err, IfSome}
-use Rattle.mp_factor.specs.declared.factor.Factor.{Factor}
-use Rattle.mp_factor.specs.declared.files.File.TheVariants as file
+use Rattle.mp_forms.specs.declared.factor.Factor.{Factor}
+use Rattle.mp_forms.specs.declared.files.File.TheVariants as file
 use Rattle.mp_joint.specs.Fact.{Text}
 use Rattle.mp_outside.specs.Source.{Files}
 use Rattle.mp_files.specs.Reading.{Reading, Each, Gives, Then}

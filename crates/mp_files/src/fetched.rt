@@ -11,7 +11,7 @@ ghost use Rattle.mp_files.specs.File.{longest_file};
 use crate::appending::push;
 use crate::refusal::Refusal;
 use crate::shapes::file_of;
-use mp_factor::File;
+use mp_forms::File;
 use mp_outside::{FetchRefusal, Source, fetch};
 use std::alloc::Global;
 

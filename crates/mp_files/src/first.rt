@@ -2,7 +2,7 @@
 
 ghost use Rattle.std.specs.Prelude.{◌≡◌, List, Ok, Err, map};
 ghost use Rattle.mp_outside.specs.Source.{Files};
-ghost use Rattle.mp_factor.specs.declared.factor.Factor.{Factor};
+ghost use Rattle.mp_forms.specs.declared.factor.Factor.{Factor};
 ghost use Rattle.mp_files.specs.Team.{FoundTwo, HoldsTeam, IsFirst, ReadsFound, ReadsMade, Two, found_in_memory, found_under};
 ghost use Rattle.mp_files.specs.declared.refusal.Refusal.{Refusal};
 

@@ -9,7 +9,7 @@ use crate::appending::push;
 use crate::fetched::{AgentTexts, LONGEST};
 use crate::refusal::Refusal;
 use crate::shapes::file_of;
-use mp_factor::File;
+use mp_forms::File;
 use std::alloc::Global;
 
 /// The texts of an agent, unless one is too long.

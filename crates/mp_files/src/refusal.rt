@@ -1,6 +1,6 @@
 //! Why the files of a team are refused.
 
-use mp_factor::File;
+use mp_forms::File;
 use mp_list::OutOfMemory;
 use mp_sexp::{Name, Place};
 use thiserror::Error;

@@ -1,7 +1,7 @@
 //! What the texts of a team's files say, and the factors of its agents.
 
 ghost use Rattle.std.specs.Prelude.{◌≡◌, ◌≤◌, Ok, IfOk, IfErr, All, map, vec_len};
-ghost use Rattle.mp_factor.specs.declared.files.File.TheVariants as file;
+ghost use Rattle.mp_forms.specs.declared.files.File.TheVariants as file;
 ghost use Rattle.mp_files.specs.Fetched.{IsShort, texts_of};
 ghost use Rattle.mp_files.specs.File.{Checks, Parts, SaysProblem, file_of as file_of_agent, longest_file};
 ghost use Rattle.mp_files.specs.Reading.{Each, Gives, Refuses, Then};
@@ -12,7 +12,7 @@ use crate::appending::push;
 use crate::fetched::AgentTexts;
 use crate::refusal::Refusal;
 use crate::shapes::{checked, domain_of_text, file_of, problem_of_text};
-use mp_factor::{Domain, File, Problem};
+use mp_forms::{Domain, File, Problem};
 use mp_list::List;
 use mp_typing::CheckedFactor;
 use std::alloc::Global;

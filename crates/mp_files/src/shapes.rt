@@ -1,7 +1,7 @@
 //! What the text of a file says, and the factor of two files.
 
 ghost use Rattle.std.specs.Prelude.{◌≡◌, ◌≤◌, Ok, IfOk, IfErr, vec_len};
-ghost use Rattle.mp_factor.specs.Rules.Files.{domain_rule, problem_rule};
+ghost use Rattle.mp_forms.specs.Rules.Files.{domain_rule, problem_rule};
 ghost use Rattle.mp_sexp.specs.Node.{node_of};
 ghost use Rattle.mp_sexp.specs.Spelling.{HasTree};
 ghost use Rattle.mp_files.specs.File.{Checks, HasShape, SaysDomain, SaysProblem, Spells, longest_file};
@@ -9,7 +9,8 @@ ghost use Rattle.mp_files.specs.File.{file_of as file_of_agent, told_check, told
 ghost use Rattle.mp_files.specs.Reading.{Refuses};
 
 use crate::refusal::{Fault, FileOf, Refusal};
-use mp_factor::{Domain, File, Problem, ShapeRefusal, domain, into_problem};
+use mp_factor::{ShapeRefusal, domain, into_problem};
+use mp_forms::{Domain, File, Problem};
 use mp_sexp::{ReadRefusal, Tree, read};
 use mp_typing::{CheckRefusal, CheckedFactor, Found, check};
 use std::alloc::Global;

@@ -16,8 +16,8 @@ pub use Rattle.std.specs.Option.{option_map, option_map_or, unwrap_or}
 pub use Rattle.std.specs.Ordering.{eq_by_cmp, nat_cmp}
 pub use Rattle.std.specs.Prelude.{Contains, Decides}
 pub use Rattle.std.specs.Str.{bytes_eq}
-pub use Rattle.mp_factor.specs.declared.factor.Factor.{Factor}
-pub use Rattle.mp_factor.specs.declared.typed_values.Typed.{Typed}
+pub use Rattle.mp_forms.specs.declared.factor.Factor.{Factor}
+pub use Rattle.mp_forms.specs.declared.typed_values.Typed.{Typed}
 pub use Rattle.mp_ground_facts.proofs.FactsOf.{facts_are_counted, facts_rise}
 pub use Rattle.mp_ground_facts.specs.Facts.{fact_cmp}
 pub use Rattle.mp_ground_facts.specs.Ground.{ground_action}
@@ -41,7 +41,7 @@ pub use Rattle.mp_lifted.specs.declared.lifted.LiftedAction.{LiftedAction}
 pub use Rattle.mp_lifted.specs.declared.lifted.LiftedFactor.{LiftedFactor}
 pub use Rattle.mp_lifted.specs.declared.view.OpenView.{OpenView}
 pub use Rattle.mp_list.proofs.Bools.{same_tests}
-pub use Rattle.mp_list.proofs.Members.{any_from, contains_cases, contains_head, contains_tail, no_member, some_member}
+pub use Rattle.mp_list.proofs.Members.{any_from, contains_head, contains_tail, no_member, some_member}
 pub use Rattle.mp_sexp.specs.Bytes.{folded}
 pub use Rattle.mp_sexp.specs.Numbers.{name_at}
 unfoldable pub use Rattle.mp_sexp.specs.Numbers.{number_in}

@@ -2,8 +2,8 @@
 use Rattle.mp_ground.proofs.Basics.{arith, ◌≡◌, ℕ, suc, ◌+◌, ◌≤◌, Bool, true, false, cond, List, [], ◌∷◌, filter, length, All, Option, Some, None, refl, subst, same_Some, none-some, flat_map, option_map, LiftedAction, LiftedFactor}
 use Rattle.mp_ground.proofs.Basics.{ActionBinding, HasSmallCosts, instances}
 use Rattle.std.proofs.Common.{◌*◌, find, option_and_then}
-use Rattle.std.proofs.lemmas.List.Elements.{All-nil, All-cons, All-head, All-tail, All-append}
-use Rattle.std.specs.List.{enumerate_from, filter_map, cons_option}
+use Rattle.std.proofs.lemmas.List.Elements.{All-nil, All-head, All-tail, All-append}
+use Rattle.std.specs.List.{enumerate_from, filter_map}
 use Rattle.mp_lifted.specs.declared.lifted.Amount.{Amount}
 use Rattle.mp_lifted.specs.declared.lifted.Amount.TheVariants.{Number, Value, Missing}
 use Rattle.mp_lifted.specs.declared.lifted.GroundAtom.{GroundAtom}
@@ -12,6 +12,7 @@ use Rattle.mp_bindings.specs.Bindings.{product}
 use Rattle.mp_lifted.specs.Atoms.{atom_at, same_atom}
 use Rattle.mp_instances.specs.Costs.{value_of, amount_at, cost_at, IsSmall, IsCheap}
 use Rattle.mp_instances.specs.Instances.{suits, binding_of, instances_of}
+use Rattle.mp_grounder.proofs.Counted.{given_one}
 
 abbrev IsLow : GroundValue → Type 0
 IsLow v = v.cost ≤ 1000000
@@ -49,10 +50,6 @@ sum_low values objects (a ∷ as') c low small h =
 
 abbrev pub CostsLittle : ActionBinding → Type 0
 CostsLittle i = i.cost ≤ 16000000
-
-given_one : {Y : Type 0} (P : Y → Type 0) (o : Option Y) (ys : List Y) → ((y : Y) → o ≡ Some y → P y) → All P ys → All P (cons_option o ys)
-given_one P None ys here rest = rest
-given_one P (Some y) ys here rest = All-cons P y ys (here y refl) rest
 
 all_given : {X Y : Type 0} (P : Y → Type 0) (h : X → Option Y) (xs : List X) → ((x : X) (y : Y) → h x ≡ Some y → P y) → All P (filter_map h xs)
 all_given P h [] each = All-nil P

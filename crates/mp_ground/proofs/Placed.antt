@@ -1,7 +1,7 @@
 -- The numbers of some facts, as places of facts in lists: of private facts in the list of these, of public ones in the list
 -- of their texts.
 use Rattle.mp_ground.proofs.Basics.{arith, ◌≡◌, ℕ, ◌+◌, ◌-◌, ◌<◌, ◌≤◌, Bool, true, false, not, nat_lt, List, [], ◌∷◌, map, filter, take, drop, get_or, Option, Some, None, slice_get, refl, sym, ap, ◌∙◌, subst, Less, Contains}
-use Rattle.mp_ground.proofs.Basics.{slice_cmp, list_any, AllByRecursion, IsStrictlySortedBy, option_map, nat_cmp, bytes_eq, ltb-true, lt-ltb, Contains-get_or, slice_get-map, slice_get_within, none-some, same_Some, bytes_eq-Decides, any_from}
+use Rattle.mp_ground.proofs.Basics.{slice_cmp, list_any, AllByRecursion, IsStrictlySortedBy, option_map, nat_cmp, bytes_eq, ltb-true, lt-ltb, slice_get-map, slice_get_within, none-some, same_Some, bytes_eq-Decides, any_from}
 use Rattle.mp_ground.proofs.Basics.{some_member, number_in, sorted_by, Text, numbers_where, taken_passes, taken_from_passes}
 use Rattle.std.specs.Ordering.{is_eq}
 use Rattle.std.proofs.lemmas.Bool.{ltb-false, not-true}
@@ -14,7 +14,9 @@ use Rattle.mp_ground.proofs.Members.{get_taken, get_dropped}
 use Rattle.mp_list.proofs.Members.{to_map, from_map}
 use Rattle.mp_grounder.proofs.Distinct.{AreDistinct}
 use Rattle.mp_grounder.proofs.Numbered.{number_at}
-use Rattle.mp_ground.proofs.Rising.{member_is_place, place_is_member, sorted_places}
+use Rattle.mp_typing.proofs.Placing.{passing_place, place_passes}
+use Rattle.mp_ground.proofs.Rising.{sorted_places}
+use Rattle.mp_typing.proofs.Finding.{member_at}
 
 -- ---- lists at places
 
@@ -27,11 +29,6 @@ at_mapped {X} {Y} f xs n y h = by (slice_get xs n) refl
     by : (o : Option X) → slice_get xs n ≡ o → (x : X) × (slice_get xs n ≡ Some x) × (f x ≡ y)
     by None e = absurd (none-some y (sym (slice_get-map f xs n ∙ ap (option_map f) e) ∙ h))
     by (Some x) e = (x, e, same_Some (f x) y (sym (slice_get-map f xs n ∙ ap (option_map f) e) ∙ h))
-
-pub member_at : {X : Type 0} (xs : List X) (n : ℕ) (x : X) → slice_get xs n ≡ Some x → Contains xs x
-member_at xs n x h =
-    let within = slice_get_within xs n x h in
-    subst (Contains xs) (get_or_from_slice_get xs n x x h) (Contains-get_or xs n x within)
 
 -- ---- facts with numbers
 
@@ -83,18 +80,15 @@ first_passing facts m name test told same =
     (λ n found.
     let taken = taken_passes (λ k. nat_lt k m) (numbers_where 0 test facts) n found in
     let less : n < m = ltb-true n m taken.1 in
-    let p = member_is_place 0 test facts n taken.0 in
-    let is : p.at ≡ n = let e = p.is in omega arith in
-    let f = p.item in
-    let at : slice_get facts n ≡ Some f = ap (slice_get facts) (sym is) ∙ p.there in
-    (name f, mapped_at name (take m facts) n f (get_taken m n facts less ∙ at), sym (same f (member_at facts n f at)) ∙ p.passes))
+    let (f, at, passes) = place_passes test facts n taken.0 in
+    (name f, mapped_at name (take m facts) n f (get_taken m n facts less ∙ at), sym (same f (member_at facts n f at)) ∙ passes))
     (λ n y at passes.
     let from = at_mapped name (take m facts) n y at in
     let f = from.0 in
     let less : n < m = omega (arith, slice_get_within (take m facts) n f from.1, length-take m facts) in
     let there : slice_get facts n ≡ Some f = sym (get_taken m n facts less) ∙ from.1 in
     let passed : test f ≡ true = same f (member_at facts n f there) ∙ ap told from.2 ∙ passes in
-    taken_from_passes (λ k. nat_lt k m) (numbers_where 0 test facts) n (place_is_member test facts n f there passed) (lt-ltb n m less))
+    taken_from_passes (λ k. nat_lt k m) (numbers_where 0 test facts) n (passing_place test facts n f there passed) (lt-ltb n m less))
 
 -- ---- texts in order
 

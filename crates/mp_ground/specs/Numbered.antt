@@ -2,7 +2,7 @@
 -- facts have the places of their texts.
 use Rattle.std.specs.Prelude.{ℕ, ◌-◌, nat_lt, not, List, map, filter, length, drop, None, slice_index_or}
 use Rattle.std.specs.Ordering.{nat_cmp}
-use Rattle.mp_factor.specs.declared.factor.Factor.{Factor}
+use Rattle.mp_forms.specs.declared.factor.Factor.{Factor}
 use Rattle.mp_sexp.specs.Numbers.{name_at, number_in}
 use Rattle.mp_joint.specs.Fact.{Text}
 use Rattle.mp_task.specs.declared.act.Act.{Act}

@@ -6,7 +6,7 @@ ghost use Rattle.mp_lifted.specs.Vocabulary.{declared_names};
 ghost use Rattle.mp_sexp.specs.Numbers.{name_at};
 ghost use Rattle.mp_ground.specs.Numbered.{fact_names as names_of_facts};
 
-use mp_factor::{Factor, SignatureList, TypedList};
+use mp_forms::{Factor, SignatureList, TypedList};
 use mp_list::{Copied, List, OutOfMemory};
 use mp_sexp::{Name, NameList};
 use std::alloc::Global;

@@ -6,7 +6,7 @@ ghost use Rattle.mp_sexp.specs.Numbers.{name_at};
 ghost use Rattle.mp_grounder.specs.Named.{step_of};
 
 use crate::names::{Names, copied_names, object_names};
-use mp_factor::{Factor, SchemaList};
+use mp_forms::{Factor, SchemaList};
 use mp_joint::PlanStep;
 use mp_lifted::BoundAction;
 use mp_list::{Copied, OutOfMemory};
@@ -36,7 +36,7 @@ pub struct StepNames<'a> {
 
 impl<'a> Model for StepNames<'a> {
     ghost use Rattle.std.specs.Prelude.{◌≡◌};
-    ghost use Rattle.mp_factor.specs.declared.factor.Factor.{Factor};
+    ghost use Rattle.mp_forms.specs.declared.factor.Factor.{Factor};
     ghost use Rattle.mp_ground.specs.Numbered.{fact_names as names_of_facts};
 
     ghost Value = { Factor };

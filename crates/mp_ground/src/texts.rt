@@ -150,17 +150,6 @@ fn in_order(alloc: Global, texts: &[Name]) -> Result<FactTexts, OutOfMemory>
     sorted_once(alloc, all)
 }
 
-/// A table of names.
-fn table_of<'a>(alloc: Global, names: &'a NameList) -> Result<NameTable<'a>, OutOfMemory>
-    ensures { IfOk result (λ table. table ≡ names.now) }
-{
-    let mut table = NameTable::new(alloc);
-    for name in names.as_slice() {
-        table.push(name)?;
-    }
-    Ok(table)
-}
-
 /// The number of a name in a table.
 fn short_number(table: &NameTable<'_>, name: &Name) -> u32
     requires { length table.now ≤ 65535 }
@@ -174,7 +163,7 @@ fn numbers_in(alloc: Global, names: &NameList, some: &[Name]) -> Result<List<u32
     requires { length names.now ≤ 65535 }
     ensures { IfOk result (λ numbers. numbers ≡ map (number_in names.now) some.now) }
 {
-    let table = table_of(alloc, names)?;
+    let table = NameTable::of(alloc, names.as_slice())?;
     let mut numbers = List::with_capacity(alloc, some.len())?;
     for name in some {
         numbers.push(short_number(&table, name))?;

@@ -2,7 +2,6 @@
 pub use Rattle.std.proofs.Common.{Bool, Less, List, Some, [], ap, arith, cond, drop, false, filter, get_or, length, map, not, refl, subst, suc, sym, true, ℕ, ◌&&◌, ◌++◌}
 pub use Rattle.std.proofs.Common.{◌+◌, ◌<◌, ◌||◌, ◌∙◌, ◌∷◌, ◌≡◌, ◌≤◌}
 pub use Rattle.std.proofs.lemmas.Bool.{false≢true}
-pub use Rattle.std.proofs.lemmas.List.{map-append}
 pub use Rattle.std.specs.Bool.{Decides}
 pub use Rattle.std.specs.Cmp.{IsTotalOrder}
 pub use Rattle.std.specs.FinMap.{IsAntisymmetric}
@@ -14,7 +13,6 @@ pub use Rattle.std.specs.Ordering.{eq_by_cmp, is_eq}
 pub use Rattle.indexmap.specs.IndexSet.{insert_all}
 pub use Rattle.mp_lifted.specs.Atoms.{atoms_at}
 pub use Rattle.mp_lifted.specs.declared.lifted.GroundAtom.{GroundAtom}
-pub use Rattle.mp_lifted.specs.declared.lifted.LiftedAtom.{LiftedAtom}
 pub use Rattle.mp_lifted.specs.declared.lifted.LiftedFactor.{LiftedFactor}
 unfoldable pub use Rattle.mp_typing.specs.Places.{numbers_where}
 pub use Rattle.mp_ground_facts.specs.Facts.{complement, fact_cmp, fact_of, has_complement, is_initial, same_fact}

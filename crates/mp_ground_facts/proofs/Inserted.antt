@@ -2,14 +2,7 @@
 use Rattle.mp_ground_facts.proofs.Basics.{◌≡◌, Bool, true, false, cond, ◌||◌, List, [], ◌∷◌, ◌++◌, refl, sym, ap, ◌∙◌, Decides, list_any, false≢true, insert_all}
 use Rattle.std.proofs.lemmas.List.Folds.{list_any-append}
 use Rattle.indexmap.specs.IndexSet.{insert_key}
-
-or_assoc : (a b c : Bool) → ((a || b) || c) ≡ (a || (b || c))
-or_assoc true b c = refl
-or_assoc false b c = refl
-
-or_false : (a : Bool) → (a || false) ≡ a
-or_false true = refl
-or_false false = refl
+use Rattle.mp_list.proofs.Bools.{or_all, or_false}
 
 known : (a b : Bool) → (b ≡ true → a ≡ true) → a ≡ (a || b)
 known true b h = refl
@@ -30,4 +23,4 @@ module _ {X : Type 0} (E : X → X → Bool) (decides : (a b : X) → Decides (E
   any_insert_all ks (x ∷ xs) q =
       any_insert_all (insert_key E ks x) xs q
       ∙ ap (λ b. b || list_any (E q) xs) (any_insert_key ks x q)
-      ∙ or_assoc (list_any (E q) ks) (E q x) (list_any (E q) xs)
+      ∙ or_all (list_any (E q) ks) (E q x) (list_any (E q) xs)

@@ -1,11 +1,8 @@
 -- What is needed where facts are handed on one after another.
-use Rattle.mp_ground_facts.proofs.Basics.{◌≡◌, Bool, true, false, ◌&&◌, filter, List, [], refl, GroundAtom, LiftedFactor, has_complement, with_complements}
+use Rattle.mp_ground_facts.proofs.Basics.{◌≡◌, filter, List, [], GroundAtom, LiftedFactor, has_complement, with_complements}
 use Rattle.std.proofs.lemmas.List.Elements.{filter_agree}
 use Rattle.std.proofs.lemmas.List.Sums.{fold-append}
-
-and_true : (b : Bool) → (b && true) ≡ b
-and_true true = refl
-and_true false = refl
+use Rattle.mp_list.proofs.Bools.{and_true}
 
 -- of no others, all that have complements are none
 pub no_others : (factor : LiftedFactor) (atoms : List GroundAtom) → with_complements factor [] atoms ≡ filter (has_complement factor) atoms

@@ -12,20 +12,20 @@ pub use Rattle.std.specs.Option.{option_map, option_map_or}
 pub use Rattle.std.specs.Prelude.{option_and_then}
 pub use Rattle.std.specs.Str.{bytes_eq}
 unfoldable pub use Rattle.mp_bindings.specs.Bindings.{product}
-pub use Rattle.mp_factor.specs.Limits.{name_of_term}
-pub use Rattle.mp_factor.specs.declared.atom_values.Atom.{Atom}
-pub use Rattle.mp_factor.specs.declared.atom_values.Term.{Term}
-pub use Rattle.mp_factor.specs.declared.atom_values.Term.TheVariants.{Object, Variable}
-pub use Rattle.mp_factor.specs.declared.effect_values.Increase.{Increase}
-pub use Rattle.mp_factor.specs.declared.effect_values.Increase.TheVariants.{Function, Number}
-pub use Rattle.mp_factor.specs.declared.factor.Factor.{Factor}
-pub use Rattle.mp_factor.specs.declared.files.File.{File}
-pub use Rattle.mp_factor.specs.declared.init_values.Value.{Value}
-pub use Rattle.mp_factor.specs.declared.literal.Literal.{Literal}
-pub use Rattle.mp_factor.specs.declared.schema_values.Schema.{Schema}
-pub use Rattle.mp_factor.specs.declared.signature_values.Signature.{Signature}
-pub use Rattle.mp_factor.specs.declared.typed_values.Typed.{Typed}
-pub use Rattle.mp_factor.specs.declared.word.Word.{Word}
+pub use Rattle.mp_forms.specs.Limits.{name_of_term}
+pub use Rattle.mp_forms.specs.declared.atom_values.Atom.{Atom}
+pub use Rattle.mp_forms.specs.declared.atom_values.Term.{Term}
+pub use Rattle.mp_forms.specs.declared.atom_values.Term.TheVariants.{Object, Variable}
+pub use Rattle.mp_forms.specs.declared.effect_values.Increase.{Increase}
+pub use Rattle.mp_forms.specs.declared.effect_values.Increase.TheVariants.{Function, Number}
+pub use Rattle.mp_forms.specs.declared.factor.Factor.{Factor}
+pub use Rattle.mp_forms.specs.declared.files.File.{File}
+pub use Rattle.mp_forms.specs.declared.init_values.Value.{Value}
+pub use Rattle.mp_forms.specs.declared.literal.Literal.{Literal}
+pub use Rattle.mp_forms.specs.declared.schema_values.Schema.{Schema}
+pub use Rattle.mp_forms.specs.declared.signature_values.Signature.{Signature}
+pub use Rattle.mp_forms.specs.declared.typed_values.Typed.{Typed}
+pub use Rattle.mp_forms.specs.declared.word.Word.{Word}
 pub use Rattle.mp_ground_facts.specs.Facts.{complement, fact_cmp, has_complement, plain}
 pub use Rattle.mp_ground_facts.specs.Touched.{added, counted, deleted, goal_facts, needed, of_action, touched}
 pub use Rattle.mp_ground_facts.specs.declared.fact.GroundFact.{GroundFact}

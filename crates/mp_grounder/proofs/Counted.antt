@@ -12,7 +12,7 @@ use Rattle.mp_grounder.proofs.Parts.{IsSchema, HasParts, parts_of}
 
 -- ---- instances
 
-given_one : {Y : Type 0} (P : Y → Type 0) (o : Option Y) (ys : List Y) → ((y : Y) → o ≡ Some y → P y) → All P ys → All P (cons_option o ys)
+pub given_one : {Y : Type 0} (P : Y → Type 0) (o : Option Y) (ys : List Y) → ((y : Y) → o ≡ Some y → P y) → All P ys → All P (cons_option o ys)
 given_one P None ys here rest = rest
 given_one P (Some y) ys here rest = All-cons P y ys (here y refl) rest
 

@@ -1,5 +1,5 @@
 -- Atoms in range, and the facts that they stand for.
-use Rattle.mp_grounder.proofs.Basics.{◌≡◌, ℕ, true, ◌&&◌, ◌||◌, ◌==◌, nat_eq, List, [], ◌∷◌, map, All, refl, sym, ap, ◌∙◌, subst, inl, inr, cases_Bool, and_parts, eqb-true, All-head, All-tail, bytes_eq-Decides, pointwise}
+use Rattle.mp_grounder.proofs.Basics.{◌≡◌, ℕ, true, ◌&&◌, ◌||◌, ◌==◌, List, [], ◌∷◌, map, All, refl, sym, ap, ◌∙◌, subst, inl, inr, cases_Bool, and_parts, All-head, All-tail, bytes_eq-Decides, pointwise}
 use Rattle.mp_grounder.proofs.Basics.{bytes_eq, Factor, name_at, objects_of, privates_of, GroundAtom, vocabulary_of, same_atom, is_among, named_objects, named_fact, IsInRange}
 use Rattle.std.proofs.lemmas.Bool.{and_right}
 use Rattle.std.proofs.lemmas.Slice.Eq.{slice_eq-Decides}
@@ -8,6 +8,7 @@ use Rattle.mp_joint.proofs.SameFacts.{owner_itself, fact_itself}
 use Rattle.mp_grounder.proofs.Distinct.{AreDistinct, first_distinct}
 use Rattle.mp_grounder.proofs.Numbered.{same_places, same_lists}
 use Rattle.mp_grounder.proofs.Parts.{HasParts}
+use Rattle.mp_lifted.proofs.Keeping.{equal}
 
 pub objects_distinct : (factor : Factor) → AreDistinct (vocabulary_of factor).objects
 objects_distinct factor = first_distinct (objects_of factor)
@@ -38,17 +39,10 @@ same_facts agent factor a b parts first second =
     ∙ ap (λ t. t && pointwise bytes_eq (named_objects factor a.args) (named_objects factor b.args)) (same_places names a.symbol b.symbol parts.predicates first.symbol second.symbol)
     ∙ ap (λ t. (a.symbol == b.symbol) && t) (same_lists objects a.args b.args (objects_distinct factor) first.args second.args)
 
-pub same_atom_is : (a b : GroundAtom) → same_atom a b ≡ true → a ≡ b
-same_atom_is a b h =
-    let parts = and_parts (a.symbol == b.symbol) (pointwise nat_eq a.args b.args) h in
-    let symbols : a.symbol ≡ b.symbol = eqb-true a.symbol b.symbol parts.0 in
-    let args : a.args ≡ b.args = (bytes_eq-Decides a.args b.args).0 parts.1 in
-    λ i. record { symbol = symbols i; args = args i }
-
 pub different_facts : (agent : ℕ) (factor : Factor) (a b : GroundAtom) → HasParts factor → IsInRange factor a → IsInRange factor b
     → named_fact agent factor a ≡ named_fact agent factor b → a ≡ b
 different_facts agent factor a b parts first second h =
-    same_atom_is a b
+    equal a b
     (sym (same_facts agent factor a b parts first second)
     ∙ subst (λ f. joint.same_fact (named_fact agent factor a) f ≡ true) h
     (fact_itself (named_fact agent factor a)))

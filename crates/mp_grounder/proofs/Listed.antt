@@ -1,5 +1,5 @@
 -- The numbered facts, by their names, are a listing of the counted ones.
-use Rattle.mp_grounder.proofs.Basics.{◌≡◌, ℕ, Bool, true, false, cond, List, [], ◌∷◌, map, filter, get_or, All, refl, sym, ap, ◌∙◌, subst, inl, inr, cases_Bool, All-head, All-tail, Factor, SignedFact, OpenView, lifted_factor, setting_of, instances}
+use Rattle.mp_grounder.proofs.Basics.{◌≡◌, ℕ, Bool, true, false, cond, List, [], ◌∷◌, map, filter, get_or, All, refl, sym, ◌∙◌, subst, inl, inr, All-head, All-tail, Factor, SignedFact, OpenView, lifted_factor, setting_of, instances}
 use Rattle.mp_grounder.proofs.Basics.{GroundFact, fact_cmp, counted, IsChecked, counted_facts, signed_cmp, signed_fact, IsOfFactor}
 use Rattle.std.proofs.Common.{Less}
 use Rattle.std.proofs.lemmas.List.Elements.{Contains-get_or}
@@ -13,45 +13,16 @@ use Rattle.mp_grounder.specs.Numbered.{AreNumbered}
 use Rattle.mp_grounder.proofs.Counted.{all_counted}
 use Rattle.mp_grounder.proofs.Ordered.{counted_stand, same_order}
 use Rattle.mp_grounder.proofs.Parts.{HasParts, parts_of}
+use Rattle.mp_list.proofs.Members.{from_map, to_map}
+use Rattle.mp_typing.proofs.Passing.{taken_from_passes}
 
 -- ---- members
-
-in_map : {X Y : Type 0} (f : X → Y) (xs : List X) (x : X) → Contains xs x → Contains (map f xs) (f x)
-in_map f [] x found = absurd (no_member x found)
-in_map f (y ∷ ys) x found =
-    elim (contains_cases y ys x found) [
-      | inl here ↦ subst (Contains (f y ∷ map f ys)) (ap f here) (contains_head (f y) (map f ys))
-      | inr there ↦ contains_tail (f y) (map f ys) (f x) (in_map f ys x there)
-    ]
-
-out_of_map : {X Y : Type 0} (f : X → Y) (xs : List X) (y : Y) → Contains (map f xs) y → (x : X) × Contains xs x × (f x ≡ y)
-out_of_map f [] y found = absurd (no_member y found)
-out_of_map f (x ∷ xs) y found =
-    elim (contains_cases (f x) (map f xs) y found) [
-      | inl here ↦ (x, contains_head x xs, here)
-      | inr there ↦ let rest = out_of_map f xs y there in (rest.0, contains_tail x xs rest.0 rest.1, rest.2)
-    ]
 
 -- lists with the same members have the same images
 same_images : {X Y : Type 0} (f : X → Y) (xs ys : List X) → ((x : X) → Contains xs x → Contains ys x) → (y : Y) → Contains (map f xs) y → Contains (map f ys) y
 same_images f xs ys each y found =
-    let from = out_of_map f xs y found in
-    subst (Contains (map f ys)) from.2 (in_map f ys from.0 (each from.0 from.1))
-
-in_filter : {X : Type 0} (test : X → Bool) (xs : List X) (x : X) → Contains xs x → test x ≡ true → Contains (filter test xs) x
-in_filter test [] x found passes = absurd (no_member x found)
-in_filter test (y ∷ ys) x found passes =
-    elim (contains_cases y ys x found) [
-      | inl here ↦
-          let also : test y ≡ true = subst (λ z. test z ≡ true) (sym here) passes in
-          rw also (subst (Contains (y ∷ filter test ys)) here (contains_head y (filter test ys)))
-      | inr there ↦
-          let rest = in_filter test ys x there passes in
-          elim (cases_Bool (test y)) [
-            | inl taken ↦ rw taken (contains_tail y (filter test ys) x rest)
-            | inr left ↦ rw left rest
-          ]
-    ]
+    let from = from_map f xs y found in
+    subst (Contains (map f ys)) from.2 (to_map f ys from.0 (each from.0 from.1))
 
 record HasPassed {X : Type 0} (test : X → Bool) (xs : List X) (x : X) : Type 0 where
   there : Contains xs x
@@ -115,6 +86,6 @@ listed agent factor view facts test checked h =
             let from = out_of_filter test named x found in
             (subst (λ xs. Contains xs x) same (same_images (signed_fact agent factor) facts all (λ f. (h.exact f).0) x from.there), from.passes),
         λ found.
-            in_filter test named x (same_images (signed_fact agent factor) all facts (λ f. (h.exact f).1) x (subst (λ xs. Contains xs x) (sym same) found.0)) found.1,
+            taken_from_passes test named x (same_images (signed_fact agent factor) all facts (λ f. (h.exact f).1) x (subst (λ xs. Contains xs x) (sym same) found.0)) found.1,
       );
     }

@@ -4,7 +4,7 @@ use Rattle.mp_grounder.proofs.Basics.{All-head, All-tail, find, flat_map, option
 use Rattle.mp_grounder.proofs.Basics.{repeated_faults, is_declared, Text, asked_atoms, negated_atoms, is_total_cost}
 use Rattle.std.specs.Option.{is_none}
 use Rattle.mp_grounder.proofs.NoFaults.{not_empty, none_in_first, none_in_second, not_else}
-use Rattle.mp_factor.specs.declared.files.File.TheVariants as files
+use Rattle.mp_forms.specs.declared.files.File.TheVariants as files
 use Rattle.mp_typing.specs.declared.fault.FaultKind.TheVariants.{Unknown, Arity}
 use Rattle.mp_typing.specs.Lookups.{arity_of}
 use Rattle.mp_typing.specs.Repeats.{parameter_faults, object_faults}

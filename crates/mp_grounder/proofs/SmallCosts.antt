@@ -1,9 +1,9 @@
 -- The costs of a factor in numbers are those of its files.
 use Rattle.mp_grounder.proofs.Basics.{arith, ◌≤◌, Bool, true, false, not, List, [], ◌∷◌, map, filter, length, All, inl, inr, cases_Bool, length-map, All-nil, All-cons, All-head, All-tail, Typed, Increase, Value, Schema, Factor, Text, GroundValue}
 use Rattle.mp_grounder.proofs.Basics.{OpenView, Vocabulary, lifted_factor, ground_value, lifted_amount, amounts_of, is_total_cost, is_changed, vocabulary_of, IsChecked}
-use Rattle.mp_factor.specs.Limits.{IsAllowedIncrease, SchemaFits}
-use Rattle.mp_factor.specs.Numbers.{greatest_cost}
-use Rattle.mp_factor.specs.declared.effect_values.Increase.TheVariants as increases
+use Rattle.mp_forms.specs.Limits.{IsAllowedIncrease, SchemaFits}
+use Rattle.mp_forms.specs.Numbers.{greatest_cost}
+use Rattle.mp_forms.specs.declared.effect_values.Increase.TheVariants as increases
 use Rattle.mp_lifted.specs.declared.lifted.Amount.{Amount}
 use Rattle.mp_lifted.specs.declared.lifted.Amount.TheVariants.{Number}
 use Rattle.mp_lifted.specs.Lifting.{lifted_action}

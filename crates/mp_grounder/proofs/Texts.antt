@@ -1,23 +1,25 @@
 -- Facts and the texts that spell them.
 use Rattle.mp_grounder.proofs.Basics.{arith, ◌≡◌, ℕ, ◌+◌, ◌-◌, ◌==◌, suc, Bool, true, false, not, ◌&&◌, ◌||◌, List, [], ◌∷◌, ◌++◌, map, filter, length, take, get_or, All, Option, Some, None, if◌then◌else◌, refl, sym, ap, ◌∙◌, subst, inl, inr}
-use Rattle.mp_grounder.proofs.Basics.{cons_option, list_all, bytes_eq, cases_Bool, and_parts, and_from, eqb-true, eq-eqb, true≢false, take_all, All-nil, All-cons, All-head, All-tail, All-map, All-append, bytes_eq-Decides, same_tests, Typed}
+use Rattle.mp_grounder.proofs.Basics.{cons_option, list_all, bytes_eq, cases_Bool, and_parts, and_from, eqb-true, true≢false, take_all, All-nil, All-cons, All-head, All-tail, All-map, All-append, bytes_eq-Decides, same_tests, Typed}
 use Rattle.mp_grounder.proofs.Basics.{Signature, Factor, name_at, number_in, first_declared, Text, GroundAtom, known_atoms, fact_text, vocabulary_of, same_atom, is_among, name_at_number, IsChecked, named_objects, named_fact, IsInRange}
 use Rattle.std.proofs.Common.{length-append}
 use Rattle.std.specs.Prelude.{IsTrue}
 use Rattle.std.specs.List.{join_with_byte, slice_split}
 use Rattle.std.proofs.lemmas.List.{take-append-le}
 use Rattle.std.proofs.lemmas.List.Splits.{join_with_byte-slice_split, slice_split_none, slice_split_at}
-use Rattle.mp_factor.specs.Kinds.{is_name}
-use Rattle.mp_factor.specs.Words.{is_name_byte, begins_with_letter}
-use Rattle.mp_factor.specs.Named.{IsName, IsTypedOf, IsSignatureOf, IsVariable}
+use Rattle.mp_forms.specs.Kinds.{is_name}
+use Rattle.mp_forms.specs.Words.{is_name_byte, begins_with_letter}
+use Rattle.mp_forms.specs.Uses.{IsName}
+use Rattle.mp_forms.proofs.TakenFiles.{predicates_named, constants_named, objects_named}
 use Rattle.mp_joint.specs.Fact.{is_listed}
 use Rattle.mp_lifted.specs.Factors.{between_brackets, has_brackets, words_of, can_be_named, named_atom, known_atom}
 use Rattle.mp_lifted.specs.Texts.{bracketed}
 use Rattle.mp_grounder.proofs.Distinct.{AreDistinct}
-use Rattle.mp_grounder.proofs.Facts.{objects_distinct, same_atom_is}
+use Rattle.mp_grounder.proofs.Facts.{objects_distinct}
 use Rattle.mp_grounder.proofs.Lists.{all_some}
 use Rattle.mp_grounder.proofs.Numbered.{IsPlace, named_at, number_at}
 use Rattle.mp_grounder.proofs.Parts.{HasParts}
+use Rattle.mp_lifted.proofs.Keeping.{equal, itself}
 
 -- ---- words of a text
 
@@ -93,8 +95,8 @@ each_implies P Q xs f h k d less = f (get_or xs k d) (h k d less)
 predicates_spaceless : (factor : Factor) → IsChecked factor → All HasNoSpace (vocabulary_of factor).predicates
 predicates_spaceless factor h =
     All-map HasNoSpace (λ (s : Signature). s.word.name) factor.domain.predicates
-    (each_implies (IsSignatureOf IsName IsVariable) (λ (s : Signature). HasNoSpace s.word.name) factor.domain.predicates
-    (λ s is. name_not_space s.word.name is.word) h.domain_names.predicates)
+    (each_implies (λ (s : Signature). IsName s.word) (λ (s : Signature). HasNoSpace s.word.name) factor.domain.predicates
+    (λ s is. name_not_space s.word.name is) (predicates_named factor.domain h.domain_names))
 
 all_first : (P : Typed → Type 0) (ts : List Typed) → All P ts → All P (first_declared ts)
 unfolding first_declared
@@ -107,10 +109,11 @@ objects_spaceless : (factor : Factor) → IsChecked factor → All HasNoSpace (v
 objects_spaceless factor h =
     let all = factor.domain.constants ++ factor.problem.objects in
     All-map HasNoSpace (λ (o : Typed). o.word.name) (first_declared all)
-    (each_implies (IsTypedOf IsName IsName) (λ (o : Typed). HasNoSpace o.word.name) (first_declared all)
-    (λ o is. name_not_space o.word.name is.word)
-    (all_first (IsTypedOf IsName IsName) all
-    (All-append (IsTypedOf IsName IsName) factor.domain.constants factor.problem.objects h.domain_names.constants h.problem_names.objects)))
+    (each_implies (λ (o : Typed). IsName o.word) (λ (o : Typed). HasNoSpace o.word.name) (first_declared all)
+    (λ o is. name_not_space o.word.name is)
+    (all_first (λ (o : Typed). IsName o.word) all
+    (All-append (λ (o : Typed). IsName o.word) factor.domain.constants factor.problem.objects
+    (constants_named factor.domain h.domain_names) (objects_named factor.problem h.problem_names))))
 
 -- names at places
 all_named : (names : List Text) (ns : List ℕ) → All HasNoSpace names → All (IsPlace names) ns → All HasNoSpace (map (name_at names) ns)
@@ -142,9 +145,6 @@ abbrev is_option : GroundAtom → Option GroundAtom → Bool
 is_option a None = false
 is_option a (Some b) = same_atom a b
 
-atom_itself : (a : GroundAtom) → same_atom a a ≡ true
-atom_itself a = and_from (a.symbol == a.symbol) _ (eq-eqb a.symbol a.symbol refl) ((bytes_eq-Decides a.args a.args).1 refl)
-
 -- the atom's own text spells it
 own_text : (agent : ℕ) (factor : Factor) (a : GroundAtom) → IsChecked factor → HasParts factor → IsInRange factor a
     → is_option a (known_atom (vocabulary_of factor) (fact_text (named_fact agent factor a))) ≡ true
@@ -166,7 +166,7 @@ own_text agent factor a checked parts range =
     }) in
     ap (λ b. is_option a (if b then Some (named_atom voc (words_of (bracketed (predicate ∷ args)))) else None))
     (and_from (has_brackets (bracketed (predicate ∷ args))) (can_be_named voc (words_of (bracketed (predicate ∷ args)))) s.brackets can)
-    ∙ ap (same_atom a) is ∙ atom_itself a
+    ∙ ap (same_atom a) is ∙ itself a
 
 -- and a text that spells it is its own
 by_words : (agent : ℕ) (factor : Factor) (words : List Text) → can_be_named (vocabulary_of factor) words ≡ true
@@ -182,7 +182,7 @@ of_spelled : (agent : ℕ) (factor : Factor) (a : GroundAtom) (t : Text) (test :
     → fact_text (named_fact agent factor a) ≡ t
 of_spelled agent factor a t true e h =
     let parts = and_parts (has_brackets t) (can_be_named (vocabulary_of factor) (words_of t)) e in
-    ap (λ b. fact_text (named_fact agent factor b)) (same_atom_is a (named_atom (vocabulary_of factor) (words_of t)) h)
+    ap (λ b. fact_text (named_fact agent factor b)) (equal a (named_atom (vocabulary_of factor) (words_of t)) h)
     ∙ by_words agent factor (words_of t) parts.1 ∙ spelled t parts.0
 of_spelled agent factor a t false e h = absurd (true≢false (sym h))
 

@@ -21,6 +21,7 @@ use Rattle.mp_grounder.proofs.Choosing.{IsChoice, products_are_choices, products
 use Rattle.mp_grounder.proofs.Lists.{filter_of_map}
 use Rattle.mp_grounder.proofs.Parts.{IsDeclared, IsAtom, IsIncrease, IsSchema, HasParts, parts_of}
 use Rattle.mp_grounder.proofs.Suiting.{same_suits}
+use Rattle.mp_instances.proofs.Narrowing.{or_true}
 
 -- ---- beginnings
 
@@ -185,10 +186,6 @@ of_literals test vocabulary names params sign ls =
     ∙ all_filter (λ (a : Atom). test (lifted_atom vocabulary params a)) (λ (a : Atom). names a.word.name) (map (λ (l : Literal). l.atom) (filter sign ls))
     ∙ list_all-map (λ (a : Atom). not (names a.word.name) || test (lifted_atom vocabulary params a)) (λ (l : Literal). l.atom) (filter sign ls)
     ∙ all_filter (λ (l : Literal). not (names l.atom.word.name) || test (lifted_atom vocabulary params l.atom)) sign ls
-
-or_true : (b : Bool) → (b || true) ≡ true
-or_true true = refl
-or_true false = refl
 
 by_known : (known sign named a b : Bool) → (known ≡ true → a ≡ b) → (known ≡ false → b ≡ true)
     → (not known || (not sign || (not named || a))) ≡ (not sign || (not named || b))

@@ -1,8 +1,8 @@
 -- What is known of every factor that has passed the checks.
 use Rattle.std.specs.Prelude.{◌≡◌, []}
-use Rattle.mp_factor.specs.declared.factor.Factor.{Factor}
-use Rattle.mp_factor.specs.Limits.{DomainFits, ProblemFits}
-use Rattle.mp_factor.specs.Named.{DomainIsNamed, ProblemIsNamed}
+use Rattle.mp_forms.specs.declared.factor.Factor.{Factor}
+use Rattle.mp_forms.specs.Limits.{DomainFits, ProblemFits}
+use Rattle.mp_forms.specs.Uses.{DomainIsNamed, ProblemIsNamed}
 use Rattle.mp_typing.specs.CheckFaults.{check_faults}
 
 -- nothing is wrong with its names, its lists and costs keep the limits, and its names are names

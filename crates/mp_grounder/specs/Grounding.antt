@@ -1,9 +1,9 @@
 -- The grounded actions of an agent's factor, by names.
 use Rattle.std.specs.Prelude.{ℕ, List, map, filter, Option, Some, None, option_and_then, if◌then◌else◌}
 use Rattle.std.specs.List.{flat_map, filter_map}
-use Rattle.mp_factor.specs.declared.factor.Factor.{Factor}
-use Rattle.mp_factor.specs.declared.typed_values.Typed.{Typed}
-use Rattle.mp_factor.specs.declared.schema_values.Schema.{Schema}
+use Rattle.mp_forms.specs.declared.factor.Factor.{Factor}
+use Rattle.mp_forms.specs.declared.typed_values.Typed.{Typed}
+use Rattle.mp_forms.specs.declared.schema_values.Schema.{Schema}
 use Rattle.mp_typing.specs.Names.{names_of}
 use Rattle.mp_typing.specs.Under.{is_of_type}
 use Rattle.mp_typing.specs.ObjectList.{object_list}

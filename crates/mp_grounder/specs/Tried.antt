@@ -2,12 +2,12 @@
 use Rattle.std.specs.Prelude.{ℕ, Bool, true, List, [], map, filter, length, take}
 use Rattle.std.specs.List.{list_all, list_any, sum_by}
 use Rattle.std.specs.Str.{bytes_eq}
-use Rattle.mp_factor.specs.declared.factor.Factor.{Factor}
-use Rattle.mp_factor.specs.declared.typed_values.Typed.{Typed}
-use Rattle.mp_factor.specs.declared.atom_values.Term.{Term}
-use Rattle.mp_factor.specs.declared.atom_values.Term.TheVariants.{Variable, Object}
-use Rattle.mp_factor.specs.declared.literal.Literal.{Literal}
-use Rattle.mp_factor.specs.declared.schema_values.Schema.{Schema}
+use Rattle.mp_forms.specs.declared.factor.Factor.{Factor}
+use Rattle.mp_forms.specs.declared.typed_values.Typed.{Typed}
+use Rattle.mp_forms.specs.declared.atom_values.Term.{Term}
+use Rattle.mp_forms.specs.declared.atom_values.Term.TheVariants.{Variable, Object}
+use Rattle.mp_forms.specs.declared.literal.Literal.{Literal}
+use Rattle.mp_forms.specs.declared.schema_values.Schema.{Schema}
 use Rattle.mp_joint.specs.Fact.{Text}
 use Rattle.mp_joint.specs.FactorContribution.{instance_with}
 use Rattle.mp_joint.specs.Grounded.{Setting, suits_start}

@@ -1,7 +1,7 @@
 //! Laws that join grounding by numbers to grounding by names. Each is the contract of a function that does nothing.
 
 ghost use Rattle.std.specs.Prelude.{◌≡◌, ◌++◌, List, map, filter, All, Bool, Contains, is_none, ℕ};
-ghost use Rattle.mp_factor.specs.declared.schema_values.Schema.{Schema};
+ghost use Rattle.mp_forms.specs.declared.schema_values.Schema.{Schema};
 ghost use Rattle.mp_joint.specs.declared.fact.SignedFact.{SignedFact};
 ghost use Rattle.mp_joint.specs.Fact.{plain, complement};
 ghost use Rattle.mp_joint.specs.FactorContribution.{factor_contribution, instance_with};
@@ -12,7 +12,7 @@ ghost use Rattle.mp_lifted.specs.Start.{is_true_at_start};
 ghost use Rattle.mp_ground_facts.specs.declared.fact.GroundFact.{GroundFact};
 ghost use Rattle.mp_ground_facts.specs.Facts.{atom_of, fact_cmp, is_initial};
 ghost use Rattle.mp_ground_facts.specs.Touched.{needed as needed_in_numbers, added as added_in_numbers, deleted as deleted_in_numbers, goal_facts, counted};
-ghost use Rattle.mp_factor.specs.declared.factor.Factor.{Factor};
+ghost use Rattle.mp_forms.specs.declared.factor.Factor.{Factor};
 ghost use Rattle.mp_lifted.specs.declared.lifted.GroundAtom.{GroundAtom};
 ghost use Rattle.mp_lifted.specs.declared.view.OpenView.{OpenView};
 ghost use Rattle.mp_lifted.specs.Factors.{lifted_factor};

@@ -1,6 +1,6 @@
 //! Atoms as text.
 
-use mp_factor::{Atom, Term};
+use mp_forms::{Atom, Term};
 use mp_hints::text_of;
 use mp_list::OutOfMemory;
 

@@ -1,6 +1,6 @@
 //! The names of files.
 
-use mp_factor::File;
+use mp_forms::File;
 
 /// The names of the two files of an agent, as they were given.
 #[derive(Clone, Copy)]

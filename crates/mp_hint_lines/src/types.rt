@@ -1,6 +1,6 @@
 //! Types as text.
 
-use mp_factor::Word;
+use mp_forms::Word;
 use mp_hints::text_of;
 use mp_list::OutOfMemory;
 

@@ -5,6 +5,7 @@ use Rattle.std.specs.Option.{option_or}
 use Rattle.std.proofs.lemmas.List.Folds.{find-append}
 use Rattle.mp_lifted.specs.declared.lifted.GroundValue.{GroundValue}
 use Rattle.mp_instances.specs.Costs.{value_of}
+use Rattle.mp_sexp.proofs.Places.{not_some, of_none, of_some}
 
 or_first : (o : Option GroundValue) (v : GroundValue) (t : Bool) → option_map (λ v. v.cost) (option_or o (cond t (Some v) None)) ≡ option_or (option_map (λ v. v.cost) o) (cond t (Some v.cost) None)
 or_first None v true = refl
@@ -16,20 +17,8 @@ value_more values v a =
     ap (option_map (λ v. v.cost)) (find-append (λ v. same_atom v.of a) values (v ∷ []))
     ∙ or_first (find (λ v. same_atom v.of a) values) v (same_atom v.of a)
 
-not_some : (o : Option ℕ) → is_some o ≡ false → o ≡ None
-not_some None h = refl
-not_some (Some n) h = cc
-
-keeps : (o other : Option ℕ) → is_some o ≡ true → o ≡ option_or o other
-keeps None other h = cc
-keeps (Some n) other h = refl
-
-of_none : (o : Option ℕ) → o ≡ option_or o None
-of_none None = refl
-of_none (Some n) = refl
-
 known_by : (values : List GroundValue) (v : GroundValue) (a : GroundAtom) (t : Bool) → same_atom v.of a ≡ t → is_some (value_of values v.of) ≡ true → value_of values a ≡ option_or (value_of values a) (cond t (Some v.cost) None)
-known_by values v a true e there = keeps _ _ (subst (λ b. is_some (value_of values b) ≡ true) (equal v.of a e) there)
+known_by values v a true e there = of_some _ _ (subst (λ b. is_some (value_of values b) ≡ true) (equal v.of a e) there)
 known_by values v a false e there = of_none _
 
 new_by : (values : List GroundValue) (v : GroundValue) (a : GroundAtom) (t : Bool) → same_atom v.of a ≡ t → is_some (value_of values v.of) ≡ false → cond t (Some v.cost) (value_of values a) ≡ option_or (value_of values a) (cond t (Some v.cost) None)

@@ -1,6 +1,6 @@
 //! The values of functions.
 
-ghost use Rattle.std.specs.Prelude.{◌≡◌, ◌++◌, ◌∷◌, [], ℕ, List, IfOk, OnOk};
+ghost use Rattle.std.specs.Prelude.{◌≡◌, ◌++◌, ◌∷◌, [], List, IfOk, OnOk};
 ghost use Rattle.mp_lifted.specs.declared.lifted.GroundValue.{GroundValue};
 ghost use Rattle.mp_instances.specs.Costs.{value_of};
 ghost use Rattle.mp_instances.specs.Tables.{HasValues};

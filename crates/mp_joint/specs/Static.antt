@@ -3,8 +3,8 @@
 use Rattle.std.specs.Prelude.{◌&&◌, ◌||◌, not, Bool, List, if◌then◌else◌}
 use Rattle.std.specs.List.{list_any}
 use Rattle.std.specs.Str.{bytes_eq}
-use Rattle.mp_factor.specs.declared.factor.Factor.{Factor}
-use Rattle.mp_factor.specs.declared.atom_values.Atom.{Atom}
+use Rattle.mp_forms.specs.declared.factor.Factor.{Factor}
+use Rattle.mp_forms.specs.declared.atom_values.Atom.{Atom}
 use Rattle.mp_joint.specs.Fact.{Text, is_listed}
 use Rattle.mp_joint.specs.Grounding.{negated_atoms}
 use Rattle.mp_joint.specs.FactorContribution.{privates_of}

@@ -9,11 +9,11 @@ pub use Rattle.std.proofs.lemmas.Option.{cond_some}
 pub use Rattle.std.proofs.lemmas.Slice.Eq.{bytes_eq-Decides}
 pub use Rattle.std.specs.List.{flat_map, list_any, position, position_or_len, slice_split}
 pub use Rattle.std.specs.Prelude.{filter, if◌then◌else◌}
-pub use Rattle.mp_factor.specs.declared.factor.Factor.{Factor}
-pub use Rattle.mp_factor.specs.declared.literal.Literal.{Literal}
-pub use Rattle.mp_factor.specs.declared.schema_values.Schema.{Schema}
-pub use Rattle.mp_factor.specs.declared.signature_values.Signature.{Signature}
-pub use Rattle.mp_factor.specs.declared.typed_values.Typed.{Typed}
+pub use Rattle.mp_forms.specs.declared.factor.Factor.{Factor}
+pub use Rattle.mp_forms.specs.declared.literal.Literal.{Literal}
+pub use Rattle.mp_forms.specs.declared.schema_values.Schema.{Schema}
+pub use Rattle.mp_forms.specs.declared.signature_values.Signature.{Signature}
+pub use Rattle.mp_forms.specs.declared.typed_values.Typed.{Typed}
 pub use Rattle.mp_joint.specs.Fact.{Text, is_listed}
 pub use Rattle.mp_joint.specs.FactorContribution.{privates_of}
 pub use Rattle.mp_joint.specs.Grounding.{asked_atoms, negated_atoms}

@@ -1,9 +1,9 @@
 -- Names that are declared, one declaration after another.
-use Rattle.mp_lifted.proofs.Basics.{◌≡◌, Bool, true, false, ◌||◌, not, List, [], ◌∷◌, ◌++◌, map, refl, sym, ap, ◌∙◌, inl, inr, cases_Bool, append-nil, map-append, filter-append, bytes_eq-Decides, Typed, Text, declared_names}
+use Rattle.mp_lifted.proofs.Basics.{◌≡◌, Bool, true, false, ◌||◌, List, [], ◌∷◌, ◌++◌, map, refl, sym, ap, ◌∙◌, inl, inr, cases_Bool, map-append, bytes_eq-Decides, Typed, Text, declared_names}
 use Rattle.std.specs.Str.{bytes_eq}
-use Rattle.std.proofs.lemmas.Bool.{or_cases}
 use Rattle.mp_sexp.specs.Numbers.{is_named}
 use Rattle.mp_typing.specs.ObjectList.{others, first_declared}
+use Rattle.mp_typing.proofs.Listing.{with_new, with_old}
 
 abbrev names_in : List Typed → List Text
 names_in declared = map (λ o. o.word.name) declared
@@ -36,40 +36,6 @@ first_named (t ∷ ts) name =
           ∙ sym (ap (λ (b : Bool). b || is_named (names_in ts) name) here)
       | inr apart ↦
           ap (λ (b : Bool). bytes_eq name t.word.name || b) (kept t.word.name name (first_declared ts) apart ∙ first_named ts name)
-    ]
-
--- a declaration of a name that is not declared yet
-with_new : (ds : List Typed) (t : Typed) → is_named (names_in ds) t.word.name ≡ false → first_declared (ds ++ t ∷ []) ≡ first_declared ds ++ t ∷ []
-unfolding first_declared
-with_new [] t h = refl
-with_new (d ∷ ds) t h =
-    elim (cases_Bool (bytes_eq t.word.name d.word.name)) [
-      | inl same ↦ absurd (let yes : (bytes_eq t.word.name d.word.name || is_named (names_in ds) t.word.name) ≡ true = rw same refl in let no = sym yes ∙ h in cc)
-      | inr other ↦
-          let absent : is_named (names_in ds) t.word.name ≡ false = sym (ap (λ b. b || is_named (names_in ds) t.word.name) other) ∙ h in
-          let one : others d.word.name (t ∷ []) ≡ t ∷ [] = rw other refl in
-          ap (λ (ts : List Typed). d ∷ ts)
-          (ap (others d.word.name) (with_new ds t absent) ∙ filter-append (λ (u : Typed). not (bytes_eq u.word.name d.word.name)) (first_declared ds) (t ∷ [])
-          ∙ ap (λ (ts : List Typed). others d.word.name (first_declared ds) ++ ts) one)
-    ]
-
--- and of one that is
-with_old : (ds : List Typed) (t : Typed) → is_named (names_in ds) t.word.name ≡ true → first_declared (ds ++ t ∷ []) ≡ first_declared ds
-unfolding first_declared
-with_old [] t h = absurd (cc)
-with_old (d ∷ ds) t h =
-    elim (cases_Bool (is_named (names_in ds) t.word.name)) [
-      | inl before ↦ ap (λ (ts : List Typed). d ∷ others d.word.name ts) (with_old ds t before)
-      | inr absent ↦
-          let same : bytes_eq t.word.name d.word.name ≡ true =
-          elim (or_cases (bytes_eq t.word.name d.word.name) (is_named (names_in ds) t.word.name) h) [
-            | inl is ↦ is
-            | inr before ↦ absurd (let no = sym before ∙ absent in cc)
-          ] in
-          let none : others d.word.name (t ∷ []) ≡ [] = rw same refl in
-          ap (λ (ts : List Typed). d ∷ ts)
-          (ap (others d.word.name) (with_new ds t absent) ∙ filter-append (λ (u : Typed). not (bytes_eq u.word.name d.word.name)) (first_declared ds) (t ∷ [])
-          ∙ ap (λ (ts : List Typed). others d.word.name (first_declared ds) ++ ts) none ∙ append-nil (others d.word.name (first_declared ds)))
     ]
 
 -- nothing is declared

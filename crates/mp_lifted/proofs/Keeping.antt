@@ -7,21 +7,9 @@ use Rattle.std.proofs.lemmas.Bool.Decides.{Decides-eqb}
 use Rattle.std.proofs.lemmas.Slice.Eq.{slice_eq-Decides}
 use Rattle.mp_list.proofs.Bools.{or_false}
 use Rattle.mp_lifted.specs.Start.{is_private}
+use Rattle.std.proofs.lemmas.Bool.{and_from, and_parts}
 
 -- ---- tests
-
-first_of : (a b : Bool) → (a && b) ≡ true → a ≡ true
-first_of true b h = refl
-first_of false b h = cc
-
-second_of : (a b : Bool) → (a && b) ≡ true → b ≡ true
-second_of true b h = h
-second_of false b h = cc
-
-both_of : (a b : Bool) → a ≡ true → b ≡ true → (a && b) ≡ true
-both_of true true h k = refl
-both_of true false h k = k
-both_of false b h k = h
 
 added_test : (t before : Bool) → cond t true before ≡ (before || t)
 added_test true true = refl
@@ -33,12 +21,12 @@ added_test false false = refl
 
 pub equal : (a b : GroundAtom) → same_atom a b ≡ true → a ≡ b
 equal a b h = λ i. record {
-  symbol = (Decides-eqb a.symbol b.symbol).0 (first_of _ _ h) i;
-  args = (slice_eq-Decides Decides-eqb a.args b.args _ refl).0 (second_of _ _ h) i;
+  symbol = (Decides-eqb a.symbol b.symbol).0 (and_parts _ _ h).0 i;
+  args = (slice_eq-Decides Decides-eqb a.args b.args _ refl).0 (and_parts _ _ h).1 i;
 }
 
 pub itself : (a : GroundAtom) → same_atom a a ≡ true
-itself a = both_of _ _ ((Decides-eqb a.symbol a.symbol).1 refl) ((slice_eq-Decides Decides-eqb a.args a.args _ refl).1 refl)
+itself a = and_from _ _ ((Decides-eqb a.symbol a.symbol).1 refl) ((slice_eq-Decides Decides-eqb a.args a.args _ refl).1 refl)
 
 pub swapped : (a b : GroundAtom) → same_atom a b ≡ same_atom b a
 swapped a b =
@@ -61,12 +49,6 @@ more_held keys more key changed a =
 pub one_of_kind : (kind before same : Bool) → kind ≡ true → (before || same) ≡ (before || (kind && same))
 one_of_kind true before same h = refl
 one_of_kind false before same h = cc
-
--- ---- a loop over facts
-
-regroup : (before done next : Bool) → ((before || done) || next) ≡ (before || (done || next))
-regroup true done next = refl
-regroup false done next = refl
 
 -- ---- what is true at the start
 

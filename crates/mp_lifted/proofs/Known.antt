@@ -1,5 +1,5 @@
 -- Names that a vocabulary has, one after another.
-use Rattle.mp_lifted.proofs.Basics.{◌≡◌, ℕ, ◌+◌, ◌<◌, Bool, true, false, ◌&&◌, List, [], ◌∷◌, ◌++◌, map, length, get_or, drop, Bor, Option, Some, None, sym, ap, ◌∙◌, append_assoc, if◌then◌else◌, append-nil, drop_more, cond_some, number_in}
+use Rattle.mp_lifted.proofs.Basics.{◌≡◌, ℕ, ◌+◌, ◌<◌, Bool, true, false, ◌&&◌, List, [], ◌∷◌, ◌++◌, map, length, get_or, drop, Bor, Option, Some, None, sym, ap, ◌∙◌, append_assoc, if◌then◌else◌, drop_more, cond_some, number_in}
 use Rattle.mp_lifted.proofs.Basics.{Text, is_listed, GroundAtom, Vocabulary}
 use Rattle.std.specs.List.{list_all}
 use Rattle.std.specs.Option.{is_some, option_map_or}
@@ -38,9 +38,6 @@ pub numbered_none : (names : List Text) (numbers : List ℕ) (word : Text) (word
 numbered_none names numbers word words is =
     ap (λ (b : Bool). if b && list_all (λ w. is_listed w names) words then Some (numbers ++ number_in names word ∷ map (number_in names) words) else None)
     (not_listed names word is)
-
-pub numbered_all : (names : List Text) (numbers : List ℕ) → numbered names numbers [] ≡ Some numbers
-numbered_all names numbers = ap Some (append-nil numbers)
 
 -- ---- in a loop over borrowed words
 

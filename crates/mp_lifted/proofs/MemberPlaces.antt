@@ -8,7 +8,6 @@ use Rattle.mp_sets.proofs.NumbersLemmas.{rising_unique}
 use Rattle.mp_typing.specs.Places.{numbers_where}
 use Rattle.mp_typing.specs.Under.{is_of_type}
 use Rattle.mp_typing.proofs.Placing.{are_members}
-use Rattle.mp_typing.proofs.UnderLemmas.{is_of_type_decides}
 
 stands : (xs : List ℕ) (q : ℕ) → list_any (λ y. eqb y q) xs ≡ true → Contains xs q
 stands xs q h = let (x, found, same) = some_member (λ (y : ℕ). eqb y q) xs h in subst (Contains xs) (eqb-true x q same) found
@@ -21,7 +20,7 @@ pub members_are : (declared objects : List Typed) (asked : List (List ℕ)) (num
     → numbers ≡ numbers_where 0 (is_of_type declared asked) objects
 members_are declared objects asked numbers m =
     let places = numbers_where 0 (is_of_type declared asked) objects in
-    let p = are_members declared objects asked (is_of_type declared asked) (is_of_type_decides declared asked) in
+    let p = are_members declared objects asked in
     rising_unique numbers places m.rising p.rising
     (λ q. same_tests (list_any (λ y. eqb y q) numbers) (list_any (λ y. eqb y q) places)
     (λ h. is_there places q ((p.exact q).1 ((m.exact q).0 (stands numbers q h))))

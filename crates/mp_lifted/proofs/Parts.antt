@@ -1,6 +1,6 @@
 -- Literals that a condition asks for, or has under `not`.
 use Rattle.mp_lifted.proofs.Basics.{◌≡◌, Bool, true, false, ◌&&◌, not, List, [], ◌∷◌, map, refl, sym, ap, inl, inr, filter, if◌then◌else◌, cases_Bool, Typed, Literal, Text, asked_atoms, negated_atoms, Vocabulary, lifted_atom, ground_atom}
-use Rattle.mp_factor.specs.declared.atom_values.Atom.{Atom}
+use Rattle.mp_forms.specs.declared.atom_values.Atom.{Atom}
 use Rattle.mp_lifted.specs.Lifting.{lifted_where}
 
 abbrev pub has_sign : Bool → Literal → Bool

@@ -2,14 +2,14 @@
 use Rattle.std.specs.Prelude.{ℕ, Bool, not, List, [], ◌∷◌, map, filter, codes, if◌then◌else◌}
 use Rattle.std.specs.List.{position_or_len}
 use Rattle.std.specs.Str.{bytes_eq}
-use Rattle.mp_factor.specs.declared.typed_values.Typed.{Typed}
-use Rattle.mp_factor.specs.declared.atom_values.Term.{Term}
-use Rattle.mp_factor.specs.declared.atom_values.Term.TheVariants as terms
-use Rattle.mp_factor.specs.declared.atom_values.Atom.{Atom}
-use Rattle.mp_factor.specs.declared.effect_values.Increase.{Increase}
-use Rattle.mp_factor.specs.declared.effect_values.Increase.TheVariants as increases
-use Rattle.mp_factor.specs.declared.schema_values.Schema.{Schema}
-use Rattle.mp_factor.specs.declared.factor.Factor.{Factor}
+use Rattle.mp_forms.specs.declared.typed_values.Typed.{Typed}
+use Rattle.mp_forms.specs.declared.atom_values.Term.{Term}
+use Rattle.mp_forms.specs.declared.atom_values.Term.TheVariants as terms
+use Rattle.mp_forms.specs.declared.atom_values.Atom.{Atom}
+use Rattle.mp_forms.specs.declared.effect_values.Increase.{Increase}
+use Rattle.mp_forms.specs.declared.effect_values.Increase.TheVariants as increases
+use Rattle.mp_forms.specs.declared.schema_values.Schema.{Schema}
+use Rattle.mp_forms.specs.declared.factor.Factor.{Factor}
 use Rattle.mp_sexp.specs.Numbers.{number_in}
 use Rattle.mp_typing.specs.Names.{names_of}
 use Rattle.mp_typing.specs.ObjectList.{object_list}

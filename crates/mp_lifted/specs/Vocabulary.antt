@@ -1,7 +1,7 @@
 -- The names that a factor declares, in the order of the files. Their places are their numbers.
 use Rattle.std.specs.Prelude.{List, map}
-use Rattle.mp_factor.specs.declared.typed_values.Typed.{Typed}
-use Rattle.mp_factor.specs.declared.factor.Factor.{Factor}
+use Rattle.mp_forms.specs.declared.typed_values.Typed.{Typed}
+use Rattle.mp_forms.specs.declared.factor.Factor.{Factor}
 use Rattle.mp_typing.specs.ObjectList.{first_declared, object_list}
 use Rattle.mp_joint.specs.Fact.{Text}
 use Rattle.mp_lifted.specs.declared.vocabulary.Vocabulary.{Vocabulary}

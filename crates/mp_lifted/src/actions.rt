@@ -10,7 +10,7 @@ use crate::lifted_atoms::{has_sign, lifted_amount, lifted_with};
 use crate::members::all_members;
 use crate::shown::Shown;
 use crate::vocabulary::Vocabulary;
-use mp_factor::{AtomList, IncreaseList, Literal, LiteralList, Schema, TypedList};
+use mp_forms::{AtomList, IncreaseList, Literal, LiteralList, Schema, TypedList};
 use mp_list::{List, OutOfMemory};
 use mp_sexp::Name;
 use mp_typing::CheckedFactor;

@@ -17,7 +17,7 @@ use crate::shown::{Shown, changed, negated};
 use crate::texts::known_atoms;
 use crate::view::OpenView;
 use crate::vocabulary::{Vocabulary, make_vocabulary};
-use mp_factor::{AtomList, Factor, LiteralList, Problem, SchemaList, SignatureList, ValueList};
+use mp_forms::{AtomList, Factor, LiteralList, Problem, SchemaList, SignatureList, ValueList};
 use mp_list::{List, OutOfMemory};
 use mp_sexp::{Name, NameTable};
 use mp_typing::CheckedFactor;

@@ -3,13 +3,13 @@
 ghost use Rattle.std.specs.Prelude.{◌≡◌, not, map, IfOk, if◌then◌else◌};
 ghost use Rattle.std.specs.List.{position};
 ghost use Rattle.std.specs.Str.{bytes_eq};
-ghost use Rattle.mp_factor.specs.Limits.{name_of_term};
+ghost use Rattle.mp_forms.specs.Limits.{name_of_term};
 ghost use Rattle.mp_lifted.specs.Lifting.{parameter_in, lifted_term as term_of, lifted_with as atom_of, lifted_amount as amount_of, is_total_cost as is_cost};
 ghost use Rattle.mp_lifted.specs.Factors.{ground_with as ground_of};
 
 use crate::lifted::{Amount, GroundAtom, LiftedAtom, LiftedTerm};
 use crate::vocabulary::Vocabulary;
-use mp_factor::{Atom, Increase, Literal, Term, TermList, Typed, TypedList};
+use mp_forms::{Atom, Increase, Literal, Term, TermList, Typed, TypedList};
 use mp_list::{List, OutOfMemory, to_u32};
 use mp_sexp::{Name, NameTable};
 use std::alloc::Global;
@@ -122,16 +122,6 @@ pub fn has_sign(literal: &Literal, positive: bool) -> bool
     }
 }
 
-/// The name of a term.
-fn name_in(term: &Term) -> &Name
-    ensures { result.now ≡ name_of_term term.now }
-{
-    match term {
-        Term::Variable(word) => &word.name,
-        Term::Object(word) => &word.name,
-    }
-}
-
 /// An atom without parameters whose first word is one of these names, in numbers.
 pub fn ground_with(
     alloc: Global,
@@ -144,7 +134,7 @@ pub fn ground_with(
 {
     let mut args = List::with_capacity(alloc, atom.terms.len())?;
     for term in atom.terms.as_slice() {
-        args.push(to_u32(vocabulary.objects.number(name_in(term)))?)?;
+        args.push(to_u32(vocabulary.objects.number(term.name()))?)?;
     }
     Ok(GroundAtom {
         symbol: to_u32(names.number(&atom.word.name))?,

@@ -1,26 +1,12 @@
 //! The objects that may stand for parameters.
 
 ghost use Rattle.std.specs.Prelude.{◌≡◌, map, IfOk};
-ghost use Rattle.mp_typing.specs.Members.{Members};
-ghost use Rattle.mp_typing.specs.Names.{names_of as names_in};
-ghost use Rattle.mp_typing.specs.ObjectList.{object_list};
 ghost use Rattle.mp_lifted.specs.Lifting.{members_of as numbers_of};
 
-use mp_factor::{Typed, TypedList, WordList};
-use mp_list::{Copied, List, OutOfMemory, to_u32};
-use mp_typing::{CheckedFactor, ObjectList, TypeList};
+use mp_forms::{Typed, TypedList};
+use mp_list::{List, OutOfMemory, to_u32};
+use mp_typing::{CheckedFactor, ObjectList, names_of};
 use std::alloc::Global;
-
-/// The names of words.
-fn names_of(alloc: Global, words: &WordList) -> Result<TypeList, OutOfMemory>
-    ensures { IfOk result (λ names. names ≡ names_in words.now) }
-{
-    let mut names = List::with_capacity(alloc, words.len())?;
-    for word in words.as_slice() {
-        names.push(word.name.copy()?)?;
-    }
-    Ok(names)
-}
 
 /// Numbers of 32 bits.
 fn short_numbers(alloc: Global, numbers: &ObjectList) -> Result<List<u32>, OutOfMemory>

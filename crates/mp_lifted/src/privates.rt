@@ -3,7 +3,7 @@
 ghost use Rattle.std.specs.Prelude.{◌≡◌, ◌++◌, map, filter, IfOk, OnOk};
 ghost use Rattle.mp_joint.specs.FactorContribution.{privates_of};
 
-use mp_factor::{Factor, SignatureList, TypedList};
+use mp_forms::{Factor, SignatureList, TypedList};
 use mp_list::OutOfMemory;
 use mp_sexp::NameTable;
 use std::alloc::Global;

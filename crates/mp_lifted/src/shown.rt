@@ -8,9 +8,9 @@ ghost use Rattle.mp_lifted.specs.Views.{predicates_of, changed_predicates, negat
 
 use crate::privates::private_predicates;
 use crate::view::OpenView;
-use mp_factor::{AtomList, Factor, LiteralList, SchemaList};
+use mp_forms::{AtomList, Factor, LiteralList, SchemaList};
 use mp_list::OutOfMemory;
-use mp_sexp::{Name, NameList, NameTable};
+use mp_sexp::{Name, NameTable};
 use std::alloc::Global;
 
 /// The predicates of which something is so: the private ones, those that the own factor says, and those that agents
@@ -55,17 +55,6 @@ fn add_negated<'a>(table: &mut NameTable<'a>, literals: &'a LiteralList) -> Resu
         }
     }
     Ok(())
-}
-
-/// Names as a table.
-fn table_of<'a>(alloc: Global, names: &'a NameList) -> Result<NameTable<'a>, OutOfMemory>
-    ensures { IfOk result (λ table. table ≡ names.now) }
-{
-    let mut table = NameTable::new(alloc);
-    for name in names.as_slice() {
-        table.push(name)?;
-    }
-    Ok(table)
 }
 
 /// The predicates that stand in an effect of an action.
@@ -113,7 +102,7 @@ pub fn changed<'a>(
     Ok(Shown {
         privates: private_predicates(alloc, &factor.domain.predicates)?,
         own: changed_names(alloc, &factor.domain.schemas)?,
-        shown: table_of(alloc, &view.changed)?,
+        shown: NameTable::of(alloc, view.changed.as_slice())?,
     })
 }
 
@@ -132,6 +121,6 @@ pub fn negated<'a>(
     Ok(Shown {
         privates: private_predicates(alloc, &factor.domain.predicates)?,
         own: negated_names(alloc, &factor.domain.schemas, &factor.problem.goals)?,
-        shown: table_of(alloc, &view.negated)?,
+        shown: NameTable::of(alloc, view.negated.as_slice())?,
     })
 }

@@ -1,10 +1,10 @@
 //! The names that a factor declares.
 
 ghost use Rattle.std.specs.Prelude.{◌≡◌, ◌++◌, ◌∷◌, [], List as ListOf, map, IfOk, OnOk};
-ghost use Rattle.mp_factor.specs.declared.typed_values.Typed.{Typed as Declaration};
+ghost use Rattle.mp_forms.specs.declared.typed_values.Typed.{Typed as Declaration};
 ghost use Rattle.mp_lifted.specs.Vocabulary.{declared_names, vocabulary_of};
 
-use mp_factor::{Factor, SignatureList, Typed, TypedList};
+use mp_forms::{Factor, SignatureList, Typed, TypedList};
 use mp_list::OutOfMemory;
 use mp_sexp::NameTable;
 use std::alloc::Global;

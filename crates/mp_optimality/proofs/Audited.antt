@@ -3,7 +3,7 @@ use Rattle.std.proofs.Common.{◌≡◌, ◌≤◌, List, length, All, Ok, sym, 
 use Rattle.mp_audit.specs.Failures.{verdict_on}
 use Rattle.mp_audit.specs.declared.certificate.Certificate.{Certificate}
 use Rattle.mp_certificates.specs.Accepted.{IsTextOf}
-use Rattle.mp_factor.specs.declared.factor.Factor.{Factor}
+use Rattle.mp_forms.specs.declared.factor.Factor.{Factor}
 use Rattle.mp_grounder.specs.Checked.{IsChecked}
 use Rattle.mp_plan_verdict.specs.Verdict.{verdict}
 use Rattle.mp_plans.specs.Plan.{plan_in}

@@ -6,7 +6,7 @@ use Rattle.mp_audit.specs.declared.certificate.Certificate.{Certificate}
 use Rattle.mp_audit.specs.declared.verdict.AuditVerdict.TheVariants.{Holds}
 use Rattle.mp_certificates.specs.Accepted.{IsCertificate}
 use Rattle.mp_certificates.specs.Text.{certificate_text}
-use Rattle.mp_factor.specs.declared.factor.Factor.{Factor}
+use Rattle.mp_forms.specs.declared.factor.Factor.{Factor}
 use Rattle.mp_messages.specs.History.{schedule}
 use Rattle.mp_solutions.specs.Solution.{IsSolution}
 use Rattle.mp_solutions.specs.declared.solution.Solution.{Solution}

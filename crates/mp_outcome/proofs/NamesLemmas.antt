@@ -1,7 +1,7 @@
 -- The names of the agent at a place.
 use Rattle.std.proofs.Common.{◌≡◌, ℕ, zero, suc, ◌+◌, List, [], ◌∷◌, map, Some, None, refl, arith}
 use Rattle.std.specs.Prelude.{slice_get}
-use Rattle.mp_factor.specs.declared.factor.Factor.{Factor}
+use Rattle.mp_forms.specs.declared.factor.Factor.{Factor}
 use Rattle.mp_lifted.specs.Binding.{ActionBinding}
 use Rattle.mp_grounder.specs.Named.{step_of}
 use Rattle.mp_text.specs.Outcome.{names_at}

@@ -1,12 +1,12 @@
 -- Worked factors for verdicts. All actions are without parameters.
 use Rattle.std.specs.Prelude.{ℕ, false, Bool, List, [], ◌∷◌, codes}
-use Rattle.mp_factor.specs.declared.typed_values.Typed.{Typed}
-use Rattle.mp_factor.specs.declared.atom_values.Atom.{Atom}
-use Rattle.mp_factor.specs.declared.atom_values.Term.TheVariants.{Object}
-use Rattle.mp_factor.specs.declared.literal.Literal.{Literal}
-use Rattle.mp_factor.specs.declared.effect_values.Increase.{Increase}
-use Rattle.mp_factor.specs.declared.effect_values.Increase.TheVariants.{Number, Function}
-use Rattle.mp_factor.specs.declared.factor.Factor.{Factor}
+use Rattle.mp_forms.specs.declared.typed_values.Typed.{Typed}
+use Rattle.mp_forms.specs.declared.atom_values.Atom.{Atom}
+use Rattle.mp_forms.specs.declared.atom_values.Term.TheVariants.{Object}
+use Rattle.mp_forms.specs.declared.literal.Literal.{Literal}
+use Rattle.mp_forms.specs.declared.effect_values.Increase.{Increase}
+use Rattle.mp_forms.specs.declared.effect_values.Increase.TheVariants.{Number, Function}
+use Rattle.mp_forms.specs.declared.factor.Factor.{Factor}
 use Rattle.mp_joint.specs.Examples.{word, public_predicate, atom, action, factor}
 
 -- It goes where nothing is busy and something is held. Something is busy at the start, and nothing is held.

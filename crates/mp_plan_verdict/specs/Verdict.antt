@@ -1,7 +1,7 @@
 -- What is found of a plan of the united problem: the first thing that is wrong with it, or its cost (MA-STRIPS).
 use Rattle.std.specs.Prelude.{ℕ, ◌+◌, List, [], ◌∷◌, find, not, if◌then◌else◌}
 use Rattle.std.specs.Option.{option_map_or}
-use Rattle.mp_factor.specs.declared.factor.Factor.{Factor}
+use Rattle.mp_forms.specs.declared.factor.Factor.{Factor}
 use Rattle.mp_joint.specs.declared.fact.SignedFact.{SignedFact}
 use Rattle.mp_joint.specs.declared.plan.PlanStep.{PlanStep}
 use Rattle.mp_joint.specs.Instance.{State, holds, after}

@@ -4,8 +4,8 @@ use Rattle.std.specs.Prelude.{nat_le}
 use Rattle.std.specs.List.{list_all}
 use Rattle.std.proofs.lemmas.Bool.{and_parts, or_cases, leb-true, lt-leb, eqb-true}
 use Rattle.mp_sexp.specs.Bytes.{folded, folded_byte}
-use Rattle.mp_factor.specs.Words.{begins_with_letter, is_digit, is_letter, is_name_byte}
-use Rattle.mp_factor.specs.Kinds.{is_name}
+use Rattle.mp_forms.specs.Words.{begins_with_letter, is_digit, is_letter, is_name_byte}
+use Rattle.mp_forms.specs.Kinds.{is_name}
 use Rattle.mp_text.specs.Lines.{Text}
 use Rattle.mp_plans.specs.Names.{if_name}
 

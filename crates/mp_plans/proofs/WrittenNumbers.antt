@@ -10,7 +10,7 @@ use Rattle.std.proofs.lemmas.Fmt.{decimal_by_steps_wide, decimal_digit, decimal_
 use Rattle.std.proofs.lemmas.List.{length-append, get_or_append_left}
 use Rattle.std.proofs.lemmas.Str.{digit_value_digit}
 use Rattle.std.proofs.lemmas.Str.Parse.{digit_from_value}
-use Rattle.mp_factor.specs.Words.{is_digit}
+use Rattle.mp_forms.specs.Words.{is_digit}
 use Rattle.mp_messages.specs.Reading.{◌>>=◌}
 use Rattle.mp_text.specs.Lines.{Text}
 use Rattle.mp_text.specs.Outcome.{labelled}

@@ -5,8 +5,8 @@ use Rattle.std.specs.List.{flat_map, list_all, slice_split}
 use Rattle.std.proofs.Math.Seq.{take-append_seam, drop-append_seam}
 use Rattle.std.proofs.lemmas.Bool.{and_from, and_parts, le-leb, lt-ltb, ne_eqb}
 use Rattle.std.proofs.lemmas.List.{length-append}
-use Rattle.mp_factor.specs.Kinds.{is_name}
-use Rattle.mp_factor.specs.Words.{begins_with_letter, is_digit, is_name_byte}
+use Rattle.mp_forms.specs.Kinds.{is_name}
+use Rattle.mp_forms.specs.Words.{begins_with_letter, is_digit, is_name_byte}
 use Rattle.mp_joint.specs.declared.plan.PlanStep.{PlanStep}
 use Rattle.mp_text.specs.Lines.{Text}
 use Rattle.mp_text.specs.Outcome.{step_line}

@@ -1,7 +1,7 @@
 -- Fields of a line, read from left to right: a value and the bytes after it, or none.
 use Rattle.std.specs.Prelude.{ℕ, ◌+◌, ◌-◌, ◌*◌, ◌^◌, ◌==◌, ◌||◌, Bool, false, not, nat_eq, nat_lt, [], ◌∷◌, length, take, drop, Option, Some, None, if◌then◌else◌}
 use Rattle.std.specs.List.{ends_with, prefix_len, starts_with}
-use Rattle.mp_factor.specs.Words.{is_digit}
+use Rattle.mp_forms.specs.Words.{is_digit}
 use Rattle.mp_messages.specs.Reading.{◌>>=◌}
 use Rattle.mp_text.specs.Lines.{Text}
 

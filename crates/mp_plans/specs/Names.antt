@@ -2,7 +2,7 @@
 use Rattle.std.specs.Prelude.{ℕ, ◌==◌, Bool, not, List, [], Option, Some, None, if◌then◌else◌}
 use Rattle.std.specs.List.{list_all, slice_split}
 use Rattle.std.specs.Option.{option_map_or}
-use Rattle.mp_factor.specs.Kinds.{is_name}
+use Rattle.mp_forms.specs.Kinds.{is_name}
 use Rattle.mp_text.specs.Lines.{Text}
 
 abbrev pub is_blank : ℕ → Bool

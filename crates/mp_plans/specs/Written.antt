@@ -3,7 +3,7 @@
 use Rattle.std.specs.Prelude.{◌≡◌, ◌<◌, ◌≤◌, ◌^◌, ℕ, ◌+◌, ◌==◌, Bool, true, filter, List, [], ◌∷◌, length, slice_get, slice_index_or, All, Option}
 use Rattle.std.specs.List.{filter_map, list_all}
 use Rattle.std.specs.Option.{option_map}
-use Rattle.mp_factor.specs.Kinds.{is_name}
+use Rattle.mp_forms.specs.Kinds.{is_name}
 use Rattle.mp_joint.specs.declared.plan.PlanStep.{PlanStep}
 use Rattle.mp_messages.specs.declared.history.Entry.{Entry}
 use Rattle.mp_trail.specs.declared.steps.Timed.{Timed}

@@ -3,7 +3,7 @@
 ghost use Rattle.std.specs.Prelude.{◌≡◌, ◌≤◌, Some, length, take, drop};
 ghost use Rattle.std.specs.List.{prefix_len};
 ghost use Rattle.std.specs.Option.{option_map};
-ghost use Rattle.mp_factor.specs.Words.{is_digit as is_digit_byte};
+ghost use Rattle.mp_forms.specs.Words.{is_digit as is_digit_byte};
 ghost use Rattle.mp_plans.specs.Fields.{before as before_of, behind as behind_of, if_below, is_numeral as is_numeral_text, number_at, number_from, numeral_at};
 
 /// The numbers of a plan are below this one.

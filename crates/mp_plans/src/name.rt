@@ -3,8 +3,8 @@
 ghost use Rattle.std.specs.Prelude.{◌≡◌, ◌∷◌, [], ◌==◌, ◌≤◌, ◌<◌, IfOk, IfSome, length, not};
 ghost use Rattle.std.specs.List.{count_by, list_all, prefix_len, slice_split};
 ghost use Rattle.std.specs.Option.{option_map};
-ghost use Rattle.mp_factor.specs.Kinds.{is_name as is_name_text};
-ghost use Rattle.mp_factor.specs.Words.{is_letter as is_letter_byte, is_name_byte as is_name_byte_of, begins_with_letter as begins_with_letter_text};
+ghost use Rattle.mp_forms.specs.Kinds.{is_name as is_name_text};
+ghost use Rattle.mp_forms.specs.Words.{is_letter as is_letter_byte, is_name_byte as is_name_byte_of, begins_with_letter as begins_with_letter_text};
 ghost use Rattle.mp_plans.specs.Names.{if_name, if_names, is_blank, is_within_word, words_left};
 
 use crate::field::is_digit;
@@ -44,7 +44,7 @@ fn has_name_bytes(word: &[u8]) -> bool
 }
 
 /// Whether a word is a name.
-#[tactic(auto, unfolding(mp_factor::specs::Kinds::is_name))]
+#[tactic(auto, unfolding(mp_forms::specs::Kinds::is_name))]
 fn is_name(word: &[u8]) -> bool
     ensures { result ≡ is_name_text word.now }
 {

@@ -3,7 +3,7 @@
 use crate::members::role_inside;
 use crate::roles::Role;
 use crate::trees::{is_behind, members_of, place_of};
-use mp_factor::File;
+use mp_forms::File;
 use mp_sexp::{Place, Tree};
 
 /// The most open brackets of a file.

@@ -2,7 +2,7 @@
 
 use crate::roles::{Role, Signed};
 use crate::trees::{head, word_at};
-use mp_factor::File;
+use mp_forms::File;
 use mp_sexp::Tree;
 
 /// As what a member of the file's list stands.

@@ -7,7 +7,7 @@ use crate::lists::{
 };
 use crate::roles::{Role, Signed};
 use crate::trees::{head, members_of, word_of};
-use mp_factor::File;
+use mp_forms::File;
 use mp_sexp::Tree;
 
 /// How many members the value of a key of an action has.

@@ -1,6 +1,6 @@
 //! What a word or list of a file stands as.
 
-use mp_factor::File;
+use mp_forms::File;
 
 /// What signatures declare.
 #[derive(Clone, Copy, Debug, PartialEq, Eq)]

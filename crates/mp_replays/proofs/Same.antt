@@ -3,7 +3,7 @@ use Rattle.std.proofs.Common.{◌≡◌, ℕ, suc, ◌+◌, Bool, true, false, c
 use Rattle.std.specs.Prelude.{slice_get, ◌==◌}
 use Rattle.std.proofs.lemmas.List.{length-map}
 use Rattle.std.proofs.lemmas.Option.{same_Some}
-use Rattle.mp_factor.specs.declared.factor.Factor.{Factor}
+use Rattle.mp_forms.specs.declared.factor.Factor.{Factor}
 use Rattle.mp_joint.specs.Fact.{Text}
 use Rattle.mp_joint.specs.declared.plan.PlanStep.{PlanStep}
 use Rattle.mp_lifted.specs.Binding.{ActionBinding}

@@ -1,6 +1,6 @@
 -- What renaming leaves as it is, in one record.
 use Rattle.std.specs.Prelude.{◌≡◌, ℕ, List, All}
-use Rattle.mp_factor.specs.declared.factor.Factor.{Factor}
+use Rattle.mp_forms.specs.declared.factor.Factor.{Factor}
 use Rattle.mp_grounder.specs.Checked.{IsChecked}
 use Rattle.mp_split.specs.Team.{AreTasksOf}
 use Rattle.mp_split.specs.declared.team.Tasks.{Tasks}

@@ -1,7 +1,7 @@
 //! The laws. Each is the contract of a function that does nothing.
 
 ghost use Rattle.std.specs.Prelude.{◌≡◌, ◌≤◌, ℕ, List, All, length};
-ghost use Rattle.mp_factor.specs.declared.factor.Factor.{Factor};
+ghost use Rattle.mp_forms.specs.declared.factor.Factor.{Factor};
 ghost use Rattle.mp_grounder.specs.Checked.{IsChecked};
 ghost use Rattle.mp_joint.specs.Fact.{Text};
 ghost use Rattle.mp_messages.specs.declared.history.Event.{Event};

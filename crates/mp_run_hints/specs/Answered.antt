@@ -6,7 +6,7 @@ use Rattle.mp_pdb.specs.Pattern.{pattern_value}
 use Rattle.mp_team_states.specs.Expansions.{nothing_known}
 use Rattle.mp_words.specs.declared.asked.Choice.{Choice}
 use Rattle.mp_words.specs.declared.asked.Choice.TheVariants.{Blind, Max, Cut, Pdb}
-use Rattle.mp_factor.specs.declared.factor.Factor.{Factor}
+use Rattle.mp_forms.specs.declared.factor.Factor.{Factor}
 use Rattle.mp_joint.specs.declared.plan.PlanStep.{PlanStep}
 use Rattle.mp_messages.specs.declared.history.Event.{Event}
 use Rattle.mp_task.specs.AgentTask.{AgentTask}

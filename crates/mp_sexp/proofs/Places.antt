@@ -54,15 +54,15 @@ pub looked_for : {K : Type 0} (name_of : K → List ℕ) (entries : List (K × �
     → (name : List ℕ) → is_some (lookup (λ k. bytes_eq name (name_of k)) entries) ≡ is_named names name
 looked_for name_of entries names h name = ap is_some (h name) ∙ has_place name 0 names
 
-of_none : (o : Option ℕ) → o ≡ option_or o None
+pub of_none : (o : Option ℕ) → o ≡ option_or o None
 of_none None = refl
 of_none (Some n) = refl
 
-of_some : (o other : Option ℕ) → is_some o ≡ true → o ≡ option_or o other
+pub of_some : (o other : Option ℕ) → is_some o ≡ true → o ≡ option_or o other
 of_some None other h = cc
 of_some (Some n) other h = refl
 
-not_some : (o : Option ℕ) → is_some o ≡ false → o ≡ None
+pub not_some : (o : Option ℕ) → is_some o ≡ false → o ≡ None
 not_some None h = refl
 not_some (Some n) h = cc
 

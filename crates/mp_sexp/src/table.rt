@@ -1,6 +1,6 @@
 //! A table of names with numbers.
 
-ghost use Rattle.std.specs.Prelude.{◌≡◌, ◌++◌, ◌∷◌, [], ℕ, List as ListOf, length, map, OnErr, OnOk, slice_get};
+ghost use Rattle.std.specs.Prelude.{◌≡◌, ◌++◌, ◌∷◌, [], ℕ, List as ListOf, length, map, IfOk, OnErr, OnOk, slice_get};
 ghost use Rattle.std.specs.Option.{option_map};
 ghost use Rattle.mp_sexp.specs.Numbers.{is_named, number_in, place_in};
 ghost use Rattle.mp_sexp.specs.Tables.{HasPlaces};
@@ -54,6 +54,25 @@ impl<'a> NameTable<'a> {
             return Err(failed);
         }
         Ok(())
+    }
+
+    /// Adds names at the end, one after another. For want of memory the table may have some of them.
+    pub fn push_all(&mut self, names: &'a [Name]) -> Result<(), OutOfMemory>
+        ensures { OnOk result (self.new ≡ self.old ++ names.now) }
+    {
+        for name in names {
+            self.push(name)?;
+        }
+        Ok(())
+    }
+
+    /// The table of these names.
+    pub fn of(alloc: Global, names: &'a [Name]) -> Result<NameTable<'a>, OutOfMemory>
+        ensures { IfOk result (λ table. table ≡ names.now) }
+    {
+        let mut table = NameTable::new(alloc);
+        table.push_all(names)?;
+        Ok(table)
     }
 
     /// How many names there are.

@@ -2,7 +2,7 @@
 
 use crate::wanted::section;
 use mp_bracket_hints::push_place;
-use mp_factor::File;
+use mp_forms::File;
 use mp_positions::{Position, head, is_behind, members_of, place_of, section_of};
 use std::alloc::AllocError;
 

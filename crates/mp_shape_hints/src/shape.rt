@@ -6,7 +6,7 @@ use crate::sections::tell_section;
 use crate::unsupported::tell_unsupported;
 use crate::wanted::wanted;
 use mp_bracket_hints::{FileText, push_place, tell_place};
-use mp_factor::{FaultKind, File};
+use mp_forms::{FaultKind, File};
 use mp_positions::{
     Position, Role, head, is_list, members_of, name_of, place_of, position_at, word_of,
 };

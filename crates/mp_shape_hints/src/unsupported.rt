@@ -2,7 +2,7 @@
 
 use crate::wanted::{section, wanted};
 use crate::ways::way;
-use mp_factor::File;
+use mp_forms::File;
 use mp_hints::nearest;
 use mp_positions::{Position, Role};
 use std::alloc::{AllocError, Global};

@@ -1,6 +1,6 @@
 //! What the format has at each place.
 
-use mp_factor::File;
+use mp_forms::File;
 use mp_positions::{Role, Signed};
 
 /// What stands as a file.

@@ -1,7 +1,7 @@
 -- The answer of a team is right for its files.
 use Rattle.std.proofs.Common.{arith, ◌≡◌, ◌≤◌, ℕ, ◌∷◌, List, [], length, All, Some, true, ap, subst, ◌∙◌}
 use Rattle.std.specs.Prelude.{Contains}
-use Rattle.mp_factor.specs.declared.factor.Factor.{Factor}
+use Rattle.mp_forms.specs.declared.factor.Factor.{Factor}
 use Rattle.mp_joint.specs.declared.plan.PlanStep.{PlanStep}
 use Rattle.mp_list.proofs.Members.{contains_head}
 use Rattle.mp_task.specs.AgentTask.{AgentTask}

@@ -1,6 +1,6 @@
 -- What was found by round robin was found by a schedule at the end of which all agents had ended.
 use Rattle.std.proofs.Common.{ℕ, Bool, true, false, List}
-use Rattle.mp_factor.specs.declared.factor.Factor.{Factor}
+use Rattle.mp_forms.specs.declared.factor.Factor.{Factor}
 use Rattle.mp_world.specs.Team.{team_with}
 use Rattle.mp_world.specs.Values.{Values}
 use Rattle.mp_world.specs.World.{start_world}

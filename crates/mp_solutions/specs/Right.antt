@@ -1,6 +1,6 @@
 -- When an answer of a team is right for its files.
 use Rattle.std.specs.Prelude.{◌≡◌, ℕ, ◌≤◌, List, length}
-use Rattle.mp_factor.specs.declared.factor.Factor.{Factor}
+use Rattle.mp_forms.specs.declared.factor.Factor.{Factor}
 use Rattle.mp_joint.specs.declared.plan.PlanStep.{PlanStep}
 use Rattle.mp_joint.specs.FactorContribution.{team_of}
 use Rattle.mp_joint.specs.Plan.{Solves, cost as cost_of}

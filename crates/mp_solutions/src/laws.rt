@@ -1,7 +1,7 @@
 //! The answers of a team are right for its files. Each law is the contract of a function that does nothing.
 
 ghost use Rattle.std.specs.Prelude.{◌≡◌, ◌≤◌, ℕ, true, length, List, Some, All};
-ghost use Rattle.mp_factor.specs.declared.factor.Factor.{Factor};
+ghost use Rattle.mp_forms.specs.declared.factor.Factor.{Factor};
 ghost use Rattle.mp_grounder.specs.Checked.{IsChecked};
 ghost use Rattle.mp_joint.specs.declared.plan.PlanStep.{PlanStep};
 ghost use Rattle.mp_messages.specs.declared.history.Entry.{Entry};

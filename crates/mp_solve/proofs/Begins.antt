@@ -1,6 +1,6 @@
 -- Agents with the tasks of files may begin.
 use Rattle.std.proofs.Common.{◌≤◌, ℕ, List, length, subst, sym}
-use Rattle.mp_factor.specs.declared.factor.Factor.{Factor}
+use Rattle.mp_forms.specs.declared.factor.Factor.{Factor}
 use Rattle.mp_stands.specs.Numbering.{Numbering}
 use Rattle.mp_stands.specs.Stands.{Stands}
 use Rattle.mp_task.specs.AgentTask.{AgentTask}

@@ -1,6 +1,6 @@
 -- What is refused of a schedule, of the team and of the text.
 use Rattle.std.proofs.Common.{◌≡◌, ◌≤◌, ℕ, List, length, Result, Ok, Err, IfErr, sym, subst, inl, inr}
-use Rattle.mp_factor.specs.declared.factor.Factor.{Factor}
+use Rattle.mp_forms.specs.declared.factor.Factor.{Factor}
 use Rattle.mp_joint.specs.Fact.{Text}
 use Rattle.mp_world.specs.Team.{team_with}
 use Rattle.mp_world.specs.Values.{Values}

@@ -1,6 +1,6 @@
 -- Why a schedule is not replayed.
 use Rattle.std.specs.Prelude.{◌≡◌, ℕ, false, List, Some, Err, slice_get}
-use Rattle.mp_factor.specs.declared.factor.Factor.{Factor}
+use Rattle.mp_forms.specs.declared.factor.Factor.{Factor}
 use Rattle.mp_ground.specs.Limits.{IsWithin}
 use Rattle.mp_ground.specs.declared.refusal.GroundRefusal.TheVariants.{OutOfMemory}
 use Rattle.mp_joint.specs.Fact.{Text}

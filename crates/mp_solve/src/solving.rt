@@ -1,7 +1,7 @@
 //! What the agents of a team find.
 
 ghost use Rattle.std.specs.Prelude.{◌≡◌, ◌≤◌, ℕ, length, Some, slice_get, IfOk, IfErr, OnOk};
-ghost use Rattle.mp_factor.specs.declared.factor.Factor.{Factor};
+ghost use Rattle.mp_forms.specs.declared.factor.Factor.{Factor};
 ghost use Rattle.mp_ground.specs.Limits.{IsWithin};
 ghost use Rattle.mp_solutions.specs.Solution.{IsSolution};
 ghost use Rattle.mp_split.specs.Team.{AreTasksOf, IsFirstRefusal, known_at};

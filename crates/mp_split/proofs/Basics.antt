@@ -18,7 +18,7 @@ pub use Rattle.std.specs.Prelude.{filter, slice_get, slice_index_or}
 pub use Rattle.std.specs.Simd.Lanes.{zip2}
 pub use Rattle.std.specs.Str.{bytes_eq}
 pub use Rattle.std.specs.Vec.Iter.{into_iter_items, into_iter_len}
-pub use Rattle.mp_factor.specs.declared.factor.Factor.{Factor}
+pub use Rattle.mp_forms.specs.declared.factor.Factor.{Factor}
 pub use Rattle.mp_ground.specs.Grounded.{IsGrounded, Known}
 pub use Rattle.mp_ground.specs.Limits.{IsRefusedBy, IsWithin, KeepsLimits}
 pub use Rattle.mp_ground.specs.Places.{text_places_in}

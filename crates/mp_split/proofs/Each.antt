@@ -1,5 +1,5 @@
 -- What holds of each item of a list, by recursion.
-use Rattle.mp_split.proofs.Basics.{◌≡◌, ℕ, zero, suc, ◌<◌, ◌≤◌, Bool, true, false, cond, List, [], ◌∷◌, ◌++◌, map, length, get_or, All, arith, All-head, All-tail, AllByRecursion, flat_map}
+use Rattle.mp_split.proofs.Basics.{◌≡◌, ℕ, zero, suc, ◌<◌, ◌≤◌, Bool, true, false, cond, List, [], ◌∷◌, ◌++◌, map, length, get_or, All, arith, All-head, All-tail, AllByRecursion}
 use Rattle.std.specs.List.{filter}
 
 module _ {X : Type 0} where
@@ -50,10 +50,6 @@ module _ {X Y : Type 0} where
   pub each_mapped : (P : Y → Type 0) (f : X → Y) (xs : List X) → AllByRecursion (λ x. P (f x)) xs → AllByRecursion P (map f xs)
   each_mapped P f [] h = tt
   each_mapped P f (x ∷ xs) h = (h.0, each_mapped P f xs h.1)
-
-  pub each_joined : (P : Y → Type 0) (f : X → List Y) (xs : List X) → AllByRecursion (λ x. AllByRecursion P (f x)) xs → AllByRecursion P (flat_map f xs)
-  each_joined P f [] h = tt
-  each_joined P f (x ∷ xs) h = each_append P (f x) (flat_map f xs) h.0 (each_joined P f xs h.1)
 
   -- two functions that agree on each item give one list
   pub mapped_alike : (f g : X → Y) (xs : List X) → AllByRecursion (λ x. f x ≡ g x) xs → map f xs ≡ map g xs

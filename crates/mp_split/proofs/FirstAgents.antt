@@ -63,12 +63,6 @@ module _ (team : List Factor) (grounds : List Ground) (factor : Factor) (begun :
     earlier = begun.within;
   }
 
-pub none_begun : (team : List Factor) → AreBegun team []
-none_begun team = record {
-  each = λ place factor g at_team at_grounds. absurd (let none = slice_get_within [] place g at_grounds in omega arith);
-  within = λ place factor below at_team. absurd (omega arith);
-}
-
 -- want of memory may come anywhere
 pub no_memory : (team : List Factor) → 1 ≤ length team → IsFirstRefusal team OutOfMemory
 no_memory team h =

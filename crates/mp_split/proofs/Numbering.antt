@@ -8,6 +8,7 @@ use Rattle.std.proofs.lemmas.Bool.{false≢true}
 use Rattle.std.proofs.lemmas.Map.Keys.{sorted_head, sorted_tail}
 use Rattle.mp_sexp.proofs.Places.{equal, swapped}
 use Rattle.mp_split.proofs.Each.{each, each_both, mapped_alike}
+use Rattle.mp_typing.proofs.Placing.{places_in, places_none, places_out}
 
 -- a list of texts in the order of their bytes, each once
 abbrev pub Rises : List Text → Type 0
@@ -35,18 +36,6 @@ same_text t = texts_ties t t ∙ ap is_eq (tied_itself nat_list_cmp_total t)
 -- the place of a text in a table, where places are counted from this one on; a number of no meaning where it isn't there
 abbrev place_from : ℕ → ℕ → List Text → Text → ℕ
 place_from none k table t = option_map_or (λ p. p) (position_from (λ n. bytes_eq n t) k table) none
-
-where_in : {X : Type 0} (test : X → Bool) (k : ℕ) (x : X) (xs : List X) → test x ≡ true → numbers_where k test (x ∷ xs) ≡ k ∷ numbers_where (suc k) test xs
-unfolding numbers_where
-where_in test k x xs h = rw h refl
-
-where_out : {X : Type 0} (test : X → Bool) (k : ℕ) (x : X) (xs : List X) → test x ≡ false → numbers_where k test (x ∷ xs) ≡ numbers_where (suc k) test xs
-unfolding numbers_where
-where_out test k x xs h = rw h refl
-
-where_none : {X : Type 0} (test : X → Bool) (k : ℕ) → numbers_where k test [] ≡ []
-unfolding numbers_where
-where_none test k = refl
 
 where_alike : {X : Type 0} (f g : X → Bool) (k : ℕ) (xs : List X) → AllByRecursion (λ x. f x ≡ g x) xs → numbers_where k f xs ≡ numbers_where k g xs
 unfolding numbers_where
@@ -96,7 +85,7 @@ first_there none k x xs ts rises these there rest =
     each xs (λ u before. ap (λ b. b || is_listed u ts) (other_back x u before)) (sorted_head (slice_cmp nat_cmp) x xs rises) in
     (λ i. option_map_or (λ p. p) (cond (same i) (Some k) (position_from (λ n. bytes_eq n x) (k + 1) xs)) none ∷ moved none k x xs ts differ i)
     ∙ ap (λ ns. k ∷ ns) (rest (sorted_tail (slice_cmp nat_cmp) x ts these) (in_rest x xs ts there.1 differ) ∙ sym (where_alike (λ u. is_listed u (x ∷ ts)) (λ u. is_listed u ts) (suc k) xs others))
-    ∙ sym (where_in (λ u. is_listed u (x ∷ ts)) k x xs (ap (λ b. b || is_listed x ts) same))
+    ∙ sym (places_in (λ u. is_listed u (x ∷ ts)) k x xs (ap (λ b. b || is_listed x ts) same))
 
 -- the first text of the table is none of the texts
 first_not_there : (none k : ℕ) (x : Text) (xs : List Text) (t : Text) (ts : List Text) → Rises (x ∷ xs) → Rises (t ∷ ts) → AreIn (x ∷ xs) (t ∷ ts)
@@ -107,13 +96,13 @@ first_not_there none k x xs t ts rises these there e rest =
     let differ : AllByRecursion (λ u. bytes_eq x u ≡ false) (t ∷ ts) =
     (e, each ts (λ u h. other x u (nat_list_cmp_total.trans x t u before h)) (sorted_head (slice_cmp nat_cmp) t ts these)) in
     moved none k x xs (t ∷ ts) differ ∙ rest (in_rest x xs (t ∷ ts) there differ)
-    ∙ sym (where_out (λ u. is_listed u (t ∷ ts)) k x xs (not_listed x (t ∷ ts) differ))
+    ∙ sym (places_out (λ u. is_listed u (t ∷ ts)) k x xs (not_listed x (t ∷ ts) differ))
 
 numbered_from : (none k : ℕ) (table texts : List Text) → Rises table → Rises texts → AreIn table texts → AreNumbered none k table texts
-numbered_from none k [] [] rises these there = sym (where_none (λ u. is_listed u []) k)
+numbered_from none k [] [] rises these there = sym (places_none (λ u. is_listed u []) k)
 numbered_from none k [] (t ∷ ts) rises these there = absurd (false≢true there.0)
 numbered_from none k (x ∷ xs) [] rises these there =
-    numbered_from none (suc k) xs [] (sorted_tail (slice_cmp nat_cmp) x xs rises) these tt ∙ sym (where_out (λ u. is_listed u []) k x xs refl)
+    numbered_from none (suc k) xs [] (sorted_tail (slice_cmp nat_cmp) x xs rises) these tt ∙ sym (places_out (λ u. is_listed u []) k x xs refl)
 numbered_from none k (x ∷ xs) (t ∷ ts) rises these there =
     by (bytes_eq x t) refl (λ texts. numbered_from none (suc k) xs texts (sorted_tail (slice_cmp nat_cmp) x xs rises))
   where

@@ -1,5 +1,5 @@
 -- What the agents of a team show together: the table of their public facts, and the parts of their actions.
-use Rattle.mp_split.proofs.Basics.{arith, ◌≡◌, ℕ, ◌+◌, ◌<◌, ◌≤◌, ◌==◌, Bool, true, false, cond, not, ◌||◌, List, [], ◌∷◌, ◌++◌, map, length, All, refl, sym, ap, subst, ◌∙◌, length-append, inl, inr, length-map, cases_lt, nat_list_cmp_total}
+use Rattle.mp_split.proofs.Basics.{arith, ◌≡◌, ℕ, ◌+◌, ◌<◌, ◌≤◌, ◌==◌, Bool, true, false, cond, not, List, [], ◌∷◌, ◌++◌, map, length, All, refl, sym, ap, subst, ◌∙◌, length-append, inl, inr, length-map, cases_lt, nat_list_cmp_total}
 use Rattle.mp_split.proofs.Basics.{AllByRecursion, flat_map, bytes_eq, All-from_recursion, filter-append, list_any-append, numbers_where, Text, is_listed, AllLess, FarFits, Part, View, sorted_once, texts_rise, Ground, KeepsLimits, text_places_in}
 use Rattle.mp_split.proofs.Basics.{closed_view, AreReadyFrom, IsOfTeam, IsReady, PartFits, act_in, common_of, far_in, of_others, task_with, Shown, is_goal, is_true, table, task_of}
 use Rattle.std.proofs.Common.{◌*◌}
@@ -13,15 +13,9 @@ use Rattle.mp_split.proofs.InOrder.{in_order_short}
 use Rattle.mp_split.proofs.Numbering.{AreIn, same_text}
 use Rattle.mp_split.proofs.Renumbering.{where_below}
 use Rattle.mp_split.proofs.Showing.{few_parts, parts_fit}
+use Rattle.std.proofs.lemmas.Bool.{or_left, or_right}
 
 -- ---- the table
-
-or_left : (a b : Bool) → a ≡ true → (a || b) ≡ true
-or_left a b e = λ i. e i || b
-
-or_right : (a b : Bool) → b ≡ true → (a || b) ≡ true
-or_right true b e = refl
-or_right false b e = e
 
 -- each text of a list is one of it
 listed_themselves : (texts : List Text) → AllByRecursion (λ t. is_listed t texts ≡ true) texts

@@ -1,6 +1,6 @@
 -- The grounded factors of the first agents of a team.
 use Rattle.std.specs.Prelude.{◌≡◌, ◌<◌, ℕ, List, length, Some, slice_get}
-use Rattle.mp_factor.specs.declared.factor.Factor.{Factor}
+use Rattle.mp_forms.specs.declared.factor.Factor.{Factor}
 use Rattle.mp_ground.specs.declared.grounded.Ground.{Ground}
 use Rattle.mp_ground.specs.Grounded.{IsGrounded}
 use Rattle.mp_ground.specs.Limits.{IsWithin, KeepsLimits}

@@ -1,6 +1,6 @@
 //! What the tasks of a team have in common: the public facts with their numbers, and the public parts of actions.
 
-ghost use Rattle.std.specs.Prelude.{◌≡◌, ◌++◌, ◌∷◌, ◌+◌, ◌-◌, ◌≤◌, [], not, length, map, take, drop, All, IfOk, OnOk};
+ghost use Rattle.std.specs.Prelude.{◌≡◌, ◌++◌, ◌+◌, ◌-◌, ◌≤◌, [], not, length, map, take, drop, All, IfOk, OnOk};
 ghost use Rattle.std.specs.Cmp.Lexicographic.{slice_cmp};
 ghost use Rattle.std.specs.List.{enumerate_from, flat_map};
 ghost use Rattle.std.specs.List.Sorted.{IsStrictlySortedBy};
@@ -11,7 +11,7 @@ ghost use Rattle.mp_views.specs.Sorted.{sorted_once as once_sorted};
 ghost use Rattle.mp_split.specs.TaskOf.{is_complement as is_complement_text, is_true as is_true_text, is_goal};
 ghost use Rattle.mp_split.specs.Common.{PartFits, far_in, parts_in, common_of as common_of_team};
 
-use crate::numbers::{marked, names_of, numbers_of};
+use crate::numbers::{marked, numbers_of};
 use mp_lifted::FactTexts;
 use mp_list::{Copied, List, OutOfMemory};
 use mp_sets::{Agent, FactList};
@@ -124,19 +124,9 @@ fn start_of(alloc: Global, init: &[Name], table: &[Name]) -> Result<FactList, Ou
     requires { length table.now ≤ 1048560 }
     ensures { IfOk result (λ start. start ≡ numbers_where 0 (is_true_text init.now) table.now) }
 {
-    let names = names_of(alloc, init)?;
+    let names = NameTable::of(alloc, init)?;
     let marks = true_marks(alloc, &names, table)?;
     marked(alloc, marks.as_slice())
-}
-
-/// Adds texts to a table.
-fn add_names<'a>(names: &mut NameTable<'a>, texts: &'a [Name]) -> Result<(), OutOfMemory>
-    ensures { OnOk result (names.new ≡ names.old ++ texts.now) }
-{
-    for text in texts {
-        names.push(text)?;
-    }
-    Ok(())
 }
 
 /// The goals that agents show, one agent after another.
@@ -145,7 +135,7 @@ fn all_goals<'a>(alloc: Global, views: &'a [View]) -> Result<NameTable<'a>, OutO
 {
     let mut names = NameTable::new(alloc);
     for view in views {
-        add_names(&mut names, view.goals.as_slice())?;
+        names.push_all(view.goals.as_slice())?;
     }
     Ok(names)
 }

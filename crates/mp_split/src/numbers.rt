@@ -1,6 +1,6 @@
 //! The team's numbers of public facts.
 
-ghost use Rattle.std.specs.Prelude.{◌≡◌, ◌++◌, ◌≤◌, ◌<◌, ◌^◌, length, map, slice_index_or, IfOk, OnOk};
+ghost use Rattle.std.specs.Prelude.{◌≡◌, ◌≤◌, ◌<◌, length, map, slice_index_or, IfOk, OnOk};
 ghost use Rattle.std.specs.Cmp.Lexicographic.{slice_cmp};
 ghost use Rattle.std.specs.List.Sorted.{IsStrictlyIncreasing, IsStrictlySortedBy};
 ghost use Rattle.std.specs.Ordering.{nat_cmp};
@@ -14,17 +14,6 @@ use mp_list::OutOfMemory;
 use mp_sets::FactList;
 use mp_sexp::{Name, NameTable};
 use std::alloc::Global;
-
-/// Texts as a table.
-pub(crate) fn names_of<'a>(alloc: Global, names: &'a [Name]) -> Result<NameTable<'a>, OutOfMemory>
-    ensures { IfOk result (λ table. table ≡ names.now) }
-{
-    let mut table = NameTable::new(alloc);
-    for name in names {
-        table.push(name)?;
-    }
-    Ok(table)
-}
 
 /// Numbers that rise, as a list of facts.
 pub(crate) fn rising(alloc: Global, numbers: &[u32]) -> Result<FactList, OutOfMemory>

@@ -1,6 +1,6 @@
 //! The tasks of a team from its grounded factors and from what the tasks have in common.
 
-ghost use Rattle.std.specs.Prelude.{◌≡◌, ◌++◌, ◌∷◌, ◌==◌, ◌≤◌, [], true, not, length, map, filter, All, IfOk, OnOk};
+ghost use Rattle.std.specs.Prelude.{◌≡◌, ◌++◌, ◌∷◌, ◌≤◌, [], true, not, length, map, All, IfOk, OnOk};
 ghost use Rattle.mp_task.specs.Limits.{ActFits, IsWithinLimits};
 ghost use Rattle.mp_split.specs.Common.{ArePlaces, IsOfTeam, act_at, of_others, task_from, task_with};
 

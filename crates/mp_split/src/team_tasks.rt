@@ -2,7 +2,7 @@
 
 ghost use Rattle.std.specs.Prelude.{◌≡◌, ◌<◌, ◌≤◌, ◌+◌, ◌++◌, ◌∷◌, [], ℕ, All, length, map, Some, slice_get, IfOk, IfErr, OnOk};
 ghost use Rattle.std.specs.Simd.Lanes.{zip2};
-ghost use Rattle.mp_factor.specs.declared.factor.Factor.{Factor};
+ghost use Rattle.mp_forms.specs.declared.factor.Factor.{Factor};
 ghost use Rattle.mp_views.specs.Lines.{view_text};
 ghost use Rattle.mp_views.specs.Opened.{open_view as open_view_of};
 ghost use Rattle.mp_ground.specs.Limits.{IsWithin, KeepsLimits};
@@ -14,13 +14,13 @@ ghost use Rattle.mp_split.specs.Team.{AreTasksOf, IsFirstRefusal, known_at, open
 
 use crate::closed::closed_view;
 use crate::common::{common_of, table_of};
-use crate::numbers::names_of;
 use crate::task::tasks_of;
 use crate::team::{Tasks, Views};
 use mp_ground::{Ground, GroundRefusal, ground};
 use mp_lifted::{FactTexts, OpenView};
 use mp_list::{List, OutOfMemory};
 use mp_sets::Agent;
+use mp_sexp::NameTable;
 use mp_typing::CheckedFactor;
 use mp_views::{View, join, open_view, view_bytes};
 use std::alloc::Global;
@@ -155,7 +155,7 @@ fn tasks_shown(
     ensures views { IfOk result (λ t. t.views ≡ bytes) }
 {
     let table = table_of(alloc, views.as_slice())?;
-    let names = names_of(alloc, table.as_slice())?;
+    let names = NameTable::of(alloc, table.as_slice())?;
     let common = common_of(
         alloc,
         table.as_slice(),

@@ -8,7 +8,7 @@ use Rattle.std.specs.List.{list_any}
 use Rattle.std.specs.Prelude.{Contains}
 use Rattle.mp_sets.specs.Numbers.{Numbers, after}
 use Rattle.mp_sets.proofs.NumbersLemmas.{contains-after}
-use Rattle.mp_factor.specs.declared.factor.Factor.{Factor}
+use Rattle.mp_forms.specs.declared.factor.Factor.{Factor}
 use Rattle.mp_joint.specs.declared.fact.SignedFact.{SignedFact}
 use Rattle.mp_joint.specs.declared.plan.PlanStep.{PlanStep}
 use Rattle.mp_joint.specs.Instance as named

@@ -6,7 +6,7 @@ use Rattle.std.proofs.lemmas.Option.{slice_get-map, same_Some}
 use Rattle.std.specs.List.{flat_map}
 use Rattle.std.specs.Option.{option_map}
 use Rattle.std.specs.Prelude.{Contains}
-use Rattle.mp_factor.specs.declared.factor.Factor.{Factor}
+use Rattle.mp_forms.specs.declared.factor.Factor.{Factor}
 use Rattle.mp_task.specs.declared.act.Act.{Act}
 use Rattle.mp_task.proofs.Agreeing.{Contains-slice_get}
 use Rattle.mp_joint.specs.declared.fact.SignedFact.{SignedFact}

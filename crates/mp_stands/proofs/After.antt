@@ -5,7 +5,7 @@ use Rattle.std.proofs.Math.Bool.{or_comm}
 use Rattle.std.specs.List.{filter}
 use Rattle.std.specs.Prelude.{Contains, Decides}
 use Rattle.mp_list.proofs.Bools.{same_tests}
-use Rattle.mp_factor.specs.declared.factor.Factor.{Factor}
+use Rattle.mp_forms.specs.declared.factor.Factor.{Factor}
 use Rattle.mp_typing.proofs.Passing.{taken_passes, taken_from_passes}
 use Rattle.mp_joint.specs.declared.fact.NamedFact.{NamedFact}
 use Rattle.mp_joint.specs.declared.fact.SignedFact.{SignedFact}

@@ -5,7 +5,7 @@ use Rattle.std.specs.Prelude.{Contains, AllPairs, slice_get}
 use Rattle.mp_runs.specs.Simulation.{HasAnswer}
 use Rattle.mp_runs.proofs.Costs.{plan_cost-one}
 use Rattle.mp_runs.proofs.Runs.{run-one}
-use Rattle.mp_factor.specs.declared.factor.Factor.{Factor}
+use Rattle.mp_forms.specs.declared.factor.Factor.{Factor}
 use Rattle.mp_joint.specs.declared.plan.PlanStep.{PlanStep}
 use Rattle.mp_joint.specs.FactorContribution.{team_of}
 use Rattle.mp_joint.specs.Instance as named

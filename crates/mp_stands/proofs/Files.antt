@@ -2,7 +2,7 @@
 use Rattle.std.proofs.Common.{List, map, All, sym, ◌∙◌, subst}
 use Rattle.std.proofs.lemmas.List.{length-map}
 use Rattle.std.specs.Prelude.{Contains}
-use Rattle.mp_factor.specs.declared.factor.Factor.{Factor}
+use Rattle.mp_forms.specs.declared.factor.Factor.{Factor}
 use Rattle.mp_task.specs.AgentTask.{AgentTask}
 use Rattle.mp_stands.specs.Numbering.{Numbering}
 use Rattle.mp_stands.specs.Stands.{AreTrueAtStart, Stands}

@@ -2,8 +2,8 @@
 use Rattle.std.proofs.Common.{◌≡◌, ℕ, ◌+◌, Bool, not, ◌&&◌, ◌||◌, List, [], ◌∷◌, ◌++◌, cond, map, filter, length, All, refl, ap, ◌∙◌}
 use Rattle.std.proofs.lemmas.List.Elements.{All-nil, All-cons, All-head, All-tail}
 use Rattle.std.specs.List.{enumerate_from, filter_map, flat_map, list_all}
-use Rattle.mp_factor.specs.declared.schema_values.Schema.{Schema}
-use Rattle.mp_factor.specs.declared.factor.Factor.{Factor}
+use Rattle.mp_forms.specs.declared.schema_values.Schema.{Schema}
+use Rattle.mp_forms.specs.declared.factor.Factor.{Factor}
 use Rattle.mp_joint.specs.Grounding.{asked_atoms, negated_atoms}
 use Rattle.mp_lifted.specs.declared.lifted.LiftedAtom.{LiftedAtom}
 use Rattle.mp_lifted.specs.declared.lifted.LiftedAction.{LiftedAction}

@@ -11,7 +11,7 @@ use Rattle.mp_list.proofs.Bools.{same_tests}
 use Rattle.mp_list.proofs.Members.{all_at}
 use Rattle.mp_sets.specs.Numbers as numbers
 use Rattle.mp_sets.specs.Numbers.{Numbers}
-use Rattle.mp_factor.specs.declared.factor.Factor.{Factor}
+use Rattle.mp_forms.specs.declared.factor.Factor.{Factor}
 use Rattle.mp_typing.proofs.Passing.{taken_passes, taken_from_passes}
 use Rattle.mp_joint.specs.declared.fact.SignedFact.{SignedFact}
 use Rattle.mp_joint.specs.Fact.{plain, complement}

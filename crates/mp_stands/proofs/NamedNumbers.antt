@@ -9,7 +9,7 @@ use Rattle.mp_list.proofs.Bools.{same_tests}
 use Rattle.mp_list.proofs.Members.{all_at}
 use Rattle.mp_task.proofs.Agreeing.{Contains-slice_get}
 use Rattle.mp_sets.specs.Numbers.{Numbers, holds}
-use Rattle.mp_factor.specs.declared.factor.Factor.{Factor}
+use Rattle.mp_forms.specs.declared.factor.Factor.{Factor}
 use Rattle.mp_joint.specs.declared.fact.SignedFact.{SignedFact}
 use Rattle.mp_stands.specs.Numbering.{AreNumbersOf}
 use Rattle.mp_stands.specs.Stands.{AreCounted}

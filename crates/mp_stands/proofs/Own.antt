@@ -7,7 +7,7 @@ use Rattle.std.specs.Cmp.{bool_cmp_total}
 use Rattle.std.specs.Option.{is_none}
 use Rattle.std.specs.Ordering.{ordering_then}
 use Rattle.std.specs.Prelude.{Contains}
-use Rattle.mp_factor.specs.declared.factor.Factor.{Factor}
+use Rattle.mp_forms.specs.declared.factor.Factor.{Factor}
 use Rattle.mp_sexp.specs.Numbers.{number_in}
 use Rattle.mp_joint.specs.declared.fact.SignedFact.{SignedFact}
 use Rattle.mp_lifted.specs.Vocabulary.{vocabulary_of}

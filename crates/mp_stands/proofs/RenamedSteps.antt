@@ -3,8 +3,8 @@ use Rattle.std.proofs.Common.{arith, ◌≡◌, ℕ, zero, suc, ◌<◌, List, [
 use Rattle.std.proofs.lemmas.List.{length-map}
 use Rattle.std.proofs.lemmas.Option.{slice_get_within}
 use Rattle.std.proofs.lemmas.Simd.{map-map}
-use Rattle.mp_factor.specs.declared.factor.Factor.{Factor}
-use Rattle.mp_factor.specs.declared.schema_values.Schema.{Schema}
+use Rattle.mp_forms.specs.declared.factor.Factor.{Factor}
+use Rattle.mp_forms.specs.declared.schema_values.Schema.{Schema}
 use Rattle.mp_sexp.specs.Numbers.{name_at}
 use Rattle.mp_joint.specs.Fact.{Text}
 use Rattle.mp_lifted.specs.declared.view.OpenView.{OpenView}

@@ -3,7 +3,7 @@ use Rattle.std.proofs.Common.{◌≡◌, List, sym, ◌∙◌}
 use Rattle.mp_runs.specs.Simulation.{Simulates, StandsForAll}
 use Rattle.mp_runs.proofs.Costs.{equal_costs}
 use Rattle.mp_runs.proofs.Simulations.{IsAnsweringPlan, simulated_plan}
-use Rattle.mp_factor.specs.declared.factor.Factor.{Factor}
+use Rattle.mp_forms.specs.declared.factor.Factor.{Factor}
 use Rattle.mp_joint.specs.declared.plan.PlanStep.{PlanStep}
 use Rattle.mp_joint.specs.FactorContribution.{team_of}
 use Rattle.mp_joint.specs.Plan as joint

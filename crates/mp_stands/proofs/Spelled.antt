@@ -5,12 +5,13 @@ use Rattle.std.proofs.lemmas.List.Elements.{All-contains, Contains-append_cases}
 use Rattle.std.specs.List.{list_all}
 use Rattle.std.specs.Prelude.{Contains, IsTrue}
 use Rattle.mp_list.proofs.Members.{contains_head, contains_tail, contains_cases, from_map}
-use Rattle.mp_factor.specs.Kinds.{is_name}
-use Rattle.mp_factor.specs.Words.{is_name_byte, begins_with_letter}
-use Rattle.mp_factor.specs.Named.{IsName, IsTypedOf, IsSignatureOf, IsVariable}
-use Rattle.mp_factor.specs.declared.typed_values.Typed.{Typed}
-use Rattle.mp_factor.specs.declared.signature_values.Signature.{Signature}
-use Rattle.mp_factor.specs.declared.factor.Factor.{Factor}
+use Rattle.mp_forms.specs.Kinds.{is_name}
+use Rattle.mp_forms.specs.Words.{is_name_byte, begins_with_letter}
+use Rattle.mp_forms.specs.Uses.{IsName}
+use Rattle.mp_forms.proofs.TakenFiles.{predicates_named, constants_named, objects_named}
+use Rattle.mp_forms.specs.declared.typed_values.Typed.{Typed}
+use Rattle.mp_forms.specs.declared.signature_values.Signature.{Signature}
+use Rattle.mp_forms.specs.declared.factor.Factor.{Factor}
 use Rattle.mp_typing.specs.ObjectList.{first_declared, object_list}
 use Rattle.mp_typing.proofs.Passing.{taken_passes}
 use Rattle.mp_joint.specs.Fact.{Text, is_listed}
@@ -27,8 +28,8 @@ name_spelled name h = (and_parts (begins_with_letter name) (list_all is_name_byt
 predicate_spelled : (factor : Factor) (name : Text) → IsChecked factor → is_listed name (vocabulary_of factor).predicates ≡ true → IsSpelling name
 predicate_spelled factor name checked h =
     let from = from_map (λ (s : Signature). s.word.name) factor.domain.predicates name (listed_member name (vocabulary_of factor).predicates h) in
-    let is = All-contains (IsSignatureOf IsName IsVariable) factor.domain.predicates from.0 checked.domain_names.predicates from.1 in
-    subst IsSpelling from.2 (name_spelled from.0.word.name is.word)
+    let is = All-contains (λ (s : Signature). IsName s.word) factor.domain.predicates from.0 (predicates_named factor.domain checked.domain_names) from.1 in
+    subst IsSpelling from.2 (name_spelled from.0.word.name is)
 
 first_in : (ts : List Typed) (t : Typed) → Contains (first_declared ts) t → Contains ts t
 unfolding first_declared
@@ -43,12 +44,13 @@ object_spelled : (factor : Factor) (name : Text) → IsChecked factor → is_lis
 object_spelled factor name checked h =
     let from = from_map (λ (o : Typed). o.word.name) (object_list factor.domain factor.problem) name (listed_member name (vocabulary_of factor).objects h) in
     let here = first_in (factor.domain.constants ++ factor.problem.objects) from.0 from.1 in
-    let is : IsTypedOf IsName IsName from.0 =
+    let IsNamed : Typed → Type 0 = λ (o : Typed). IsName o.word in
+    let is : IsNamed from.0 =
     elim (Contains-append_cases factor.domain.constants factor.problem.objects from.0 here) [
-      | inl constant ↦ All-contains (IsTypedOf IsName IsName) factor.domain.constants from.0 checked.domain_names.constants constant
-      | inr object ↦ All-contains (IsTypedOf IsName IsName) factor.problem.objects from.0 checked.problem_names.objects object
+      | inl constant ↦ All-contains IsNamed factor.domain.constants from.0 (constants_named factor.domain checked.domain_names) constant
+      | inr object ↦ All-contains IsNamed factor.problem.objects from.0 (objects_named factor.problem checked.problem_names) object
     ] in
-    subst IsSpelling from.2 (name_spelled from.0.word.name is.word)
+    subst IsSpelling from.2 (name_spelled from.0.word.name is)
 
 objects_spelled : (factor : Factor) (names : List Text) → IsChecked factor → list_all (λ a. is_listed a (vocabulary_of factor).objects) names ≡ true
     → list_all (list_all is_name_byte) names ≡ true

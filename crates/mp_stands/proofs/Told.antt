@@ -1,7 +1,7 @@
 -- A fact in numbers is told alike by two factors that are the same in numbers: it is initial for both, and where it is
 -- public it has the same text.
 use Rattle.std.proofs.Common.{◌≡◌, ℕ, Bool, true, false, not, None, if◌then◌else◌, refl, sym, ap, ◌∙◌}
-use Rattle.mp_factor.specs.declared.factor.Factor.{Factor}
+use Rattle.mp_forms.specs.declared.factor.Factor.{Factor}
 use Rattle.mp_lifted.specs.declared.view.OpenView.{OpenView}
 use Rattle.mp_lifted.specs.Factors.{lifted_factor}
 use Rattle.mp_lifted.specs.Texts.{signed_text}

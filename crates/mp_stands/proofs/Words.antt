@@ -11,7 +11,7 @@ use Rattle.std.specs.List.{join_with_byte, slice_split, list_all, list_any}
 use Rattle.std.specs.Prelude.{codes}
 use Rattle.std.specs.Str.{bytes_eq}
 use Rattle.mp_list.proofs.Bools.{same_tests}
-use Rattle.mp_factor.specs.Words.{is_name_byte}
+use Rattle.mp_forms.specs.Words.{is_name_byte}
 use Rattle.mp_joint.specs.Fact.{Text}
 use Rattle.mp_lifted.specs.Texts.{bracketed}
 

@@ -1,7 +1,7 @@
 -- Names that a factor declares.
 use Rattle.std.specs.Prelude.{◌≡◌, true, List}
 use Rattle.std.specs.List.{list_all}
-use Rattle.mp_factor.specs.declared.factor.Factor.{Factor}
+use Rattle.mp_forms.specs.declared.factor.Factor.{Factor}
 use Rattle.mp_joint.specs.Fact.{Text, is_listed}
 use Rattle.mp_lifted.specs.Vocabulary.{vocabulary_of}
 

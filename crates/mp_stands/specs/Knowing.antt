@@ -1,6 +1,6 @@
 -- What an agent knows where it grounds its factor, and what the agents of a team count by that.
 use Rattle.std.specs.Prelude.{◌≡◌, ℕ, List, Some, Contains}
-use Rattle.mp_factor.specs.declared.factor.Factor.{Factor}
+use Rattle.mp_forms.specs.declared.factor.Factor.{Factor}
 use Rattle.mp_joint.specs.declared.fact.SignedFact.{SignedFact}
 use Rattle.mp_joint.specs.Grounded.{Setting}
 use Rattle.mp_lifted.specs.Views.{setting_of}

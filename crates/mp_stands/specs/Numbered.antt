@@ -1,6 +1,6 @@
 -- What the numbers of the tasks stand for that the grounded factors of a team lead to.
 use Rattle.std.specs.Prelude.{◌≡◌, ℕ, ◌+◌, true, List, map, Some, Contains, slice_get}
-use Rattle.mp_factor.specs.declared.factor.Factor.{Factor}
+use Rattle.mp_forms.specs.declared.factor.Factor.{Factor}
 use Rattle.mp_joint.specs.declared.fact.SignedFact.{SignedFact}
 use Rattle.mp_joint.specs.declared.plan.PlanStep.{PlanStep}
 use Rattle.mp_lifted.specs.Texts.{signed_text}

@@ -1,7 +1,7 @@
 -- The tasks of a team stand for its factors.
 use Rattle.std.specs.Prelude.{◌≡◌, ◌≢◌, ◌↔◌, ℕ, List, length, filter, Bool, true, ◌==◌, Option, Some, None, Contains, AllPairs, IsTrue, slice_get}
 use Rattle.std.specs.Option.{option_map_or}
-use Rattle.mp_factor.specs.declared.factor.Factor.{Factor}
+use Rattle.mp_forms.specs.declared.factor.Factor.{Factor}
 use Rattle.mp_joint.specs.declared.fact.SignedFact.{SignedFact}
 use Rattle.mp_joint.specs.declared.plan.PlanStep.{PlanStep}
 use Rattle.mp_joint.specs.FactorContribution.{team_of}

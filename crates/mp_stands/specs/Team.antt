@@ -1,6 +1,6 @@
 -- A team one of whose agents renames its private names.
 use Rattle.std.specs.Prelude.{◌≡◌, ◌≢◌, ℕ, ◌+◌, ◌==◌, List, map, length, Some, slice_get, if◌then◌else◌}
-use Rattle.mp_factor.specs.declared.factor.Factor.{Factor}
+use Rattle.mp_forms.specs.declared.factor.Factor.{Factor}
 use Rattle.mp_joint.specs.declared.plan.PlanStep.{PlanStep}
 use Rattle.mp_lifted.specs.Binding.{ActionBinding}
 use Rattle.mp_grounder.specs.Named.{step_of}

@@ -1,6 +1,6 @@
 -- Two factors that are the same in numbers: what an agent grounds of them differs in private names alone.
 use Rattle.std.specs.Prelude.{◌≡◌, ℕ, false, Some, slice_get}
-use Rattle.mp_factor.specs.declared.factor.Factor.{Factor}
+use Rattle.mp_forms.specs.declared.factor.Factor.{Factor}
 use Rattle.mp_sexp.specs.Numbers.{name_at}
 use Rattle.mp_lifted.specs.declared.lifted.LiftedFactor.{LiftedFactor}
 use Rattle.mp_lifted.specs.declared.view.OpenView.{OpenView}

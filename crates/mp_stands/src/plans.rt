@@ -1,7 +1,7 @@
 //! Laws of tasks that stand for factors. Each is the contract of a function that does nothing.
 
 ghost use Rattle.std.specs.Prelude.{◌≡◌, List, map};
-ghost use Rattle.mp_factor.specs.declared.factor.Factor.{Factor};
+ghost use Rattle.mp_forms.specs.declared.factor.Factor.{Factor};
 ghost use Rattle.mp_joint.specs.declared.plan.PlanStep.{PlanStep};
 ghost use Rattle.mp_joint.specs.FactorContribution.{team_of};
 ghost use Rattle.mp_joint.specs.Plan.{Solves, cost};

@@ -1,7 +1,7 @@
 //! What renaming leaves as it is. The law is the contract of a function that does nothing.
 
 ghost use Rattle.std.specs.Prelude.{◌≡◌, ℕ, List, All};
-ghost use Rattle.mp_factor.specs.declared.factor.Factor.{Factor};
+ghost use Rattle.mp_forms.specs.declared.factor.Factor.{Factor};
 ghost use Rattle.mp_grounder.specs.Checked.{IsChecked};
 ghost use Rattle.mp_split.specs.Team.{AreTasksOf};
 ghost use Rattle.mp_split.specs.declared.team.Tasks.{Tasks};

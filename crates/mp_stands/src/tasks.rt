@@ -2,7 +2,7 @@
 
 ghost use Rattle.std.specs.Prelude.{◌≡◌, ◌≢◌, ◌↔◌, ℕ, List, map, filter, length, None, Some};
 ghost use Rattle.std.specs.Prelude.{All, AllPairs, Contains};
-ghost use Rattle.mp_factor.specs.declared.factor.Factor.{Factor};
+ghost use Rattle.mp_forms.specs.declared.factor.Factor.{Factor};
 ghost use Rattle.mp_task.specs.AgentTask.{AgentTask};
 ghost use Rattle.mp_task.specs.Agreement.{Agree};
 ghost use Rattle.mp_joint.specs.declared.fact.SignedFact.{SignedFact};

@@ -1,6 +1,6 @@
 -- What is made of a plan: its steps and its chain where it solves, and else what is found of it.
 use Rattle.std.specs.Prelude.{◌≡◌, List}
-use Rattle.mp_factor.specs.declared.factor.Factor.{Factor}
+use Rattle.mp_forms.specs.declared.factor.Factor.{Factor}
 use Rattle.mp_joint.specs.declared.plan.PlanStep.{PlanStep}
 use Rattle.mp_joint.specs.FactorContribution.{team_of}
 use Rattle.mp_plan_verdict.specs.declared.verdict.CheckVerdict.{CheckVerdict}

@@ -1,7 +1,7 @@
 //! The steps and the chain of a plan.
 
 ghost use Rattle.std.specs.Prelude.{◌≡◌, ◌≤◌, List as ListOf, length, IfOk, IfErr, MatchOption};
-ghost use Rattle.mp_factor.specs.declared.factor.Factor.{Factor};
+ghost use Rattle.mp_forms.specs.declared.factor.Factor.{Factor};
 ghost use Rattle.mp_joint.specs.declared.plan.PlanStep.{PlanStep};
 ghost use Rattle.mp_joint.specs.FactorContribution.{team_of};
 ghost use Rattle.mp_joint.specs.Plan.{Contribution};

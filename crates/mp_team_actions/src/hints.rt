@@ -2,7 +2,7 @@
 
 use crate::lacking::{tell_unmet, tell_unpriced};
 use crate::objects::object_names;
-use mp_factor::{Factor, Schema};
+use mp_forms::{Factor, Schema};
 use mp_lifted::{LiftedAction, LiftedFactor, OpenView, StartFacts, lift};
 use mp_list::OutOfMemory;
 use mp_sexp::NameTable;

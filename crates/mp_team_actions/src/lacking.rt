@@ -1,7 +1,7 @@
 //! The lines of hints on actions.
 
 use crate::objects::push_at;
-use mp_factor::{Increase, Schema};
+use mp_forms::{Increase, Schema};
 use mp_hint_lines::{begin_hint, push_atom};
 use mp_hints::text_of;
 use mp_list::OutOfMemory;

@@ -1,6 +1,6 @@
 //! The names of objects by their numbers.
 
-use mp_factor::{Factor, Typed};
+use mp_forms::{Factor, Typed};
 use mp_hints::text_of;
 use mp_list::OutOfMemory;
 use mp_sexp::NameTable;

@@ -1,6 +1,6 @@
 //! Hints on metrics that some factors alone have.
 
-use mp_factor::Problem;
+use mp_forms::Problem;
 use mp_hint_lines::{FileNames, begin_hint, files_of};
 use mp_list::OutOfMemory;
 use mp_typing::CheckedFactor;

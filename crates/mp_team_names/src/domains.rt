@@ -1,6 +1,6 @@
 //! Hints on the names of domains.
 
-use mp_factor::Word;
+use mp_forms::Word;
 use mp_hint_lines::{FileNames, begin_hint, files_of, push_place};
 use mp_hints::text_of;
 use mp_list::OutOfMemory;

@@ -1,6 +1,6 @@
 //! The private goals of an agent by their numbers.
 
-use mp_factor::Literal;
+use mp_forms::Literal;
 use mp_lifted::{GroundAtom, LiftedFactor, is_private};
 use mp_list::OutOfMemory;
 use std::alloc::Global;

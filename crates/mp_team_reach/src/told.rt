@@ -1,6 +1,6 @@
 //! The lines of hints on goals.
 
-use mp_factor::Literal;
+use mp_forms::Literal;
 use mp_hint_lines::{begin_hint, push_atom};
 use mp_list::OutOfMemory;
 

@@ -1,6 +1,6 @@
 //! The predicates and objects that the factors of a team declare.
 
-use mp_factor::{File, Signature, Typed, Word};
+use mp_forms::{File, Signature, Typed, Word};
 use mp_list::OutOfMemory;
 use mp_typing::CheckedFactor;
 use std::alloc::Global;

@@ -1,6 +1,6 @@
 //! Whether two factors declare a predicate alike.
 
-use mp_factor::{Typed, Word};
+use mp_forms::{Typed, Word};
 
 /// Whether the type that these words say is `object`.
 fn is_object(types: &[Word]) -> bool {

@@ -1,6 +1,6 @@
 //! How many names the files of an agent declare.
 
-use mp_factor::{Signature, Typed};
+use mp_forms::{Signature, Typed};
 use mp_list::{List, OutOfMemory};
 use mp_typing::CheckedFactor;
 use std::alloc::Global;

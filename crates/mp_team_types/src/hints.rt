@@ -1,7 +1,7 @@
 //! Which types there is a hint on.
 
 use crate::uses::{Use, uses_in};
-use mp_factor::{Factor, Typed};
+use mp_forms::{Factor, Typed};
 use mp_hint_lines::{FileNames, begin_hint};
 use mp_hints::{nearest, text_of};
 use mp_list::OutOfMemory;

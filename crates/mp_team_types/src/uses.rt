@@ -1,6 +1,6 @@
 //! Where the two files of a factor use types.
 
-use mp_factor::{Factor, File, Signature, Typed, Word};
+use mp_forms::{Factor, File, Signature, Typed, Word};
 use mp_list::OutOfMemory;
 use std::alloc::Global;
 

@@ -3,11 +3,11 @@ use Rattle.std.proofs.Common.{◌≡◌, ◌<◌, ℕ, zero, suc, List, [], ◌�
 use Rattle.std.specs.Prelude.{slice_get}
 use Rattle.std.proofs.lemmas.List.Elements.{All-cons, All-nil}
 use Rattle.std.proofs.lemmas.Option.{slice_get_within}
-use Rattle.mp_factor.specs.FactorParts.{DomainParts, ProblemParts}
-use Rattle.mp_factor.specs.FromFile.{IsDomainOfFile, IsProblemOfFile}
-use Rattle.mp_factor.specs.declared.factor.Factor.{Factor}
-use Rattle.mp_factor.specs.declared.files.File.TheVariants as file
-use Rattle.mp_factor.proofs.TakenFiles.{domain_of_file_fits, domain_of_file_is_named, problem_of_file_fits, problem_of_file_is_named}
+use Rattle.mp_forms.specs.FactorParts.{DomainParts, ProblemParts}
+use Rattle.mp_forms.specs.FromFile.{IsDomainOfFile, IsProblemOfFile}
+use Rattle.mp_forms.specs.declared.factor.Factor.{Factor}
+use Rattle.mp_forms.specs.declared.files.File.TheVariants as file
+use Rattle.mp_forms.proofs.TakenFiles.{domain_of_file_fits, domain_of_file_is_named, problem_of_file_fits, problem_of_file_is_named}
 use Rattle.mp_files.specs.File.{Checks, Parts, SaysDomain, SaysProblem, file_of}
 use Rattle.mp_files.specs.Team.{IsReadTeam, ReadsTexts, Says, Two}
 use Rattle.mp_files.specs.declared.refusal.FileOf.{FileOf}

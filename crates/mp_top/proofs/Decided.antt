@@ -1,6 +1,6 @@
 -- From a decision on a team to what the texts of a request lead to.
 use Rattle.std.proofs.Common.{◌≡◌, ℕ, Bool, List, [], ◌∷◌, Option, Result, Ok, Err, IfOk, IfErr, sym, subst, ap, ◌∙◌}
-use Rattle.mp_factor.specs.declared.factor.Factor.{Factor}
+use Rattle.mp_forms.specs.declared.factor.Factor.{Factor}
 use Rattle.mp_joint.specs.Fact.{Text}
 use Rattle.mp_files.specs.Cause.{Rests as FilesRest, SeenSource, seen_source}
 use Rattle.mp_files.specs.Team.{IsReadTeam, ReadsMade, Two}

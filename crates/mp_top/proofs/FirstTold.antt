@@ -1,6 +1,6 @@
 -- The first refusal comes.
 use Rattle.std.proofs.Common.{◌≡◌, ◌⊎◌, inl, inr, List, Some, ap, subst, ◌∙◌}
-use Rattle.mp_factor.specs.declared.factor.Factor.{Factor}
+use Rattle.mp_forms.specs.declared.factor.Factor.{Factor}
 use Rattle.mp_files.specs.declared.refusal.Refusal.TheVariants as files
 use Rattle.mp_ground.specs.declared.refusal.GroundRefusal.TheVariants as sizes
 use Rattle.mp_joint.specs.Fact.{Text}

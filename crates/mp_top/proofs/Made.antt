@@ -5,11 +5,11 @@ use Rattle.std.proofs.lemmas.List.FromFn.{length-map-range_with_len, length-rang
 use Rattle.std.proofs.lemmas.Fmt.{decimal_digit}
 use Rattle.std.specs.Prelude.{codes}
 use Rattle.std.specs.List.{flat_map, range_with_len}
-use Rattle.mp_factor.specs.Reading.{Reading as ShapeReading}
-use Rattle.mp_factor.specs.Rules.Files.{domain_rule, problem_rule}
-use Rattle.mp_factor.specs.FactorParts.{DomainParts, ProblemParts}
-use Rattle.mp_factor.specs.declared.factor.Factor.{Factor}
-use Rattle.mp_factor.specs.declared.files.File.TheVariants as file
+use Rattle.mp_forms.specs.Reading.{Reading as ShapeReading}
+use Rattle.mp_forms.specs.Rules.Files.{domain_rule, problem_rule}
+use Rattle.mp_forms.specs.FactorParts.{DomainParts, ProblemParts}
+use Rattle.mp_forms.specs.declared.factor.Factor.{Factor}
+use Rattle.mp_forms.specs.declared.files.File.TheVariants as file
 use Rattle.mp_files.specs.File.{Checks, Fetches, HasShape, Parts, SaysDomain, SaysProblem, Spells, file_of, text_refusal}
 use Rattle.mp_files.specs.Reading.{Each, Gives, Reading, Then}
 use Rattle.mp_files.specs.Team.{MeasuresTwo, ReadsMade, ReadsTexts, Says, Two}

@@ -1,7 +1,7 @@
 -- What is found for the agents of a request leads to one team.
 use Rattle.std.proofs.Common.{◌≡◌, List, map, Option, Some, None, Ok, sym, subst}
 use Rattle.std.proofs.lemmas.Option.{none-some, same_Some}
-use Rattle.mp_factor.specs.declared.factor.Factor.{Factor}
+use Rattle.mp_forms.specs.declared.factor.Factor.{Factor}
 use Rattle.mp_outside.specs.Source.{Files as Held}
 use Rattle.mp_files.specs.Team.{FoundTwo, HoldsTeam, ReadsFound, ReadsMade, Two, found_in_memory, found_under}
 use Rattle.mp_top.specs.Asked.{Texts}

@@ -1,6 +1,6 @@
 -- What follows of what a call keeps: which statuses it can have, that the first refusal comes, and what is told of a valid plan.
 use Rattle.std.specs.Prelude.{◌≡◌, ◌≤◌, ◌⊎◌, ℕ, Bool, true, false, List, [], ◌∷◌, ◌++◌, codes, decimal}
-use Rattle.mp_factor.specs.declared.factor.Factor.{Factor}
+use Rattle.mp_forms.specs.declared.factor.Factor.{Factor}
 use Rattle.mp_joint.specs.Fact.{Text}
 use Rattle.mp_outside.specs.Source.{Files as Held}
 use Rattle.mp_plans.specs.Packed.{steps_text}

@@ -1,6 +1,6 @@
 -- What is asked of whoever lets the agents of a team search until all have ended.
 use Rattle.std.specs.Prelude.{◌≤◌, List, length, Result, IfOk, IfErr, OnOk}
-use Rattle.mp_factor.specs.declared.factor.Factor.{Factor}
+use Rattle.mp_forms.specs.declared.factor.Factor.{Factor}
 use Rattle.mp_world.specs.Team.{most_expansions}
 use Rattle.mp_ground.specs.declared.refusal.GroundRefusal.{GroundRefusal}
 use Rattle.mp_solutions.specs.Solution.{IsFoundOn}

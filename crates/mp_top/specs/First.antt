@@ -2,7 +2,7 @@
 -- agents; ground sizes, one agent after another; and then the lines of the first files, one file after another. Where the
 -- source does not tell what it holds, nothing is said of files.
 use Rattle.std.specs.Prelude.{◌≡◌, ◌<◌, ℕ, zero, suc, List, length, slice_get, take, Option, Some, None, Ok, Err, IfSome, IsSomeAnd}
-use Rattle.mp_factor.specs.declared.factor.Factor.{Factor}
+use Rattle.mp_forms.specs.declared.factor.Factor.{Factor}
 use Rattle.mp_joint.specs.Fact.{Text}
 use Rattle.mp_outside.specs.Acts.{FileAsked}
 use Rattle.mp_outside.specs.Source.{Files as Held}

@@ -1,6 +1,6 @@
 -- The team of a request, and what its texts lead to.
 use Rattle.std.specs.Prelude.{◌≡◌, List, map, Option, Some, Result, Ok, Err, IfSome, option_map}
-use Rattle.mp_factor.specs.declared.factor.Factor.{Factor}
+use Rattle.mp_forms.specs.declared.factor.Factor.{Factor}
 use Rattle.mp_outside.specs.Source.{Files as Held}
 use Rattle.mp_files.specs.Team.{FoundTwo, IsReadTeam, ReadsMade, ReadsTeam, found_in_memory, found_under}
 use Rattle.mp_files.specs.declared.refusal.Refusal.{Refusal as FilesRefusal}

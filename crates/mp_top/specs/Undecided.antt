@@ -1,7 +1,7 @@
 -- What is known where nothing was decided about a plan: an agent has expanded as many entries as it may, by the log; and an
 -- agent that is alone and searches without a heuristic may expand fewer than there are sets of its facts.
 use Rattle.std.specs.Prelude.{◌≡◌, ◌≤◌, ◌+◌, ◌^◌, ◌==◌, ℕ, Bool, false, List, [], ◌∷◌, filter, length, Option, Some}
-use Rattle.mp_factor.specs.declared.factor.Factor.{Factor}
+use Rattle.mp_forms.specs.declared.factor.Factor.{Factor}
 use Rattle.mp_files.specs.Team.{FoundTwo}
 use Rattle.mp_messages.specs.declared.history.Entry.{Entry}
 use Rattle.mp_messages.specs.declared.history.Entry.TheVariants.{Act, Put, Took}

@@ -1,7 +1,7 @@
 //! What is found of a plan.
 
 ghost use Rattle.std.specs.Prelude.{◌≡◌, ◌≤◌, ◌==◌, ◌∷◌, [], true, false, List as ListOf, length, IfOk, IfErr, if◌then◌else◌};
-ghost use Rattle.mp_factor.specs.declared.factor.Factor.{Factor as FactorParts};
+ghost use Rattle.mp_forms.specs.declared.factor.Factor.{Factor as FactorParts};
 ghost use Rattle.mp_plan_verdict.specs.declared.verdict.CheckVerdict.TheVariants.{Valid};
 ghost use Rattle.mp_plans.specs.Packed.{steps_text as steps_text_of};
 ghost use Rattle.mp_plans.specs.Verdict.{verdict_text as verdict_text_of};

@@ -1,7 +1,7 @@
 //! What the texts of a request are has at most one first refusal.
 
 ghost use Rattle.std.specs.Prelude.{◌≡◌, List, Some};
-ghost use Rattle.mp_factor.specs.declared.factor.Factor.{Factor};
+ghost use Rattle.mp_forms.specs.declared.factor.Factor.{Factor};
 ghost use Rattle.mp_joint.specs.Fact.{Text};
 ghost use Rattle.mp_outside.specs.Source.{Files};
 ghost use Rattle.mp_top.specs.Asked.{TeamRequest};

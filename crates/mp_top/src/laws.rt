@@ -2,7 +2,7 @@
 //! call the laws that it rests on.
 
 ghost use Rattle.std.specs.Prelude.{◌≡◌, ◌≤◌, ◌↔◌, ℕ, List, Option, Some, length};
-ghost use Rattle.mp_factor.specs.declared.factor.Factor.{Factor};
+ghost use Rattle.mp_forms.specs.declared.factor.Factor.{Factor};
 ghost use Rattle.mp_messages.specs.History.{schedule};
 ghost use Rattle.mp_outside.specs.Source.{Files};
 ghost use Rattle.mp_stands.specs.Renaming.{Renaming};

@@ -11,8 +11,8 @@ ghost use Rattle.mp_top.specs.Refusal.{words_line, memory_line, write_line, faul
 
 use crate::status::Status;
 use itoa::Buffer;
-use mp_factor::File;
 use mp_files::{AgentFiles, Fault, FileOf, Refusal as FilesRefusal};
+use mp_forms::File;
 use mp_ground::GroundRefusal;
 use mp_list::OutOfMemory;
 use mp_outside::{Sink, put_all};

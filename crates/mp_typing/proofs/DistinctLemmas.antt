@@ -3,7 +3,7 @@ use Rattle.mp_typing.proofs.Basics.{◌≡◌, ℕ, ◌+◌, ◌==◌, ◌≤◌
 use Rattle.mp_typing.proofs.Basics.{length-map, length-append, bytes_eq-Decides, contains_cases, contains_tail, contains_head, no_member, File, Word, Typed, first_declared, is_same, object_faults}
 use Rattle.std.proofs.lemmas.Bool.{and_from}
 use Rattle.mp_typing.specs.Repeats.{is_alike, is_same_privacy, unlike_faults}
-use Rattle.mp_typing.proofs.NameSets.{same_either_way}
+use Rattle.mp_sexp.proofs.Places.{swapped}
 
 -- ---- filters that leave out nothing
 
@@ -96,7 +96,7 @@ apart t ts e u found =
     let rest = fewer_names ts in
     let whole = all_first ts (rest_distinct t ts e) in
     let other = keeps_each (is_other t) (first_declared ts) (omega (arith, long, out, rest, e)) u (subst (λ us. Contains us u) (sym whole) found) in
-    same_either_way t.word.name u.word.name ∙ not-true (bytes_eq u.word.name t.word.name) other
+    swapped t.word.name u.word.name ∙ not-true (bytes_eq u.word.name t.word.name) other
 
 same_itself : (w : Word) → is_same w w ≡ true
 same_itself w = (bytes_eq-Decides w.name w.name).1 refl

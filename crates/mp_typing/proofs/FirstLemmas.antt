@@ -1,12 +1,11 @@
 -- Faults are in a strict and total order, so that the earliest of some is their first.
-use Rattle.mp_typing.proofs.Basics.{◌≡◌, ℕ, zero, suc, List, [], ◌∷◌, ◌++◌, length, Ordering, Option, Some, None, refl, sym, ap, ◌∙◌, arith, is_lt, nat_cmp, ordering_then, slice_cmp, File, Domain, Fault, FaultKind, WrongDomain, Unknown, Arity, Twice}
-use Rattle.mp_typing.proofs.Basics.{is_earlier, leftmost, order_by, IsFirst}
+use Rattle.mp_typing.proofs.Basics.{◌≡◌, ℕ, zero, suc, List, [], ◌∷◌, ◌++◌, length, Ordering, refl, sym, ap, ◌∙◌, arith, is_lt, nat_cmp, ordering_then, slice_cmp, File, Domain, Fault, FaultKind, WrongDomain, Unknown, Arity, Twice}
+use Rattle.mp_typing.proofs.Basics.{is_earlier, order_by, IsFirst}
 use Rattle.std.proofs.Common.{Less, Equal, Greater}
 use Rattle.mp_list.specs.First.{IsStrictOrder, IsTotal}
 use Rattle.mp_list.proofs.Orders.{is_less, strict_on, total_on, numbers_strict, numbers_total}
-use Rattle.mp_list.proofs.FirstLemmas as firsts
 use Rattle.mp_list.proofs.OneFirst.{first_is_one}
-use Rattle.mp_factor.specs.declared.files.File.TheVariants.{Problem}
+use Rattle.mp_forms.specs.declared.files.File.TheVariants.{Problem}
 use Rattle.mp_typing.specs.Faults.{rank_of, file_rank_of, order_of}
 
 -- ---- the order
@@ -47,7 +46,7 @@ of_order a b =
 apart : (a b : Fault) → order_of a ≡ order_of b → a ≡ b
 apart a b e = sym (of_order a a) ∙ ap (λ (ns : List ℕ). fault_by ns a) e ∙ of_order b a
 
-strict : IsStrictOrder is_earlier
+pub strict : IsStrictOrder is_earlier
 unfolding is_earlier
 strict = strict_on order_of (is_less (slice_cmp nat_cmp)) numbers_strict
 
@@ -59,15 +58,6 @@ total = total_on order_of (is_less (slice_cmp nat_cmp)) numbers_total apart
 
 pub one_first : (faults : List Fault) (a b : Fault) → IsFirst faults a → IsFirst faults b → a ≡ b
 one_first = first_is_one is_earlier total
-
-pub nothing_found : (faults : List Fault) → leftmost None faults ≡ None → faults ≡ []
-nothing_found faults e = firsts.nothing_found is_earlier faults e
-
-pub found_first : (faults : List Fault) (f : Fault) → leftmost None faults ≡ Some f → IsFirst faults f
-found_first faults f e = firsts.found_first is_earlier strict faults f e
-
-pub leftmost_append : (o : Option Fault) (xs ys : List Fault) → leftmost o (xs ++ ys) ≡ leftmost (leftmost o xs) ys
-leftmost_append o xs ys = firsts.leftmost_append is_earlier o xs ys
 
 -- ---- two faults compared
 

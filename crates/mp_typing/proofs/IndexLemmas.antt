@@ -1,6 +1,6 @@
 -- A map that has the number of the first entry of each name, while entries are added.
-use Rattle.mp_typing.proofs.Basics.{◌≡◌, ℕ, Bool, true, false, cond, List, [], ◌∷◌, ◌++◌, map, Option, Some, None, refl, sym, ap, subst, ◌∙◌, if◌then◌else◌, lookup, is_some, option_or, bytes_eq, bytes_eq-Decides, Entry, number_of, SameNumbers}
-use Rattle.mp_typing.proofs.NameSets.{same_either_way}
+use Rattle.mp_typing.proofs.Basics.{◌≡◌, ℕ, Bool, true, false, cond, List, [], ◌∷◌, ◌++◌, map, Option, Some, None, refl, sym, ap, subst, ◌∙◌, if◌then◌else◌, lookup, is_some, option_or, bytes_eq, Entry, number_of, SameNumbers}
+use Rattle.mp_sexp.proofs.Places.{equal, not_some, of_none, of_some, swapped}
 
 -- the entries that a map has
 abbrev pub entries_of : List (List ℕ × ℕ) → List Entry
@@ -16,7 +16,7 @@ unfolding number_of
 looked_up name [] = refl
 looked_up name (e ∷ es) =
     cond_if (bytes_eq name e.0) (bytes_eq e.0 name) e.1 (lookup (λ (k : List ℕ). bytes_eq name k) es) (number_of name (entries_of es))
-    (same_either_way name e.0) (looked_up name es)
+    (swapped name e.0) (looked_up name es)
 
 -- the number that an entry gives a name
 abbrev pub alone : Entry → List ℕ → Option ℕ
@@ -33,26 +33,11 @@ number_push name (x ∷ xs) e =
     ap (λ (o : Option ℕ). if bytes_eq x.name name then Some x.number else o) (number_push name xs e)
     ∙ moves_in (bytes_eq x.name name) x.number (number_of name xs) (alone e name)
 
-of_none : (o : Option ℕ) → option_or o None ≡ o
-of_none None = refl
-of_none (Some n) = refl
-
-of_some : (o other : Option ℕ) → is_some o ≡ true → option_or o other ≡ o
-of_some None other e = cc
-of_some (Some n) other e = refl
-
-not_some : (o : Option ℕ) → is_some o ≡ false → o ≡ None
-not_some None e = refl
-not_some (Some n) e = cc
-
-same : (a b : List ℕ) → bytes_eq a b ≡ true → a ≡ b
-same a b e = (bytes_eq-Decides a b).0 e
-
 known_by : (name q : List ℕ) (n : ℕ) (es : List Entry) (b : Bool) → b ≡ bytes_eq name q → is_some (number_of name es) ≡ true
     → number_of q es ≡ option_or (number_of q es) (if b then Some n else None)
 known_by name q n es true e some =
-    sym (of_some (number_of q es) (Some n) (subst (λ (k : List ℕ). is_some (number_of k es) ≡ true) (same name q (sym e)) some))
-known_by name q n es false e some = sym (of_none (number_of q es))
+    of_some (number_of q es) (Some n) (subst (λ (k : List ℕ). is_some (number_of k es) ≡ true) (equal name q (sym e)) some)
+known_by name q n es false e some = of_none (number_of q es)
 
 -- an entry of a name that has a number changes no number
 pub known : (name : List ℕ) (n : ℕ) (es : List Entry) → is_some (number_of name es) ≡ true → SameNumbers es (es ++ record { name = name; number = n } ∷ [])
@@ -62,8 +47,8 @@ known name n es some q =
 new_by : (name q : List ℕ) (n : ℕ) (es : List Entry) (b : Bool) → b ≡ bytes_eq name q → is_some (number_of name es) ≡ false
     → cond b (Some n) (number_of q es) ≡ option_or (number_of q es) (if b then Some n else None)
 new_by name q n es true e none =
-    sym (ap (λ (o : Option ℕ). option_or o (Some n)) (ap (λ (k : List ℕ). number_of k es) (sym (same name q (sym e))) ∙ not_some (number_of name es) none))
-new_by name q n es false e none = sym (of_none (number_of q es))
+    sym (ap (λ (o : Option ℕ). option_or o (Some n)) (ap (λ (k : List ℕ). number_of k es) (sym (equal name q (sym e))) ∙ not_some (number_of name es) none))
+new_by name q n es false e none = of_none (number_of q es)
 
 -- a name that has no number yet gets one
 pub added : (name : List ℕ) (n : ℕ) (es fs : List Entry) → is_some (number_of name es) ≡ false
@@ -74,7 +59,7 @@ added name n es fs none changed q =
 
 restored_by : (name q : List ℕ) (n f : ℕ) (es : List Entry) (b : Bool) → b ≡ bytes_eq name q → number_of name es ≡ Some f
     → cond b (Some f) (cond b (Some n) (number_of q es)) ≡ number_of q es
-restored_by name q n f es true e there = sym (subst (λ (k : List ℕ). number_of k es ≡ Some f) (same name q (sym e)) there)
+restored_by name q n f es true e there = sym (subst (λ (k : List ℕ). number_of k es ≡ Some f) (equal name q (sym e)) there)
 restored_by name q n f es false e there = refl
 
 -- a number that is put in place of another, and then the other again

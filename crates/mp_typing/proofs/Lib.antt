@@ -17,19 +17,14 @@ pub mod CheckLemmas
 pub mod Listing
 -- objects with names of their own
 pub mod DistinctLemmas
--- the order of types: its laws, sets that are closed under declarations, the test whether an object is of a type
+-- the order of types: its laws, and the tests along the declarations
 pub mod Ordering
-pub mod Reaching
-pub mod Typing
--- the test of types by rounds
 pub mod Lowering
-pub mod UnderLemmas
--- names with numbers of their own, types as a graph of numbers, a search in it, and what its marks say
-pub mod NumberingLemmas
-pub mod GraphLemmas
-pub mod ReachLemmas
--- the objects of each type, listed once
-pub mod ListedLemmas
+pub mod Finding
+pub mod Typing
+-- what is listed by types, and the objects that are of a type
+pub mod ByTypeLemmas
+pub mod RangeLemmas
 pub mod HierarchyLemmas
 -- items of a list that pass a test, and their places
 pub mod Passing

@@ -1,18 +1,18 @@
 -- The first declaration of each name, one declaration after the other.
-use Rattle.mp_typing.proofs.Basics.{◌≡◌, ℕ, ◌+◌, ◌<◌, Bool, true, false, ◌||◌, not, List, [], ◌∷◌, ◌++◌, length, get_or, take, refl, sym, ap, ◌∙◌, inl, inr, append_assoc, arith, is_some, bytes_eq, list_any, cases_Bool, or_cases, not-true, take_more}
-use Rattle.mp_typing.proofs.Basics.{append-nil, length-append, length-take-le, Typed, Entry, number_of, SameNumbers, AreFound, is_object, first_declared}
+use Rattle.mp_typing.proofs.Basics.{◌≡◌, ℕ, ◌+◌, ◌<◌, Bool, true, false, ◌||◌, not, List, [], ◌∷◌, ◌++◌, map, length, get_or, take, refl, sym, ap, ◌∙◌, inl, inr, append_assoc, arith, is_some, bytes_eq, cases_Bool, or_cases, not-true, take_more}
+use Rattle.mp_typing.proofs.Basics.{append-nil, length-append, length-take-le, Typed, is_among, Entry, number_of, SameNumbers, AreFound, is_object, first_declared}
 use Rattle.std.proofs.lemmas.Bool.{not-false}
 use Rattle.std.proofs.lemmas.List.Elements.{filter-append}
 use Rattle.mp_typing.specs.ObjectList.{others}
 use Rattle.mp_typing.proofs.LookupLemmas.{is_placed, place_added, places_none}
-use Rattle.mp_typing.proofs.NameSets.{same_either_way}
+use Rattle.mp_sexp.proofs.Places.{swapped}
 
 -- whether a name is declared
-abbrev is_declared : List Typed → List ℕ → Bool
-is_declared declared name = list_any (λ t. bytes_eq name t.word.name) declared
+abbrev pub is_declared : List Typed → List ℕ → Bool
+is_declared declared name = is_among (map (λ t. t.word.name) declared) name
 
 -- a declaration of a name that is not declared yet
-with_new : (ds : List Typed) (t : Typed) → is_declared ds t.word.name ≡ false → first_declared (ds ++ t ∷ []) ≡ first_declared ds ++ t ∷ []
+pub with_new : (ds : List Typed) (t : Typed) → is_declared ds t.word.name ≡ false → first_declared (ds ++ t ∷ []) ≡ first_declared ds ++ t ∷ []
 unfolding first_declared
 with_new [] t h = refl
 with_new (d ∷ ds) t h =
@@ -27,7 +27,7 @@ with_new (d ∷ ds) t h =
     ]
 
 -- and of one that is
-with_old : (ds : List Typed) (t : Typed) → is_declared ds t.word.name ≡ true → first_declared (ds ++ t ∷ []) ≡ first_declared ds
+pub with_old : (ds : List Typed) (t : Typed) → is_declared ds t.word.name ≡ true → first_declared (ds ++ t ∷ []) ≡ first_declared ds
 unfolding first_declared
 with_old [] t h = absurd (cc)
 with_old (d ∷ ds) t h =
@@ -49,7 +49,7 @@ declared_object : (ds : List Typed) (name : List ℕ) → is_object ds name ≡ 
 unfolding is_object
 declared_object [] name = refl
 declared_object (d ∷ ds) name =
-    ap (λ b. b || is_object ds name) (same_either_way d.word.name name)
+    ap (λ b. b || is_object ds name) (swapped d.word.name name)
     ∙ ap (λ b. bytes_eq name d.word.name || b) (declared_object ds name)
 
 -- nothing is declared

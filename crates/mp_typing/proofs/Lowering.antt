@@ -1,13 +1,5 @@
--- Names of types that lie under some types, while rounds along the declarations add them.
-use Rattle.mp_typing.proofs.Basics.{◌≡◌, ℕ, zero, suc, ◌<◌, ◌≤◌, Bool, true, false, not, List, [], ◌∷◌, length, get_or, refl, arith, inl, inr, if◌then◌else◌, list_all, cases_Bool, Typed, is_among, IsUnderOne, is_new}
-
--- all of these names are of types under the tops
-abbrev pub AreUnder : List Typed → List (List ℕ) → List (List ℕ) → Type 0
-AreUnder declared tops names = (name : List ℕ) → is_among names name ≡ true → IsUnderOne declared tops name
-
--- no declared type is to be added
-abbrev pub is_complete : List Typed → List (List ℕ) → Bool
-is_complete declared names = list_all (λ t. not (is_new names t)) declared
+-- How many declarations are of other types than those that are found.
+use Rattle.mp_typing.proofs.Basics.{◌≡◌, ℕ, zero, suc, ◌<◌, ◌≤◌, true, false, List, [], ◌∷◌, length, get_or, refl, arith, inl, inr, if◌then◌else◌, cases_Bool, Typed, is_among}
 
 -- each name of the first list is in the second
 abbrev pub Keeps : List (List ℕ) → List (List ℕ) → Type 0
@@ -73,4 +65,14 @@ outside_lt before after kept (t ∷ ts) (suc i) d lt was now =
             | inl in_now ↦ let two = outside_in after t ts in_now in omega arith
             | inr out_now ↦ let two = outside_out after t ts out_now in omega arith
           ]
+    ]
+
+-- and there are no more than declarations
+pub outside_at_most : (names : List (List ℕ)) (declared : List Typed) → outside names declared ≤ length declared
+outside_at_most names [] = omega (arith, outside_none names)
+outside_at_most names (t ∷ ts) =
+    let less = outside_at_most names ts in
+    elim (cases_Bool (is_among names t.word.name)) [
+      | inl there ↦ let now = outside_in names t ts there in omega arith
+      | inr absent ↦ let now = outside_out names t ts absent in omega arith
     ]

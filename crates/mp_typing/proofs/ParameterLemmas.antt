@@ -1,8 +1,8 @@
 -- Parameters of one action, one after the other, as a loop finds those that come second.
-use Rattle.mp_typing.proofs.Basics.{◌≡◌, ℕ, suc, ◌+◌, ◌<◌, ◌≤◌, List, [], ◌∷◌, ◌++◌, length, get_or, take, drop, Option, sym, ap, ◌∙◌, arith, drop_of_length-le, take_more, Domain, Typed, Fault, leftmost, parameter_faults, twice_if}
+use Rattle.mp_typing.proofs.Basics.{◌≡◌, ℕ, suc, ◌+◌, ◌<◌, ◌≤◌, List, [], ◌∷◌, ◌++◌, length, get_or, take, drop, Option, sym, ap, ◌∙◌, arith, drop_of_length-le, take_more, Domain, Typed, Fault, is_earlier, leftmost, parameter_faults, twice_if}
 use Rattle.std.proofs.Common.{drop-cons}
 use Rattle.mp_typing.specs.Repeats.{is_second}
-use Rattle.mp_typing.proofs.FirstLemmas.{leftmost_append}
+use Rattle.mp_list.proofs.FirstLemmas.{leftmost_append}
 
 -- one parameter is looked at, and what follows
 pub goes_on : (o o' whole : Option Fault) (ps : List Typed) (i : ℕ) (p : Typed) (later : List Typed)
@@ -18,7 +18,7 @@ goes_on o o' whole ps i p later lt is behind found so_far =
     let after : later ≡ rest = behind ∙ ap (λ (n : ℕ). drop n ps) (sym next) in
     let split : leftmost o (parameter_faults earlier (drop i ps))
     ≡ leftmost (leftmost o (twice_if (is_second earlier p rest) Domain p.word)) (parameter_faults (earlier ++ p ∷ []) rest) =
-    rw (drop-cons ps i p lt, ← is) (leftmost_append o (twice_if (is_second earlier p rest) Domain p.word) (parameter_faults (earlier ++ p ∷ []) rest)) in
+    rw (drop-cons ps i p lt, ← is) (leftmost_append is_earlier o (twice_if (is_second earlier p rest) Domain p.word) (parameter_faults (earlier ++ p ∷ []) rest)) in
     ap (λ (n : ℕ). leftmost o' (parameter_faults (take (i + 1) ps) (drop n ps))) (sym next)
     ∙ ap (λ (qs : List Typed). leftmost o' (parameter_faults qs rest)) (take_more ps i p lt ∙ ap (λ (q : Typed). take i ps ++ q ∷ []) (sym is))
     ∙ ap (λ (q : Option Fault). leftmost q (parameter_faults (earlier ++ p ∷ []) rest))

@@ -1,26 +1,5 @@
 -- Items of a list that pass a test, or of which none does.
-use Rattle.mp_typing.proofs.Basics.{◌≡◌, cond, Bool, true, false, ◌&&◌, not, List, [], ◌∷◌, refl, sym, ap, subst, ◌∙◌, inl, inr, Contains, filter, list_all, cases_Bool, and_parts, not-true, contains_head, contains_tail, contains_cases, no_member}
-
--- where not all items fail a test, one passes it
-pub one_passes_where_not_all_fail : {X : Type 0} (test : X → Bool) (xs : List X) → list_all (λ x. not (test x)) xs ≡ false
-    → (x : X) × Contains xs x × (test x ≡ true)
-one_passes_where_not_all_fail test [] h = absurd (cc)
-one_passes_where_not_all_fail test (x ∷ xs) h =
-    elim (cases_Bool (test x)) [
-      | inl here ↦ (x, contains_head x xs, here)
-      | inr fails ↦
-          let rest : list_all (λ y. not (test y)) xs ≡ false = sym (ap (λ b. not b && list_all (λ y. not (test y)) xs) fails) ∙ h in
-          let found = one_passes_where_not_all_fail test xs rest in
-          (found.0, contains_tail x xs found.0 found.1, found.2)
-    ]
-
--- where all items fail a test, none is taken by it
-pub none_taken : {X : Type 0} (test : X → Bool) (xs : List X) → list_all (λ x. not (test x)) xs ≡ true → filter test xs ≡ []
-none_taken test [] h = refl
-none_taken test (x ∷ xs) h =
-    let fails = not-true (test x) (and_parts (not (test x)) (list_all (λ y. not (test y)) xs) h).0 in
-    let rest = none_taken test xs (and_parts (not (test x)) (list_all (λ y. not (test y)) xs) h).1 in
-    ap (λ b. cond b (x ∷ filter test xs) (filter test xs)) fails ∙ rest
+use Rattle.mp_typing.proofs.Basics.{◌≡◌, cond, Bool, true, false, List, [], ◌∷◌, sym, ap, subst, ◌∙◌, inl, inr, Contains, filter, cases_Bool, contains_head, contains_tail, contains_cases, no_member}
 
 -- an item that a test takes is in the list and passes
 pub taken_passes : {X : Type 0} (test : X → Bool) (xs : List X) (x : X) → Contains (filter test xs) x → Contains xs x × (test x ≡ true)

@@ -1,16 +1,17 @@
 -- The places of the items that pass a test.
-use Rattle.mp_typing.proofs.Basics.{◌≡◌, ℕ, zero, suc, ◌+◌, ◌<◌, ◌≤◌, Bool, true, false, List, [], ◌∷◌, ◌++◌, length, get_or, drop, Some, refl, sym, ap, subst, ◌∙◌, inl, inr, append_assoc, arith, zero-add, Contains, slice_get, Decides}
-use Rattle.mp_typing.proofs.Basics.{IsStrictlyIncreasing, drop_of_length-le, cases_Bool, drop_more, append-nil, Typed, IsOfType, Members, contains_cases, contains_head, contains_tail, no_member}
+use Rattle.mp_typing.proofs.Basics.{◌≡◌, ℕ, zero, suc, ◌+◌, ◌<◌, ◌≤◌, Bool, true, false, List, [], ◌∷◌, ◌++◌, length, get_or, drop, Some, refl, sym, ap, subst, ◌∙◌, inl, inr, append_assoc, arith, zero-add, Contains, slice_get, ◌↔◌}
+use Rattle.mp_typing.proofs.Basics.{IsStrictlyIncreasing, drop_of_length-le, cases_Bool, drop_more, append-nil, Typed, Members, is_of_type, contains_cases, contains_head, contains_tail, no_member}
 use Rattle.std.specs.Prelude.{slice_index}
 use Rattle.mp_typing.specs.Places.{numbers_where}
+use Rattle.mp_typing.proofs.Typing.{is_of_type_decides}
 
 -- ---- one item after the other
 
-places_in : {X : Type 0} (test : X → Bool) (n : ℕ) (t : X) (ts : List X) → test t ≡ true → numbers_where n test (t ∷ ts) ≡ n ∷ numbers_where (suc n) test ts
+pub places_in : {X : Type 0} (test : X → Bool) (n : ℕ) (t : X) (ts : List X) → test t ≡ true → numbers_where n test (t ∷ ts) ≡ n ∷ numbers_where (suc n) test ts
 unfolding numbers_where
 places_in test n t ts h = rw h refl
 
-places_out : {X : Type 0} (test : X → Bool) (n : ℕ) (t : X) (ts : List X) → test t ≡ false → numbers_where n test (t ∷ ts) ≡ numbers_where (suc n) test ts
+pub places_out : {X : Type 0} (test : X → Bool) (n : ℕ) (t : X) (ts : List X) → test t ≡ false → numbers_where n test (t ∷ ts) ≡ numbers_where (suc n) test ts
 unfolding numbers_where
 places_out test n t ts h = rw h refl
 
@@ -57,7 +58,7 @@ in_rest : (n : ℕ) (ns : List ℕ) (k : ℕ) → k < length (n ∷ ns) → ((j 
 in_rest n ns zero lt rest = omega arith
 in_rest n ns (suc k) lt rest = rest k (omega arith)
 
-at_least : (test : Typed → Bool) (n : ℕ) (ts : List Typed) (k : ℕ) → k < length (numbers_where n test ts) → n ≤ slice_index (numbers_where n test ts) k
+at_least : {X : Type 0} (test : X → Bool) (n : ℕ) (ts : List X) (k : ℕ) → k < length (numbers_where n test ts) → n ≤ slice_index (numbers_where n test ts) k
 at_least test n [] k lt = absurd (let none = ap length (places_none test n) in omega arith)
 at_least test n (t ∷ ts) k lt =
     elim (cases_Bool (test t)) [
@@ -75,7 +76,7 @@ rises n ns above rest (suc k) lt =
     let next : suc (k + 1) ≡ suc k + 1 = omega arith in
     subst (λ (j : ℕ). slice_index ns k < slice_index (n ∷ ns) j) next (rest k (omega arith))
 
-places_rise : (test : Typed → Bool) (n : ℕ) (ts : List Typed) → IsStrictlyIncreasing (numbers_where n test ts)
+pub places_rise : {X : Type 0} (test : X → Bool) (n : ℕ) (ts : List X) → IsStrictlyIncreasing (numbers_where n test ts)
 places_rise test n [] = λ k lt. absurd (let none = ap length (places_none test n) in omega arith)
 places_rise test n (t ∷ ts) =
     elim (cases_Bool (test t)) [
@@ -86,8 +87,8 @@ places_rise test n (t ∷ ts) =
 -- ---- which places there are
 
 -- a place is the place of an item that passes
-pub from_places : (test : Typed → Bool) (n : ℕ) (ts : List Typed) (m : ℕ) → Contains (numbers_where n test ts) m
-    → (i : ℕ) × (t : Typed) × (m ≡ n + i) × (slice_get ts i ≡ Some t) × (test t ≡ true)
+from_places : {X : Type 0} (test : X → Bool) (n : ℕ) (ts : List X) (m : ℕ) → Contains (numbers_where n test ts) m
+    → (i : ℕ) × (t : X) × (m ≡ n + i) × (slice_get ts i ≡ Some t) × (test t ≡ true)
 from_places test n [] m found = absurd (let none = subst (λ (ns : List ℕ). Contains ns m) (places_none test n) found in no_member m none)
 from_places test n (t ∷ ts) m found =
     elim (cases_Bool (test t)) [
@@ -102,7 +103,7 @@ from_places test n (t ∷ ts) m found =
     ]
 
 -- an item that passes has its place
-pub to_places : (test : Typed → Bool) (n : ℕ) (ts : List Typed) (i : ℕ) (t : Typed) → slice_get ts i ≡ Some t → test t ≡ true → Contains (numbers_where n test ts) (n + i)
+to_places : {X : Type 0} (test : X → Bool) (n : ℕ) (ts : List X) (i : ℕ) (t : X) → slice_get ts i ≡ Some t → test t ≡ true → Contains (numbers_where n test ts) (n + i)
 to_places test n [] i t at ok = absurd (cc)
 to_places test n (u ∷ us) zero t at ok =
     let is : u ≡ t = cc in
@@ -118,17 +119,41 @@ to_places test n (u ∷ us) (suc i) t at ok =
       | inr fails ↦ subst (λ (ns : List ℕ). Contains ns (suc n + i)) (sym (places_out test n u us fails)) there
     ])
 
--- the places of the objects that are of a type, where the test tells which are
-pub are_members : (declared objects : List Typed) (asked : List (List ℕ)) (test : Typed → Bool) → ((t : Typed) → Decides (test t) (IsOfType declared asked t))
-    → Members declared objects asked (numbers_where 0 test objects)
-are_members declared objects asked test decides =
+-- counted from 0
+pub place_passes : {X : Type 0} (test : X → Bool) (xs : List X) (n : ℕ) → Contains (numbers_where 0 test xs) n
+    → (x : X) × (slice_get xs n ≡ Some x) × (test x ≡ true)
+place_passes test xs n found =
+    let (i, x, is, at, ok) = from_places test 0 xs n found in
+    let same : i ≡ n = omega (arith, is) in
+    (x, subst (λ (k : ℕ). slice_get xs k ≡ Some x) same at, ok)
+
+pub passing_place : {X : Type 0} (test : X → Bool) (xs : List X) (n : ℕ) (x : X) → slice_get xs n ≡ Some x → test x ≡ true
+    → Contains (numbers_where 0 test xs) n
+passing_place test xs n x at ok = subst (Contains (numbers_where 0 test xs)) (zero-add n) (to_places test 0 xs n x at ok)
+
+-- ---- the objects that are of a type
+
+-- an object is at a place, and its test passes
+abbrev pub Passes : List Typed → List Typed → List (List ℕ) → ℕ → Type 0
+Passes declared objects asked place = (t : Typed) × (slice_get objects place ≡ Some t) × (is_of_type declared asked t ≡ true)
+
+-- rising numbers are those of members, where they are the places of the objects that pass
+pub members_pass : (declared objects : List Typed) (asked : List (List ℕ)) (numbers : List ℕ) → IsStrictlyIncreasing numbers
+    → ((place : ℕ) → Contains numbers place ↔ Passes declared objects asked place) → Members declared objects asked numbers
+members_pass declared objects asked numbers rising are =
     record {
-      rising = places_rise test 0 objects;
-      exact = λ number. (
+      rising = rising;
+      exact = λ place. (
         (λ found.
-            let (i, t, is, at, ok) = from_places test 0 objects number found in
-            let same : i ≡ number = omega arith in
-            record { object = t; at = subst (λ (j : ℕ). slice_get objects j ≡ Some t) same at; of_type = (decides t).0 ok }),
-        (λ m. subst (Contains (numbers_where 0 test objects)) (zero-add number) (to_places test 0 objects number m.object m.at ((decides m.object).1 m.of_type))),
+            let (t, at, ok) = (are place).0 found in
+            record { object = t; at = at; of_type = (is_of_type_decides declared asked t).0 ok }),
+        (λ m. (are place).1 (m.object, m.at, (is_of_type_decides declared asked m.object).1 m.of_type)),
       );
     }
+
+-- the places of the objects that pass
+pub are_members : (declared objects : List Typed) (asked : List (List ℕ)) → Members declared objects asked (numbers_where 0 (is_of_type declared asked) objects)
+are_members declared objects asked =
+    let test = is_of_type declared asked in
+    members_pass declared objects asked (numbers_where 0 test objects) (places_rise test 0 objects)
+    (λ place. (place_passes test objects place, (λ p. passing_place test objects place p.0 p.1 p.2)))

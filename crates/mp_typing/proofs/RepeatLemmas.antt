@@ -6,7 +6,7 @@ use Rattle.mp_list.specs.Repeats.{is_among_keys, if_repeated, repeats_behind}
 use Rattle.mp_list.proofs.RepeatLemmas as steps
 use Rattle.mp_typing.specs.Names.{SameNames}
 use Rattle.mp_typing.proofs.Lists.{swaps}
-use Rattle.mp_typing.proofs.NameSets.{same_either_way}
+use Rattle.mp_sexp.proofs.Places.{swapped}
 
 -- a set has these names
 abbrev pub Seen : List (List ℕ) → List (List ℕ) → Type 0
@@ -19,7 +19,7 @@ seen_none names none name = ap (λ (ns : List (List ℕ)). is_among ns name) non
 seen_more : (names more keys : List (List ℕ)) (key : List ℕ) → Seen names keys → SameNames more (key ∷ names) → Seen more (keys ++ key ∷ [])
 seen_more names more keys key seen adds name =
     adds name ∙ ap (λ (b : Bool). bytes_eq name key || b) (seen name)
-    ∙ ap (λ (b : Bool). b || is_among_keys bytes_eq keys name) (same_either_way name key)
+    ∙ ap (λ (b : Bool). b || is_among_keys bytes_eq keys name) (swapped name key)
     ∙ swaps (bytes_eq key name) (is_among_keys bytes_eq keys name)
     ∙ sym (list_any-append (λ (k : List ℕ). bytes_eq k name) keys (key ∷ []))
 

@@ -2,13 +2,13 @@
 use Rattle.std.specs.Prelude.{List, [], ◌∷◌, ◌++◌, if◌then◌else◌}
 use Rattle.std.specs.List.{flat_map}
 use Rattle.std.specs.Str.{bytes_eq}
-use Rattle.mp_factor.specs.declared.files.File.TheVariants as files
-use Rattle.mp_factor.specs.declared.word.Word.{Word}
-use Rattle.mp_factor.specs.declared.typed_values.Typed.{Typed}
-use Rattle.mp_factor.specs.declared.schema_values.Schema.{Schema}
-use Rattle.mp_factor.specs.declared.init_values.Value.{Value}
-use Rattle.mp_factor.specs.declared.factor.Factor.{Factor}
-use Rattle.mp_factor.specs.FactorParts.{DomainParts, ProblemParts}
+use Rattle.mp_forms.specs.declared.files.File.TheVariants as files
+use Rattle.mp_forms.specs.declared.word.Word.{Word}
+use Rattle.mp_forms.specs.declared.typed_values.Typed.{Typed}
+use Rattle.mp_forms.specs.declared.schema_values.Schema.{Schema}
+use Rattle.mp_forms.specs.declared.init_values.Value.{Value}
+use Rattle.mp_forms.specs.declared.factor.Factor.{Factor}
+use Rattle.mp_forms.specs.FactorParts.{DomainParts, ProblemParts}
 use Rattle.mp_typing.specs.declared.fault.Fault.{Fault}
 use Rattle.mp_typing.specs.declared.fault.FaultKind.TheVariants.{WrongDomain}
 use Rattle.mp_typing.specs.Faults.{fault_at}

@@ -3,10 +3,10 @@ use Rattle.std.specs.Prelude.{ℕ, Bool, List, [], ◌∷◌, ◌++◌, Option}
 use Rattle.std.specs.Ordering.{is_lt, nat_cmp}
 use Rattle.std.specs.Cmp.Lexicographic.{slice_cmp}
 use Rattle.mp_list.specs.First.{leftmost as first_of}
-use Rattle.mp_factor.specs.declared.files.File.{File}
+use Rattle.mp_forms.specs.declared.files.File.{File}
 use Rattle.mp_sexp.specs.declared.tree.Place.{Place}
-use Rattle.mp_factor.specs.declared.files.File.TheVariants.{Domain, Problem}
-use Rattle.mp_factor.specs.declared.word.Word.{Word}
+use Rattle.mp_forms.specs.declared.files.File.TheVariants.{Domain, Problem}
+use Rattle.mp_forms.specs.declared.word.Word.{Word}
 use Rattle.mp_typing.specs.declared.fault.Fault.{Fault}
 use Rattle.mp_typing.specs.declared.fault.FaultKind.{FaultKind}
 use Rattle.mp_typing.specs.declared.fault.FaultKind.TheVariants.{WrongDomain, Unknown, Arity, Twice}

@@ -1,6 +1,6 @@
 -- Which types lie under which (typing of PDDL 2.1).
 use Rattle.std.specs.Prelude.{◌≡◌, ℕ, List, Contains, codes}
-use Rattle.mp_factor.specs.declared.typed_values.Typed.{Typed}
+use Rattle.mp_forms.specs.declared.typed_values.Typed.{Typed}
 use Rattle.mp_typing.specs.Names.{names_of}
 
 -- the type under which every type lies
@@ -20,3 +20,9 @@ pub data IsA (declared : List Typed) : List ℕ → List ℕ → Type 0 where
   same : {name : List ℕ} → IsA declared name name
   step : {sub middle sup : List ℕ} → DeclaredUnder declared sub middle → IsA declared middle sup → IsA declared sub sup
   through_object : {sub sup : List ℕ} → IsA declared object_name sup → IsA declared sub sup
+
+-- a type is one of the tops or lies under one
+pub record IsUnderOne (declared : List Typed) (tops : List (List ℕ)) (name : List ℕ) : Type 0 where
+  pub top : List ℕ
+  pub among : Contains tops top
+  pub under : IsA declared name top

@@ -17,14 +17,10 @@ pub mod IsA
 pub mod ObjectList
 pub mod Members
 -- the same as a test
-pub mod Lower
+pub mod ByType
 pub mod Under
--- what the code keeps, for private clauses alone: names with numbers, the types as a graph, a search in it
+-- what the code keeps, for private clauses alone: names with numbers, and what is listed by types
 pub mod Indexed
-pub mod Numbering
-pub mod Graph
-pub mod Reach
-pub mod Listed
 pub mod Hierarchy
 pub mod Listing
 pub mod Places

@@ -1,6 +1,6 @@
 -- What is kept of the objects while their declarations are read.
 use Rattle.std.specs.Prelude.{◌≡◌, List}
-use Rattle.mp_factor.specs.declared.typed_values.Typed.{Typed}
+use Rattle.mp_forms.specs.declared.typed_values.Typed.{Typed}
 use Rattle.mp_typing.specs.Indexed.{Entry, HasPlaces}
 use Rattle.mp_typing.specs.ObjectList.{first_declared}
 

@@ -3,10 +3,10 @@ use Rattle.std.specs.Prelude.{ℕ, Bool, List, ◌++◌, length, Option, find}
 use Rattle.std.specs.List.{list_any}
 use Rattle.std.specs.Option.{option_map}
 use Rattle.std.specs.Str.{bytes_eq}
-use Rattle.mp_factor.specs.declared.typed_values.Typed.{Typed}
-use Rattle.mp_factor.specs.declared.signature_values.Signature.{Signature}
-use Rattle.mp_factor.specs.declared.factor.Factor.{Factor}
-use Rattle.mp_factor.specs.FactorParts.{DomainParts, ProblemParts}
+use Rattle.mp_forms.specs.declared.typed_values.Typed.{Typed}
+use Rattle.mp_forms.specs.declared.signature_values.Signature.{Signature}
+use Rattle.mp_forms.specs.declared.factor.Factor.{Factor}
+use Rattle.mp_forms.specs.FactorParts.{DomainParts, ProblemParts}
 
 -- the factor of two files
 abbrev pub factor_of : DomainParts → ProblemParts → Factor

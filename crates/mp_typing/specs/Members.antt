@@ -1,7 +1,7 @@
 -- The objects that are of a type (typing of PDDL 2.1).
 use Rattle.std.specs.Prelude.{◌≡◌, ℕ, Some, List, [], ◌∷◌, ◌↔◌, Contains, slice_get}
 use Rattle.std.specs.List.Sorted.{IsStrictlyIncreasing}
-use Rattle.mp_factor.specs.declared.typed_values.Typed.{Typed}
+use Rattle.mp_forms.specs.declared.typed_values.Typed.{Typed}
 use Rattle.mp_typing.specs.Names.{names_of}
 use Rattle.mp_typing.specs.IsA.{IsA, object_name}
 

@@ -2,7 +2,7 @@
 use Rattle.std.specs.Prelude.{◌≡◌, ℕ, Bool, List, map}
 use Rattle.std.specs.List.{list_any}
 use Rattle.std.specs.Str.{bytes_eq}
-use Rattle.mp_factor.specs.declared.word.Word.{Word}
+use Rattle.mp_forms.specs.declared.word.Word.{Word}
 
 -- the names of words
 abbrev pub names_of : List Word → List (List ℕ)

@@ -1,8 +1,8 @@
 -- The objects of a factor in object order.
 use Rattle.std.specs.Prelude.{ℕ, not, List, [], ◌∷◌, ◌++◌, filter}
 use Rattle.std.specs.Str.{bytes_eq}
-use Rattle.mp_factor.specs.declared.typed_values.Typed.{Typed}
-use Rattle.mp_factor.specs.FactorParts.{DomainParts, ProblemParts}
+use Rattle.mp_forms.specs.declared.typed_values.Typed.{Typed}
+use Rattle.mp_forms.specs.FactorParts.{DomainParts, ProblemParts}
 
 -- the declarations of other names
 abbrev pub others : List ℕ → List Typed → List Typed

@@ -5,10 +5,10 @@ use Rattle.std.specs.Cmp.Lexicographic.{pointwise}
 use Rattle.std.specs.Str.{bytes_eq}
 use Rattle.mp_list.specs.Repeats.{repeats}
 use Rattle.mp_sexp.specs.declared.tree.Place.{Place}
-use Rattle.mp_factor.specs.declared.files.File.{File}
-use Rattle.mp_factor.specs.declared.files.File.TheVariants.{Domain}
-use Rattle.mp_factor.specs.declared.word.Word.{Word}
-use Rattle.mp_factor.specs.declared.typed_values.Typed.{Typed}
+use Rattle.mp_forms.specs.declared.files.File.{File}
+use Rattle.mp_forms.specs.declared.files.File.TheVariants.{Domain}
+use Rattle.mp_forms.specs.declared.word.Word.{Word}
+use Rattle.mp_forms.specs.declared.typed_values.Typed.{Typed}
 use Rattle.mp_typing.specs.declared.fault.Fault.{Fault}
 use Rattle.mp_typing.specs.declared.fault.FaultKind.TheVariants.{Twice}
 use Rattle.mp_typing.specs.Faults.{fault_at}

@@ -3,16 +3,16 @@ use Rattle.std.specs.Prelude.{ℕ, ◌==◌, ◌&&◌, Bool, List, [], ◌∷◌
 use Rattle.std.specs.List.{list_any, flat_map}
 use Rattle.std.specs.Option.{is_none}
 use Rattle.std.specs.Str.{bytes_eq}
-use Rattle.mp_factor.specs.declared.files.File.{File}
-use Rattle.mp_factor.specs.declared.word.Word.{Word}
-use Rattle.mp_factor.specs.declared.typed_values.Typed.{Typed}
-use Rattle.mp_factor.specs.declared.atom_values.Term.{Term}
-use Rattle.mp_factor.specs.declared.atom_values.Term.TheVariants.{Variable, Object}
-use Rattle.mp_factor.specs.declared.atom_values.Atom.{Atom}
-use Rattle.mp_factor.specs.declared.literal.Literal.{Literal}
-use Rattle.mp_factor.specs.declared.factor.Factor.{Factor}
-use Rattle.mp_factor.specs.declared.effect_values.Increase.{Increase}
-use Rattle.mp_factor.specs.declared.effect_values.Increase.TheVariants.{Number, Function}
+use Rattle.mp_forms.specs.declared.files.File.{File}
+use Rattle.mp_forms.specs.declared.word.Word.{Word}
+use Rattle.mp_forms.specs.declared.typed_values.Typed.{Typed}
+use Rattle.mp_forms.specs.declared.atom_values.Term.{Term}
+use Rattle.mp_forms.specs.declared.atom_values.Term.TheVariants.{Variable, Object}
+use Rattle.mp_forms.specs.declared.atom_values.Atom.{Atom}
+use Rattle.mp_forms.specs.declared.literal.Literal.{Literal}
+use Rattle.mp_forms.specs.declared.factor.Factor.{Factor}
+use Rattle.mp_forms.specs.declared.effect_values.Increase.{Increase}
+use Rattle.mp_forms.specs.declared.effect_values.Increase.TheVariants.{Number, Function}
 use Rattle.mp_typing.specs.declared.fault.Fault.{Fault}
 use Rattle.mp_typing.specs.declared.fault.FaultKind.TheVariants.{Unknown, Arity}
 use Rattle.mp_typing.specs.Faults.{fault_at}

@@ -10,7 +10,7 @@ ghost use Rattle.mp_typing.specs.ObjectList.{object_list};
 
 use crate::hierarchy::{Hierarchy, TypeList};
 use crate::listed::ObjectList;
-use mp_factor::{Domain, Factor, Problem};
+use mp_forms::{Domain, Factor, Problem, TypedList};
 use mp_list::OutOfMemory;
 use mp_sexp::Name;
 use std::alloc::Global;
@@ -36,7 +36,7 @@ impl Drop for CheckedFactor {
 
 impl Model for CheckedFactor {
     ghost use Rattle.std.specs.Prelude.{◌≡◌, []};
-    ghost use Rattle.mp_factor.specs.declared.factor.Factor.{Factor};
+    ghost use Rattle.mp_forms.specs.declared.factor.Factor.{Factor};
     ghost use Rattle.mp_typing.specs.CheckFaults.{check_faults};
     ghost use Rattle.mp_typing.specs.Hierarchy.{IsHierarchy};
     ghost use Rattle.mp_typing.specs.ObjectList.{object_list};
@@ -46,8 +46,14 @@ impl Model for CheckedFactor {
     ghost view = { λ c. c.factor };
 
     ghost invariant = { λ c. (check_faults c.factor.domain c.factor.problem ≡ [])
-        × IsHierarchy c.factor.domain.types (object_list c.factor.domain c.factor.problem)
-        c.hierarchy.graph.names c.hierarchy.graph.lower.items c.hierarchy.object c.hierarchy.count c.hierarchy.listed.items };
+        × IsHierarchy c.factor.domain.types (object_list c.factor.domain c.factor.problem) c.hierarchy };
+}
+
+/// The types that a factor declares.
+fn types_of(factor: &Factor) -> &TypedList
+    ensures { result.now ≡ factor.now.domain.types }
+{
+    &factor.domain.types
 }
 
 impl CheckedFactor {
@@ -59,8 +65,7 @@ impl CheckedFactor {
         hierarchy: Hierarchy,
     ) -> CheckedFactor
         requires no_fault { check_faults domain problem ≡ [] }
-        requires hierarchy { IsHierarchy domain.types (object_list domain problem)
-            hierarchy.graph.names hierarchy.graph.lower.items hierarchy.object hierarchy.count hierarchy.listed.items }
+        requires hierarchy { IsHierarchy domain.types (object_list domain problem) hierarchy }
         ensures { result ≡ record { domain = domain; problem = problem } }
     {
         CheckedFactor {
@@ -80,24 +85,26 @@ impl CheckedFactor {
 
     /// Whether a type is another or lies under it: every type is an `object`. Refuses only for want of memory.
     ///
-    /// The declarations were worked out by `check`. A call clears one mark for each type, and looks once at each type
-    /// that is the asked one or lies under it, and at each declaration of one of these types.
+    /// The declarations were worked out by `check`. A call counts through them, and looks once at each type that is the
+    /// asked one or lies under it.
     pub fn is_a(&self, sub: &Name, sup: &Name) -> Result<bool, OutOfMemory>
         ensures { IfOk result (λ answer. Decides answer (IsA self.now.domain.types sub.now sup.now)) }
     {
-        self.hierarchy.is_a(self.alloc, sub, sup)
+        self.hierarchy
+            .is_a(self.alloc, types_of(&self.factor), sub, sup)
     }
 
     /// The numbers of the objects that are of one of the asked types, in rising order; `object` is meant where no type
     /// is asked. An object's number is its place in object order, counted from 0: constants first, then objects, each
     /// in file order, and one that is listed again counts once. Refuses only for want of memory.
     ///
-    /// The declarations and the objects of each type were worked out by `check`. A call clears one mark for each type, and
-    /// looks once at each type that is asked for or lies under an asked one, and at each declaration of one of these
-    /// types; it merges the objects that are listed under these types.
+    /// The declarations and the objects of each type were worked out by `check`. A call counts through the declarations,
+    /// looks once at each type that is asked for or lies under an asked one, and merges the objects that are written with
+    /// these types.
     pub fn members(&self, asked: &TypeList) -> Result<ObjectList, OutOfMemory>
         ensures { IfOk result (λ numbers. Members self.now.domain.types (object_list self.now.domain self.now.problem) asked.now numbers) }
     {
-        self.hierarchy.members(self.alloc, asked)
+        self.hierarchy
+            .members(self.alloc, types_of(&self.factor), asked)
     }
 }

@@ -1,6 +1,6 @@
 //! Checks of a factor: its domain's name, names that are not declared, numbers of terms, and names declared twice.
 
-ghost use Rattle.std.specs.Prelude.{◌≡◌, ◌++◌, [], None, Some, IfOk, IfErr, MatchResult};
+ghost use Rattle.std.specs.Prelude.{◌≡◌, [], None, Some, IfOk, IfErr, MatchResult};
 ghost use Rattle.std.specs.List.{flat_map};
 ghost use Rattle.mp_typing.specs.Faults.{leftmost};
 ghost use Rattle.mp_typing.specs.Hierarchy.{IsHierarchy};
@@ -12,13 +12,14 @@ ghost use Rattle.mp_typing.specs.Refused.{RestsOn, refusal_of};
 
 use crate::checked::CheckedFactor;
 use crate::declared::Declared;
+use crate::each::{Check, each_fault};
 use crate::fault::{Fault, FaultKind, with};
 use crate::hierarchy::Hierarchy;
 use crate::parameters::parameters_fault;
 use crate::refusal::CheckRefusal;
-use crate::repeats::{objects_fault, repeated_fault};
-use crate::uses::{atoms_fault, function_fault, increases_fault, literals_fault};
-use mp_factor::{Domain, File, Problem, Schema, Value, Word};
+use crate::repeats::{Unlike, objects_fault, repeated_fault};
+use crate::uses::{Scope, atoms_fault, increases_fault, literals_fault};
+use mp_forms::{Domain, File, Problem, Schema, Value, Word};
 use mp_list::OutOfMemory;
 use std::alloc::Global;
 
@@ -38,22 +39,29 @@ fn owner_fault(
     }
 }
 
-/// The first fault, with those of an action. Refuses only for want of memory.
-#[tactic(auto, using(crate::proofs::FirstLemmas::leftmost_append), unfolding(crate::specs::CheckFaults::schema_faults))]
-fn schema_fault(
-    least: Option<Fault>,
-    declared: &Declared,
-    schema: &Schema,
-) -> Result<Option<Fault>, OutOfMemory>
-    ensures { IfOk result (λ first. first ≡ leftmost least (faults_of_schema declared.now schema.now)) }
-{
-    let file = File::Domain;
-    let params = schema.params.as_slice();
-    let listed = parameters_fault(least, params)?;
-    let pre = literals_fault(listed, file, params, declared, schema.pre.as_slice())?;
-    let add = atoms_fault(pre, file, params, declared, schema.add.as_slice())?;
-    let del = atoms_fault(add, file, params, declared, schema.del.as_slice())?;
-    increases_fault(del, file, params, declared, schema.increases.as_slice())
+/// The actions of a domain, under what is declared.
+#[derive(Clone, Copy)]
+struct Actions<'s, 'd> {
+    declared: &'s Declared<'d>,
+}
+
+#[tactic(auto, using(mp_list::proofs::FirstLemmas::leftmost_append), unfolding(crate::specs::CheckFaults::schema_faults))]
+impl<'s, 'd> Check<Schema> for Actions<'s, 'd> {
+    ghost faults = { λ actions schema. faults_of_schema actions.declared.now schema };
+
+    fn fault(&self, least: Option<Fault>, schema: &Schema) -> Result<Option<Fault>, OutOfMemory> {
+        let params = schema.params.as_slice();
+        let scope = Scope {
+            file: File::Domain,
+            params,
+            declared: self.declared,
+        };
+        let listed = parameters_fault(least, params)?;
+        let pre = literals_fault(listed, &scope, schema.pre.as_slice())?;
+        let add = atoms_fault(pre, &scope, schema.add.as_slice())?;
+        let del = atoms_fault(add, &scope, schema.del.as_slice())?;
+        increases_fault(del, &scope, schema.increases.as_slice())
+    }
 }
 
 /// The first fault, with those of actions. Refuses only for want of memory.
@@ -64,15 +72,11 @@ fn schemas_fault(
 ) -> Result<Option<Fault>, OutOfMemory>
     ensures { IfOk result (λ first. first ≡ leftmost least (flat_map (faults_of_schema declared.now) schemas.now)) }
 {
-    let mut first = least;
-    for schema in schemas {
-        first = schema_fault(first, declared, schema)?;
-    }
-    Ok(first)
+    each_fault(least, &Actions { declared }, schemas)
 }
 
 /// The first fault, with those of the names that a domain declares. Refuses only for want of memory.
-#[tactic(auto, using(crate::proofs::FirstLemmas::leftmost_append), unfolding(crate::specs::CheckFaults::declared_faults))]
+#[tactic(auto, using(mp_list::proofs::FirstLemmas::leftmost_append), unfolding(crate::specs::CheckFaults::declared_faults))]
 fn declared_fault(
     alloc: Global,
     least: Option<Fault>,
@@ -82,22 +86,11 @@ fn declared_fault(
     ensures { IfOk result (λ first. first ≡ leftmost least (faults_of_declared (objects_of declared.now) domain.now)) }
 {
     let file = File::Domain;
-    let objects = objects_fault(least, file, declared, domain.constants.as_slice())?;
+    let unlike = Unlike { file, declared };
+    let objects = objects_fault(least, &unlike, domain.constants.as_slice())?;
     let predicates = repeated_fault(alloc, objects, file, domain.predicates.as_slice())?;
     let functions = repeated_fault(alloc, predicates, file, domain.functions.as_slice())?;
     repeated_fault(alloc, functions, file, domain.schemas.as_slice())
-}
-
-/// The first fault, with those of a value at the start. Refuses only for want of memory.
-#[tactic(auto, unfolding(crate::specs::CheckFaults::value_faults))]
-fn value_fault(
-    least: Option<Fault>,
-    declared: &Declared,
-    value: &Value,
-) -> Result<Option<Fault>, OutOfMemory>
-    ensures { IfOk result (λ first. first ≡ leftmost least (faults_of_value declared.now value.now)) }
-{
-    function_fault(least, File::Problem, &[], declared, &value.of)
 }
 
 /// The first fault, with those of values at the start. Refuses only for want of memory.
@@ -108,11 +101,12 @@ fn values_fault(
 ) -> Result<Option<Fault>, OutOfMemory>
     ensures { IfOk result (λ first. first ≡ leftmost least (flat_map (faults_of_value declared.now) values.now)) }
 {
-    let mut first = least;
-    for value in values {
-        first = value_fault(first, declared, value)?;
-    }
-    Ok(first)
+    let scope = Scope {
+        file: File::Problem,
+        params: &[],
+        declared,
+    };
+    each_fault(least, &scope, values)
 }
 
 /// The first fault, with those of a problem's objects. Where each object has a name of its own, as in nearly every
@@ -129,11 +123,15 @@ fn problem_objects_fault(
     if declared.is_distinct() {
         return Ok(least);
     }
-    objects_fault(least, File::Problem, declared, problem.objects.as_slice())
+    let unlike = Unlike {
+        file: File::Problem,
+        declared,
+    };
+    objects_fault(least, &unlike, problem.objects.as_slice())
 }
 
 /// The first fault, with those of a problem. Refuses only for want of memory.
-#[tactic(auto, using(crate::proofs::FirstLemmas::leftmost_append), unfolding(crate::specs::CheckFaults::problem_faults))]
+#[tactic(auto, using(mp_list::proofs::FirstLemmas::leftmost_append), unfolding(crate::specs::CheckFaults::problem_faults))]
 fn problem_fault(
     least: Option<Fault>,
     declared: &Declared,
@@ -142,15 +140,19 @@ fn problem_fault(
     requires { declared.now.problem ≡ problem.now }
     ensures { IfOk result (λ first. first ≡ leftmost least (faults_of_problem declared.now)) }
 {
-    let file = File::Problem;
+    let scope = Scope {
+        file: File::Problem,
+        params: &[],
+        declared,
+    };
     let objects = problem_objects_fault(least, declared, problem)?;
-    let init = atoms_fault(objects, file, &[], declared, problem.init.as_slice())?;
+    let init = atoms_fault(objects, &scope, problem.init.as_slice())?;
     let values = values_fault(init, declared, problem.values.as_slice())?;
-    literals_fault(values, file, &[], declared, problem.goals.as_slice())
+    literals_fault(values, &scope, problem.goals.as_slice())
 }
 
 /// The first fault of a factor. Refuses only for want of memory.
-#[tactic(auto, using(crate::proofs::FirstLemmas::leftmost_append), unfolding(crate::specs::CheckFaults::check_faults))]
+#[tactic(auto, using(mp_list::proofs::FirstLemmas::leftmost_append), unfolding(crate::specs::CheckFaults::check_faults))]
 fn first_fault(
     alloc: Global,
     declared: &Declared,
@@ -173,8 +175,7 @@ fn hierarchy_of(
     domain: &Domain,
 ) -> Result<Hierarchy, OutOfMemory>
     requires { declared.domain ≡ domain.now }
-    ensures { IfOk result (λ h. IsHierarchy domain.now.types (object_list declared.entry.domain declared.entry.problem)
-        h.graph.names h.graph.lower.items h.object h.count h.listed.items) }
+    ensures { IfOk result (λ h. IsHierarchy domain.now.types (object_list declared.entry.domain declared.entry.problem) h) }
 {
     let objects = declared.into_listed();
     Hierarchy::new(alloc, &domain.types, &objects)
@@ -187,8 +188,7 @@ fn hierarchy_or_fault(
     problem: &Problem,
 ) -> Result<Result<Hierarchy, Fault>, OutOfMemory>
     ensures { IfOk result (λ found. MatchResult found
-        (λ h. (None ≡ leftmost None (check_faults domain.now problem.now)) × IsHierarchy domain.now.types (object_list domain.now problem.now)
-        h.graph.names h.graph.lower.items h.object h.count h.listed.items)
+        (λ h. (None ≡ leftmost None (check_faults domain.now problem.now)) × IsHierarchy domain.now.types (object_list domain.now problem.now) h)
         (λ fault. Some fault ≡ leftmost None (check_faults domain.now problem.now))) }
 {
     let declared = Declared::new(alloc, domain, problem)?;

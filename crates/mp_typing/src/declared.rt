@@ -3,14 +3,14 @@
 ghost use Rattle.std.specs.Prelude.{◌≡◌, ◌==◌, ◌+◌, ◌<◌, ◌^◌, ◌++◌, ◌∷◌, [], List, map, length, slice_get, find as find_in, IfOk, OnOk};
 ghost use Rattle.std.specs.Option.{option_copied};
 ghost use Rattle.std.specs.Str.{bytes_eq};
-ghost use Rattle.mp_factor.specs.declared.typed_values.Typed.{Typed as TypedValue};
+ghost use Rattle.mp_forms.specs.declared.typed_values.Typed.{Typed as TypedValue};
 ghost use Rattle.mp_typing.specs.Indexed.{HasArities, HasPlaces};
 ghost use Rattle.mp_typing.specs.Listing.{AreFound};
 ghost use Rattle.mp_typing.specs.Lookups.{arity_of, factor_of, is_object, objects_of};
-ghost use Rattle.mp_typing.specs.ObjectList.{first_declared, object_list};
+ghost use Rattle.mp_typing.specs.ObjectList.{object_list};
 
 use crate::index::Index;
-use mp_factor::{Domain, Problem, Signature, Typed};
+use mp_forms::{Domain, Problem, Signature, Typed};
 use mp_list::OutOfMemory;
 use mp_sexp::Name;
 use std::alloc::Global;
@@ -33,7 +33,7 @@ pub struct Declared<'a> {
 
 impl<'a> Model for Declared<'a> {
     ghost use Rattle.std.specs.Prelude.{◌≡◌, map};
-    ghost use Rattle.mp_factor.specs.declared.factor.Factor.{Factor};
+    ghost use Rattle.mp_forms.specs.declared.factor.Factor.{Factor};
     ghost use Rattle.mp_typing.specs.Indexed.{HasArities, HasPlaces};
     ghost use Rattle.mp_typing.specs.Lookups.{factor_of, objects_of};
     ghost use Rattle.mp_typing.specs.ObjectList.{object_list};

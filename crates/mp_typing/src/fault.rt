@@ -4,7 +4,7 @@ ghost use Rattle.std.specs.Prelude.{◌≡◌, ◌∷◌, [], IfOk};
 ghost use Rattle.mp_typing.specs.Faults.{is_earlier, leftmost, fault_at, order_by, file_rank_of, stage_of, rank_of};
 
 use crate::refusal::Found;
-use mp_factor::{File, Word};
+use mp_forms::{File, Word};
 use mp_list::{Copied, OutOfMemory};
 use mp_sexp::Place;
 

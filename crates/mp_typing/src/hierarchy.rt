@@ -1,98 +1,86 @@
 //! The order of a factor's types and the types of its objects, worked out once.
 
-ghost use Rattle.std.specs.Prelude.{◌≡◌, ◌==◌, ◌||◌, [], ℕ, List as ListOf, Some, map, length, IfOk, OnOk};
+ghost use Rattle.std.specs.Prelude.{◌≡◌, ◌==◌, ◌||◌, List as ListOf, length, map, IfOk};
 ghost use Rattle.std.specs.Bool.{Decides};
-ghost use Rattle.mp_factor.specs.declared.typed_values.Typed.{Typed as Declaration};
-ghost use Rattle.mp_typing.specs.Graph.{IsBounded, IsGraph, numbers_of};
-ghost use Rattle.mp_typing.specs.Hierarchy.{IsHierarchy, IsOrder};
-ghost use Rattle.mp_typing.specs.Indexed.{number_of};
+ghost use Rattle.mp_forms.specs.declared.typed_values.Typed.{Typed as Declaration};
+ghost use Rattle.mp_typing.specs.Hierarchy.{HasLower, HasObjects, IsHierarchy};
 ghost use Rattle.mp_typing.specs.IsA.{IsA, object_name};
 ghost use Rattle.mp_typing.specs.Members.{Members};
-ghost use Rattle.mp_typing.specs.Numbering.{KeepsNumbers};
-ghost use Rattle.mp_typing.specs.Reach.{is_marked as mark_of, has_mark as mark_by};
+ghost use Rattle.mp_typing.specs.Names.{is_among, names_of as names_in};
 
-use crate::graph::TypeGraph;
-use crate::listed::{ObjectList, all_below, is_marked, listed_by, listed_under};
-use crate::reach::reached;
-use mp_factor::{Typed, TypedList};
+use crate::by_type::{ByType, add_to_each};
+use crate::listed::{ObjectList, all_below, listed_under};
+use crate::lower::{has_object, has_type, lower_types};
+use indexmap::IndexSet;
+use mp_forms::{Typed, TypedList, WordList};
 use mp_list::{Copied, List, OutOfMemory};
 use mp_sexp::Name;
 use std::alloc::Global;
+use std::collections::HashMap;
 
 /// Names of types.
 pub type TypeList = List<Name>;
 
-/// The declared types as a graph, and the objects of each type in it.
+/// The names of the types that are written behind an item. Refuses only for want of memory.
+pub fn names_of(alloc: Global, words: &WordList) -> Result<TypeList, OutOfMemory>
+    ensures { IfOk result (λ names. names ≡ names_in words.now) }
+{
+    let mut names = List::with_capacity(alloc, words.len())?;
+    for word in words.as_slice() {
+        names.push(word.name.copy()?)?;
+    }
+    Ok(names)
+}
+
+/// The order of the declared types, and the objects of each.
 pub struct Hierarchy {
-    pub graph: TypeGraph,
-    /// The number of `object`.
-    pub object: usize,
+    /// For each type those that are declared directly under it.
+    pub lower: ByType<Name>,
     /// How many objects there are.
     pub count: usize,
-    /// For each type by number the objects that have it as their types are written.
-    pub listed: Vec<ObjectList>,
+    /// For each type the places of the objects that are written with it.
+    pub listed: ByType<u64>,
 }
 
 impl Drop for Hierarchy {
     fn drop(self) {
         let Hierarchy {
-            graph: _,
-            object: _,
+            lower: _,
             count: _,
             listed: _,
         } = self;
     }
 }
 
-/// The name of the type under which every type lies. Refuses only for want of memory.
-#[tactic(auto, unfolding(crate::specs::IsA::object_name))]
-fn object_type(alloc: Global) -> Result<Name, OutOfMemory>
-    ensures { IfOk result (λ name. name ≡ object_name) }
+/// For each type those that are declared directly under it.
+fn lower_of(alloc: Global, types: &TypedList) -> Result<ByType<Name>, OutOfMemory>
+    ensures { IfOk result (λ lower. HasLower types.now lower.entries) }
 {
-    Name::folded(alloc, b"object")
+    let mut lower = HashMap::new(alloc);
+    for declared in types.as_slice() {
+        add_to_each(alloc, &mut lower, &declared.types, &declared.word.name)?;
+    }
+    Ok(lower)
 }
 
-/// The types of objects by number. Refuses only for want of memory.
-fn kinds_of(
-    alloc: Global,
-    graph: &mut TypeGraph,
-    objects: &[&Typed],
-) -> Result<List<List<usize>>, OutOfMemory>
-    ensures kinds { IfOk result (λ kinds. map (λ o. numbers_of graph.new.names o.now.types) objects.now ≡ map (map Some) kinds) }
-    ensures kept { OnOk result (KeepsNumbers graph.old.names graph.new.names) }
-    ensures graph { OnOk result ((pairs : ListOf (ListOf ℕ × ListOf ℕ)) → IsGraph pairs graph.old.names graph.old.lower.items
-        → IsGraph pairs graph.new.names graph.new.lower.items) }
+/// For each type the places of the objects that are written with it.
+fn objects_of(alloc: Global, objects: &[&Typed]) -> Result<ByType<u64>, OutOfMemory>
+    ensures { IfOk result (λ listed. HasObjects (map (λ o. o.now) objects.now) listed.entries) }
 {
-    let mut kinds = List::with_capacity(alloc, objects.len())?;
+    let mut listed = HashMap::new(alloc);
+    let mut place = 0;
     for object in objects {
-        let numbers = graph.numbers(alloc, &object.types)?;
-        kinds.push(numbers)?;
+        add_to_each(alloc, &mut listed, &object.types, &place)?;
+        place += 1;
     }
-    Ok(kinds)
+    Ok(listed)
 }
 
-/// Whether there is a number and it is marked.
-fn has_mark(marks: &[bool], number: Option<usize>) -> bool
-    ensures { result ≡ mark_by marks.now number }
+/// Whether each object is of one of the asked types, from which these are found: none is asked, or `object` is found.
+fn is_all(alloc: Global, found: &IndexSet<Name>, asked: &TypeList) -> Result<bool, OutOfMemory>
+    ensures { IfOk result (λ all. all ≡ (length asked.now == 0 || is_among found.now.keys object_name)) }
 {
-    match number {
-        Some(number) => is_marked(marks, number),
-        None => false,
-    }
-}
-
-/// Whether a type is reached: its number is marked, or that of `object` is.
-fn is_lower(marks: &[bool], number: Option<usize>, object: usize) -> bool
-    ensures { result ≡ (mark_by marks.now number || mark_of marks.now object) }
-{
-    has_mark(marks, number) || is_marked(marks, object)
-}
-
-/// Whether each object is of one of the asked types: none is asked, or `object` is marked.
-fn is_all(marks: &[bool], asked: &TypeList, object: usize) -> bool
-    ensures { result ≡ (length asked.now == 0 || mark_of marks.now object) }
-{
-    asked.len() == 0 || is_marked(marks, object)
+    Ok(asked.len() == 0 || has_object(alloc, found)?)
 }
 
 impl Hierarchy {
@@ -102,48 +90,50 @@ impl Hierarchy {
         types: &TypedList,
         objects: &[&Typed],
     ) -> Result<Hierarchy, OutOfMemory>
-        ensures { IfOk result (λ h. IsHierarchy types.now (map (λ o. o.now) objects.now) h.graph.names h.graph.lower.items h.object h.count h.listed.items) }
+        ensures { IfOk result (λ h. IsHierarchy types.now (map (λ o. o.now) objects.now) h) }
     {
-        let mut graph = TypeGraph::new(alloc);
-        graph.add_types(alloc, types)?;
-        let name = object_type(alloc)?;
-        let object = graph.number(alloc, &name)?;
-        let kinds = kinds_of(alloc, &mut graph, objects)?;
-        let listed = listed_by(alloc, kinds.as_slice(), graph.lower.len())?;
         Ok(Hierarchy {
-            graph,
-            object,
-            count: kinds.len(),
-            listed,
+            lower: lower_of(alloc, types)?,
+            count: objects.len(),
+            listed: objects_of(alloc, objects)?,
         })
     }
 
-    /// Whether one type is another or lies under it. Refuses only for want of memory.
-    pub fn is_a(&self, alloc: Global, sub: &Name, sup: &Name) -> Result<bool, OutOfMemory>
-        requires { IsBounded self.now.graph.names self.now.graph.lower.items }
-        ensures { IfOk result (λ answer. (declared : ListOf Declaration) → IsOrder declared self.now.graph.names self.now.graph.lower.items self.now.object
-            → Decides answer (IsA declared sub.now sup.now)) }
+    /// Whether one type is another or lies under it, by the declarations of these types. Refuses only for want of
+    /// memory.
+    pub fn is_a(
+        &self,
+        alloc: Global,
+        types: &TypedList,
+        sub: &Name,
+        sup: &Name,
+    ) -> Result<bool, OutOfMemory>
+        requires { HasLower types.now self.now.lower.entries }
+        ensures { IfOk result (λ answer. Decides answer (IsA types.now sub.now sup.now)) }
     {
-        if sub.is(sup.as_slice()) {
-            return Ok(true);
-        }
         let mut asked = List::new(alloc);
         asked.push(sup.copy()?)?;
-        let marks = reached(alloc, &self.graph, &asked)?;
-        Ok(is_lower(&marks, self.graph.names.find(sub), self.object))
+        let found = lower_types(alloc, &self.lower, types, &asked)?;
+        has_type(alloc, &found, sub)
     }
 
-    /// The numbers of the objects that are of one of the asked types. Refuses only for want of memory.
-    pub fn members(&self, alloc: Global, asked: &TypeList) -> Result<ObjectList, OutOfMemory>
-        requires { IsBounded self.now.graph.names self.now.graph.lower.items }
-        ensures { IfOk result (λ numbers. (declared objects : ListOf Declaration)
-            → IsHierarchy declared objects self.now.graph.names self.now.graph.lower.items self.now.object self.now.count self.now.listed.items
-            → Members declared objects asked.now numbers) }
+    /// The numbers of the objects that are of one of the asked types, by the declarations of these types. Refuses only
+    /// for want of memory.
+    pub fn members(
+        &self,
+        alloc: Global,
+        types: &TypedList,
+        asked: &TypeList,
+    ) -> Result<ObjectList, OutOfMemory>
+        requires { HasLower types.now self.now.lower.entries }
+        ensures { IfOk result (λ numbers. (objects : ListOf Declaration)
+            → IsHierarchy types.now objects self.now → Members types.now objects asked.now numbers) }
     {
-        let marks = reached(alloc, &self.graph, asked)?;
-        if is_all(&marks, asked, self.object) {
+        let found = lower_types(alloc, &self.lower, types, asked)?;
+        let all = is_all(alloc, &found, asked)?;
+        if all {
             return all_below(alloc, self.count as u64);
         }
-        listed_under(alloc, self.listed.as_slice(), &marks)
+        listed_under(alloc, &self.listed, &found)
     }
 }

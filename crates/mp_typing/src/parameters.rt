@@ -2,13 +2,13 @@
 
 ghost use Rattle.std.specs.Prelude.{◌≡◌, ◌&&◌, [], not, IfOk};
 ghost use Rattle.std.specs.List.{list_any};
-ghost use Rattle.mp_factor.specs.declared.files.File.TheVariants.{Domain as DomainFile};
+ghost use Rattle.mp_forms.specs.declared.files.File.TheVariants.{Domain as DomainFile};
 ghost use Rattle.mp_typing.specs.Faults.{leftmost};
 ghost use Rattle.mp_typing.specs.Repeats.{is_before, is_same, is_second as second, parameter_faults, twice_if};
 
 use crate::fault::{Fault, FaultKind, with};
 use crate::repeats::is_same_name;
-use mp_factor::{File, Typed};
+use mp_forms::{File, Typed};
 use mp_list::OutOfMemory;
 use mp_sexp::Place;
 

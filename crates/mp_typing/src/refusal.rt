@@ -3,7 +3,7 @@
 ghost use Rattle.std.specs.Prelude.{◌≡◌};
 ghost use Rattle.mp_typing.specs.declared.refusal.CheckRefusal.TheVariants.{OutOfMemory as MemoryRefusal};
 
-use mp_factor::File;
+use mp_forms::File;
 use mp_list::OutOfMemory;
 use mp_sexp::{Name, Place};
 use std::alloc::{AllocError, AllocFailed};

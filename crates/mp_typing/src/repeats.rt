@@ -3,16 +3,17 @@
 ghost use Rattle.std.specs.Prelude.{◌≡◌, IfOk};
 ghost use Rattle.std.specs.List.{flat_map};
 ghost use Rattle.std.specs.Cmp.Lexicographic.{pointwise};
-ghost use Rattle.mp_factor.specs.declared.word.Word.{Word};
+ghost use Rattle.mp_forms.specs.declared.word.Word.{Word};
 ghost use Rattle.mp_typing.specs.Faults.{leftmost};
 ghost use Rattle.std.specs.Option.{option_copied};
 ghost use Rattle.mp_typing.specs.Lookups.{objects_of};
 ghost use Rattle.mp_typing.specs.Repeats.{is_same as same_word, is_alike, repeated_faults as faults_of_repeats, object_faults as faults_of_object, unlike_faults, twice_if};
 
 use crate::declared::Declared;
+use crate::each::{Check, each_fault};
 use crate::fault::{Fault, FaultKind, with};
 use crate::names::NameSet;
-use mp_factor::{File, Schema, Signature, Typed, Word};
+use mp_forms::{File, Schema, Signature, Typed, Word};
 use mp_list::OutOfMemory;
 use std::alloc::Global;
 
@@ -135,33 +136,32 @@ fn unlike_fault(
     }
 }
 
-/// The first fault, with that of an object that is unlike the first one of its name. Refuses only for want of memory.
+/// Objects of a file that are unlike the first of all objects of their name.
+#[derive(Clone, Copy)]
+pub struct Unlike<'s, 'd> {
+    pub file: File,
+    pub declared: &'s Declared<'d>,
+}
+
 #[tactic(auto, unfolding(crate::specs::Repeats::object_faults))]
-fn object_fault(
-    least: Option<Fault>,
-    file: File,
-    declared: &Declared,
-    object: &Typed,
-) -> Result<Option<Fault>, OutOfMemory>
-    ensures { IfOk result (λ first. first ≡ leftmost least (faults_of_object file (objects_of declared.now) object.now)) }
-{
-    let first = declared.object(&object.word.name);
-    unlike_fault(least, file, first, object)
+impl<'s, 'd> Check<Typed> for Unlike<'s, 'd> {
+    ghost faults = { λ unlike object. faults_of_object unlike.file (objects_of unlike.declared.now) object };
+
+    fn fault(&self, least: Option<Fault>, object: &Typed) -> Result<Option<Fault>, OutOfMemory> {
+        let first = self.declared.object(&object.word.name);
+        unlike_fault(least, self.file, first, object)
+    }
 }
 
 /// The first fault, with those of the constants, or of the objects, that are unlike the first of all objects of their
 /// name. Refuses only for want of memory.
 pub fn objects_fault(
     least: Option<Fault>,
-    file: File,
-    declared: &Declared,
+    unlike: &Unlike<'_, '_>,
     listed: &[Typed],
 ) -> Result<Option<Fault>, OutOfMemory>
-    ensures { IfOk result (λ first. first ≡ leftmost least (flat_map (faults_of_object file (objects_of declared.now)) listed.now)) }
+    ensures { IfOk result (λ first. first
+        ≡ leftmost least (flat_map (faults_of_object unlike.now.file (objects_of unlike.now.declared.now)) listed.now)) }
 {
-    let mut first = least;
-    for object in listed {
-        first = object_fault(first, file, declared, object)?;
-    }
-    Ok(first)
+    each_fault(least, unlike, listed)
 }

@@ -1,6 +1,6 @@
 //! Names that are used: each is to be declared, and applied to as many terms as declared.
 
-ghost use Rattle.std.specs.Prelude.{◌≡◌, IfOk, length, codes};
+ghost use Rattle.std.specs.Prelude.{◌≡◌, IfOk, codes};
 ghost use Rattle.std.specs.List.{flat_map, list_any};
 ghost use Rattle.std.specs.Str.{bytes_eq};
 ghost use Rattle.mp_typing.specs.Faults.{leftmost};
@@ -8,10 +8,19 @@ ghost use Rattle.mp_typing.specs.Lookups.{arity_of};
 ghost use Rattle.mp_typing.specs.Uses.{is_declared, term_faults as faults_of_term, applied_faults as faults_applied, called_faults as faults_called, atom_faults as faults_of_atom, literal_faults as faults_of_literal, function_faults as faults_of_function, increase_faults as faults_of_increase};
 
 use crate::declared::Declared;
+use crate::each::{Check, each_fault};
 use crate::fault::{Fault, FaultKind, with};
-use mp_factor::{Atom, File, Increase, Literal, Term, Typed, Word};
+use mp_forms::{Atom, File, Increase, Literal, Term, Typed, Value, Word};
 use mp_list::OutOfMemory;
 use mp_sexp::Name;
+
+/// Where names are used: in a file, with the parameters that variables may be, under what is declared.
+#[derive(Clone, Copy)]
+pub struct Scope<'s, 'd> {
+    pub file: File,
+    pub params: &'s [Typed],
+    pub declared: &'s Declared<'d>,
+}
 
 /// Whether one of these parameters has this name.
 fn is_parameter(params: &[Typed], name: &Name) -> bool
@@ -33,41 +42,19 @@ fn is_known(params: &[Typed], declared: &Declared, term: &Term) -> bool
     }
 }
 
-/// The first fault, with that of a term. Refuses only for want of memory.
 #[tactic(auto, unfolding(crate::specs::Uses::term_faults))]
-fn term_fault(
-    least: Option<Fault>,
-    file: File,
-    params: &[Typed],
-    declared: &Declared,
-    term: &Term,
-) -> Result<Option<Fault>, OutOfMemory>
-    ensures { IfOk result (λ first. first ≡ leftmost least (faults_of_term file params.now declared.now term.now)) }
-{
-    if is_known(params, declared, term) {
-        return Ok(least);
-    }
-    match term {
-        Term::Variable(word) => with(least, FaultKind::Unknown, file, word),
-        Term::Object(word) => with(least, FaultKind::Unknown, file, word),
-    }
-}
+impl<'s, 'd> Check<Term> for Scope<'s, 'd> {
+    ghost faults = { λ scope term. faults_of_term scope.file scope.params.now scope.declared.now term };
 
-/// The first fault, with those of terms. Refuses only for want of memory.
-fn terms_fault(
-    least: Option<Fault>,
-    file: File,
-    params: &[Typed],
-    declared: &Declared,
-    terms: &[Term],
-) -> Result<Option<Fault>, OutOfMemory>
-    ensures { IfOk result (λ first. first ≡ leftmost least (flat_map (faults_of_term file params.now declared.now) terms.now)) }
-{
-    let mut first = least;
-    for term in terms {
-        first = term_fault(first, file, params, declared, term)?;
+    fn fault(&self, least: Option<Fault>, term: &Term) -> Result<Option<Fault>, OutOfMemory> {
+        if is_known(self.params, self.declared, term) {
+            return Ok(least);
+        }
+        match term {
+            Term::Variable(word) => with(least, FaultKind::Unknown, self.file, word),
+            Term::Object(word) => with(least, FaultKind::Unknown, self.file, word),
+        }
     }
-    Ok(first)
 }
 
 /// The first fault, with that of a word that is applied to `count` terms and was declared with this number of them,
@@ -96,55 +83,48 @@ fn applied_fault(
 
 /// The first fault, with those of an atom, whose predicate was declared with this number of parameters, or not at all.
 /// Refuses only for want of memory.
-#[tactic(auto, using(crate::proofs::FirstLemmas::leftmost_append), unfolding(crate::specs::Uses::atom_faults))]
+#[tactic(auto, using(mp_list::proofs::FirstLemmas::leftmost_append), unfolding(crate::specs::Uses::atom_faults))]
 fn numbered_fault(
     least: Option<Fault>,
-    file: File,
-    params: &[Typed],
-    declared: &Declared,
+    scope: &Scope<'_, '_>,
     number: Option<usize>,
     atom: &Atom,
 ) -> Result<Option<Fault>, OutOfMemory>
-    requires { number ≡ arity_of declared.now.domain.predicates atom.now.word.name }
-    ensures { IfOk result (λ first. first ≡ leftmost least (faults_of_atom file params.now declared.now atom.now)) }
+    requires { number ≡ arity_of scope.now.declared.now.domain.predicates atom.now.word.name }
+    ensures { IfOk result (λ first. first ≡ leftmost least (faults_of_atom scope.now.file scope.now.params.now scope.now.declared.now atom.now)) }
 {
-    let applied = applied_fault(least, file, &atom.word, atom.terms.len(), number)?;
-    terms_fault(applied, file, params, declared, atom.terms.as_slice())
+    let applied = applied_fault(least, scope.file, &atom.word, atom.terms.len(), number)?;
+    each_fault(applied, scope, atom.terms.as_slice())
 }
 
-/// The first fault, with those of an atom. Refuses only for want of memory.
-fn atom_fault(
-    least: Option<Fault>,
-    file: File,
-    params: &[Typed],
-    declared: &Declared,
-    atom: &Atom,
-) -> Result<Option<Fault>, OutOfMemory>
-    ensures { IfOk result (λ first. first ≡ leftmost least (faults_of_atom file params.now declared.now atom.now)) }
-{
-    let number = declared.predicate(&atom.word.name);
-    numbered_fault(least, file, params, declared, number, atom)
+impl<'s, 'd> Check<Atom> for Scope<'s, 'd> {
+    ghost faults = { λ scope atom. faults_of_atom scope.file scope.params.now scope.declared.now atom };
+
+    fn fault(&self, least: Option<Fault>, atom: &Atom) -> Result<Option<Fault>, OutOfMemory> {
+        let number = self.declared.predicate(&atom.word.name);
+        numbered_fault(least, self, number, atom)
+    }
 }
 
 /// The first fault, with those of atoms. The predicate of the atom that is given first is looked up, and after it each
 /// that differs from the one before. Refuses only for want of memory.
 fn atoms_fault_from(
     least: Option<Fault>,
-    file: File,
-    params: &[Typed],
-    declared: &Declared,
+    scope: &Scope<'_, '_>,
     head: &Atom,
     atoms: &[Atom],
 ) -> Result<Option<Fault>, OutOfMemory>
-    ensures { IfOk result (λ first. first ≡ leftmost least (flat_map (faults_of_atom file params.now declared.now) atoms.now)) }
+    ensures { IfOk result (λ first. first
+        ≡ leftmost least (flat_map (faults_of_atom scope.now.file scope.now.params.now scope.now.declared.now) atoms.now)) }
 {
+    let declared = scope.declared;
     let mut first = least;
     let mut name = &head.word.name;
     let mut number = declared.predicate(name);
     for atom in atoms {
         number = declared.predicate_beside(name, number, &atom.word.name);
         name = &atom.word.name;
-        first = numbered_fault(first, file, params, declared, number, atom)?;
+        first = numbered_fault(first, scope, number, atom)?;
     }
     Ok(first)
 }
@@ -152,48 +132,26 @@ fn atoms_fault_from(
 /// The first fault, with those of atoms. Refuses only for want of memory.
 pub fn atoms_fault(
     least: Option<Fault>,
-    file: File,
-    params: &[Typed],
-    declared: &Declared,
+    scope: &Scope<'_, '_>,
     atoms: &[Atom],
 ) -> Result<Option<Fault>, OutOfMemory>
-    ensures { IfOk result (λ first. first ≡ leftmost least (flat_map (faults_of_atom file params.now declared.now) atoms.now)) }
+    ensures { IfOk result (λ first. first
+        ≡ leftmost least (flat_map (faults_of_atom scope.now.file scope.now.params.now scope.now.declared.now) atoms.now)) }
 {
     match atoms {
         [] => Ok(least),
-        [head, ..] => atoms_fault_from(least, file, params, declared, head, atoms),
+        [head, ..] => atoms_fault_from(least, scope, head, atoms),
     }
 }
 
-/// The first fault, with those of a literal's atom, whatever its sign. Refuses only for want of memory.
+/// A literal's atom is checked, whatever its sign.
 #[tactic(auto, unfolding(crate::specs::Uses::literal_faults))]
-fn literal_fault(
-    least: Option<Fault>,
-    file: File,
-    params: &[Typed],
-    declared: &Declared,
-    literal: &Literal,
-) -> Result<Option<Fault>, OutOfMemory>
-    ensures { IfOk result (λ first. first ≡ leftmost least (faults_of_literal file params.now declared.now literal.now)) }
-{
-    atom_fault(least, file, params, declared, &literal.atom)
-}
+impl<'s, 'd> Check<Literal> for Scope<'s, 'd> {
+    ghost faults = { λ scope literal. faults_of_literal scope.file scope.params.now scope.declared.now literal };
 
-/// The first fault, with those of literals. Refuses only for want of memory.
-pub fn literals_fault(
-    least: Option<Fault>,
-    file: File,
-    params: &[Typed],
-    declared: &Declared,
-    literals: &[Literal],
-) -> Result<Option<Fault>, OutOfMemory>
-    ensures { IfOk result (λ first. first ≡ leftmost least (flat_map (faults_of_literal file params.now declared.now) literals.now)) }
-{
-    let mut first = least;
-    for literal in literals {
-        first = literal_fault(first, file, params, declared, literal)?;
+    fn fault(&self, least: Option<Fault>, literal: &Literal) -> Result<Option<Fault>, OutOfMemory> {
+        self.fault(least, &literal.atom)
     }
-    Ok(first)
 }
 
 /// Whether a name is that of the function that the plan's cost is.
@@ -223,51 +181,65 @@ fn called_fault(
 }
 
 /// The first fault, with those of a function and its terms. Refuses only for want of memory.
-#[tactic(auto, using(crate::proofs::FirstLemmas::leftmost_append), unfolding(crate::specs::Uses::function_faults))]
-pub fn function_fault(
+#[tactic(auto, using(mp_list::proofs::FirstLemmas::leftmost_append), unfolding(crate::specs::Uses::function_faults))]
+fn function_fault(
     least: Option<Fault>,
-    file: File,
-    params: &[Typed],
-    declared: &Declared,
+    scope: &Scope<'_, '_>,
     function: &Atom,
 ) -> Result<Option<Fault>, OutOfMemory>
-    ensures { IfOk result (λ first. first ≡ leftmost least (faults_of_function file params.now declared.now function.now)) }
+    ensures { IfOk result (λ first. first
+        ≡ leftmost least (faults_of_function scope.now.file scope.now.params.now scope.now.declared.now function.now)) }
 {
-    let number = declared.function(&function.word.name);
-    let called = called_fault(least, file, &function.word, function.terms.len(), number)?;
-    terms_fault(called, file, params, declared, function.terms.as_slice())
+    let number = scope.declared.function(&function.word.name);
+    let count = function.terms.len();
+    let called = called_fault(least, scope.file, &function.word, count, number)?;
+    each_fault(called, scope, function.terms.as_slice())
 }
 
-/// The first fault, with those of an increase. Refuses only for want of memory.
 #[tactic(auto, unfolding(crate::specs::Uses::increase_faults))]
-fn increase_fault(
-    least: Option<Fault>,
-    file: File,
-    params: &[Typed],
-    declared: &Declared,
-    increase: &Increase,
-) -> Result<Option<Fault>, OutOfMemory>
-    ensures { IfOk result (λ first. first ≡ leftmost least (faults_of_increase file params.now declared.now increase.now)) }
-{
-    match increase {
-        Increase::Number(_) => Ok(least),
-        Increase::Function(function) => function_fault(least, file, params, declared, function),
+impl<'s, 'd> Check<Increase> for Scope<'s, 'd> {
+    ghost faults = { λ scope increase. faults_of_increase scope.file scope.params.now scope.declared.now increase };
+
+    fn fault(
+        &self,
+        least: Option<Fault>,
+        increase: &Increase,
+    ) -> Result<Option<Fault>, OutOfMemory> {
+        match increase {
+            Increase::Number(_) => Ok(least),
+            Increase::Function(function) => function_fault(least, self, function),
+        }
     }
+}
+
+impl<'s, 'd> Check<Value> for Scope<'s, 'd> {
+    ghost faults = { λ scope value. faults_of_function scope.file scope.params.now scope.declared.now value.of };
+
+    fn fault(&self, least: Option<Fault>, value: &Value) -> Result<Option<Fault>, OutOfMemory> {
+        function_fault(least, self, &value.of)
+    }
+}
+
+/// The first fault, with those of literals. Refuses only for want of memory.
+pub fn literals_fault(
+    least: Option<Fault>,
+    scope: &Scope<'_, '_>,
+    literals: &[Literal],
+) -> Result<Option<Fault>, OutOfMemory>
+    ensures { IfOk result (λ first. first
+        ≡ leftmost least (flat_map (faults_of_literal scope.now.file scope.now.params.now scope.now.declared.now) literals.now)) }
+{
+    each_fault(least, scope, literals)
 }
 
 /// The first fault, with those of increases. Refuses only for want of memory.
 pub fn increases_fault(
     least: Option<Fault>,
-    file: File,
-    params: &[Typed],
-    declared: &Declared,
+    scope: &Scope<'_, '_>,
     increases: &[Increase],
 ) -> Result<Option<Fault>, OutOfMemory>
-    ensures { IfOk result (λ first. first ≡ leftmost least (flat_map (faults_of_increase file params.now declared.now) increases.now)) }
+    ensures { IfOk result (λ first. first
+        ≡ leftmost least (flat_map (faults_of_increase scope.now.file scope.now.params.now scope.now.declared.now) increases.now)) }
 {
-    let mut first = least;
-    for increase in increases {
-        first = increase_fault(first, file, params, declared, increase)?;
-    }
-    Ok(first)
+    each_fault(least, scope, increases)
 }

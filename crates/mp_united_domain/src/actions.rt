@@ -1,6 +1,6 @@
 //! The actions of the united domain.
 
-use mp_factor::{Schema, Typed};
+use mp_forms::{Schema, Typed};
 use mp_list::OutOfMemory;
 use mp_messages::Bytes;
 use mp_united_names::UnitedAgent;

@@ -1,6 +1,6 @@
 //! Predicates and functions as the united domain declares them.
 
-use mp_factor::{Schema, Signature, SignatureList};
+use mp_forms::{Schema, Signature, SignatureList};
 use mp_list::OutOfMemory;
 use mp_messages::Bytes;
 use mp_united_names::{UnitedAgent, push_number};

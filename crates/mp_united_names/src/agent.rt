@@ -5,7 +5,7 @@
 
 use crate::number::push_number;
 use crate::texts::TextSet;
-use mp_factor::{Domain, Problem, Typed, Word};
+use mp_forms::{Domain, Problem, Typed, Word};
 use mp_list::OutOfMemory;
 use mp_messages::Bytes;
 use mp_sexp::Name;

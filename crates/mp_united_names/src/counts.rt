@@ -1,7 +1,7 @@
 //! Public predicates that several factors declare.
 
 use crate::texts::TextSet;
-use mp_factor::{Signature, SignatureList};
+use mp_forms::{Signature, SignatureList};
 use mp_list::OutOfMemory;
 use mp_typing::CheckedFactor;
 use std::alloc::Global;

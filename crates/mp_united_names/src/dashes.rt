@@ -1,6 +1,6 @@
 //! How many dashes stand in a row in the names of a team.
 
-use mp_factor::{Factor, Schema, SchemaList, Signature, Typed};
+use mp_forms::{Factor, Schema, SchemaList, Signature, Typed};
 use mp_sexp::Name;
 use mp_typing::CheckedFactor;
 

@@ -1,7 +1,7 @@
 //! The private names of a factor.
 
 use crate::texts::TextSet;
-use mp_factor::{Factor, SignatureList, TypedList};
+use mp_forms::{Factor, SignatureList, TypedList};
 use mp_list::OutOfMemory;
 use std::alloc::Global;
 

@@ -1,6 +1,6 @@
 //! Atoms and literals of an agent.
 
-use mp_factor::{Atom, Literal, LiteralList, Term};
+use mp_forms::{Atom, Literal, LiteralList, Term};
 use mp_list::OutOfMemory;
 use mp_messages::Bytes;
 use mp_united_names::UnitedAgent;

@@ -1,6 +1,6 @@
 //! The objects that actions name: constants of the united domain.
 
-use mp_factor::{Atom, AtomList, Increase, LiteralList, Schema, Term};
+use mp_forms::{Atom, AtomList, Increase, LiteralList, Schema, Term};
 use mp_list::OutOfMemory;
 use mp_messages::Bytes;
 use mp_united_names::UnitedAgent;

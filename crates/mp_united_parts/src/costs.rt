@@ -1,7 +1,7 @@
 //! What actions cost.
 
 use crate::atoms::{push_amount, push_has_value};
-use mp_factor::{Increase, Schema};
+use mp_forms::{Increase, Schema};
 use mp_list::OutOfMemory;
 use mp_messages::Bytes;
 use mp_sexp::Name;

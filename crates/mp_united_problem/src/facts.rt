@@ -1,7 +1,7 @@
 //! What is true at the start of the united problem.
 
 use crate::types::push_type_facts;
-use mp_factor::{AtomList, Value, ValueList};
+use mp_forms::{AtomList, Value, ValueList};
 use mp_list::OutOfMemory;
 use mp_messages::Bytes;
 use mp_united_names::{UnitedAgent, push_number};

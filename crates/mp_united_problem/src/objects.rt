@@ -1,6 +1,6 @@
 //! The objects of the united problem.
 
-use mp_factor::Typed;
+use mp_forms::Typed;
 use mp_list::OutOfMemory;
 use mp_messages::Bytes;
 use mp_united_names::UnitedAgent;

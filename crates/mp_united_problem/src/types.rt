@@ -1,6 +1,6 @@
 //! Which objects of an agent may stand for its parameters.
 
-use mp_factor::{Schema, SchemaList, Typed, WordList};
+use mp_forms::{Schema, SchemaList, Typed, WordList};
 use mp_list::{Copied, List, OutOfMemory};
 use mp_messages::Bytes;
 use mp_sexp::Name;

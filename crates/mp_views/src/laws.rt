@@ -4,7 +4,7 @@ ghost use Rattle.std.specs.Prelude.{◌≡◌, ◌∷◌, List, [], true, false}
 ghost use Rattle.std.specs.Cmp.Lexicographic.{slice_cmp};
 ghost use Rattle.std.specs.List.Sorted.{IsStrictlySortedBy};
 ghost use Rattle.std.specs.Ordering.{nat_cmp};
-ghost use Rattle.mp_factor.specs.declared.factor.Factor.{Factor};
+ghost use Rattle.mp_forms.specs.declared.factor.Factor.{Factor};
 ghost use Rattle.mp_joint.specs.Fact.{Text, is_listed};
 ghost use Rattle.mp_joint.specs.FactorContribution.{privates_of};
 ghost use Rattle.mp_views.specs.Opened.{open_view as view_of, joined};

@@ -14,7 +14,7 @@ ghost use Rattle.mp_views.specs.Opened.{open_view as view_of, joined};
 use crate::privates::is_public;
 use crate::sorted::sorted_once;
 use crate::spelling::atom_text;
-use mp_factor::{Atom, AtomList, Factor, LiteralList, Schema, SchemaList};
+use mp_forms::{Atom, AtomList, Factor, LiteralList, Schema, SchemaList};
 use mp_lifted::{FactTexts, OpenView, PrivateNames, private_names};
 use mp_list::{Copied, List, OutOfMemory};
 use mp_sexp::{Name, NameList, NameTable};

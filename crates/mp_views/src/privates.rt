@@ -7,7 +7,7 @@ ghost use Rattle.mp_joint.specs.Grounding.{fact_of, objects_of};
 ghost use Rattle.std.specs.List.{list_any};
 
 use crate::spelling::term_name;
-use mp_factor::{Atom, Term};
+use mp_forms::{Atom, Term};
 use mp_sexp::NameTable;
 
 /// Whether the name of one of some terms is among these.

@@ -6,7 +6,7 @@ ghost use Rattle.mp_joint.specs.Grounding.{object_of, objects_of};
 ghost use Rattle.mp_lifted.specs.Texts.{bracketed};
 ghost use Rattle.mp_views.specs.Lines.{spaced};
 
-use mp_factor::{Atom, Term};
+use mp_forms::{Atom, Term};
 use mp_list::OutOfMemory;
 use mp_sexp::Name;
 use std::alloc::Global;

@@ -1,9 +1,9 @@
 -- Actions by other names are the same in numbers.
 use Rattle.std.proofs.Common.{◌≡◌, Bool, not, List, [], ◌∷◌, map, All, if◌then◌else◌, ap, ◌∙◌}
-use Rattle.mp_factor.specs.declared.typed_values.Typed.{Typed}
-use Rattle.mp_factor.specs.declared.atom_values.Atom.{Atom}
-use Rattle.mp_factor.specs.declared.schema_values.Schema.{Schema}
-use Rattle.mp_factor.specs.declared.factor.Factor.{Factor}
+use Rattle.mp_forms.specs.declared.typed_values.Typed.{Typed}
+use Rattle.mp_forms.specs.declared.atom_values.Atom.{Atom}
+use Rattle.mp_forms.specs.declared.schema_values.Schema.{Schema}
+use Rattle.mp_forms.specs.declared.factor.Factor.{Factor}
 use Rattle.mp_joint.specs.Fact.{Text}
 use Rattle.mp_joint.specs.Grounding.{asked_atoms, negated_atoms}
 use Rattle.mp_lifted.specs.declared.lifted.Amount.TheVariants.{Number}

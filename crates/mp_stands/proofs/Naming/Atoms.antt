@@ -2,16 +2,16 @@
 use Rattle.std.proofs.Common.{◌≡◌, Bool, true, not, List, [], map, filter, All, codes, if◌then◌else◌, refl, sym, ap, ◌∙◌}
 use Rattle.std.specs.Str.{bytes_eq}
 use Rattle.std.proofs.lemmas.Bool.{false≢true}
-use Rattle.mp_factor.specs.Limits.{name_of_term}
-use Rattle.mp_factor.specs.Words.{assignments, connectives, is_fixed, other_words, quantifiers}
-use Rattle.mp_factor.specs.declared.typed_values.Typed.{Typed}
-use Rattle.mp_factor.specs.declared.atom_values.Term.{Term}
-use Rattle.mp_factor.specs.declared.atom_values.Term.TheVariants as terms
-use Rattle.mp_factor.specs.declared.atom_values.Atom.{Atom}
-use Rattle.mp_factor.specs.declared.literal.Literal.{Literal}
-use Rattle.mp_factor.specs.declared.effect_values.Increase.{Increase}
-use Rattle.mp_factor.specs.declared.effect_values.Increase.TheVariants as increases
-use Rattle.mp_factor.specs.declared.factor.Factor.{Factor}
+use Rattle.mp_forms.specs.Limits.{name_of_term}
+use Rattle.mp_forms.specs.Words.{assignments, connectives, is_fixed, other_words, quantifiers}
+use Rattle.mp_forms.specs.declared.typed_values.Typed.{Typed}
+use Rattle.mp_forms.specs.declared.atom_values.Term.{Term}
+use Rattle.mp_forms.specs.declared.atom_values.Term.TheVariants as terms
+use Rattle.mp_forms.specs.declared.atom_values.Atom.{Atom}
+use Rattle.mp_forms.specs.declared.literal.Literal.{Literal}
+use Rattle.mp_forms.specs.declared.effect_values.Increase.{Increase}
+use Rattle.mp_forms.specs.declared.effect_values.Increase.TheVariants as increases
+use Rattle.mp_forms.specs.declared.factor.Factor.{Factor}
 use Rattle.mp_sexp.specs.Numbers.{number_in}
 use Rattle.mp_typing.specs.Uses.{is_declared}
 use Rattle.mp_joint.specs.Fact.{Text}

@@ -1,8 +1,8 @@
 -- The vocabulary of a factor by other names, and what it keeps to itself.
 use Rattle.std.proofs.Common.{◌≡◌, true, false, map, filter, refl, sym, ap, ◌∙◌}
-use Rattle.mp_factor.specs.declared.typed_values.Typed.{Typed}
-use Rattle.mp_factor.specs.declared.signature_values.Signature.{Signature}
-use Rattle.mp_factor.specs.declared.factor.Factor.{Factor}
+use Rattle.mp_forms.specs.declared.typed_values.Typed.{Typed}
+use Rattle.mp_forms.specs.declared.signature_values.Signature.{Signature}
+use Rattle.mp_forms.specs.declared.factor.Factor.{Factor}
 use Rattle.mp_typing.specs.ObjectList.{object_list}
 use Rattle.mp_joint.specs.Fact.{Text, Privates, is_listed}
 use Rattle.mp_joint.specs.FactorContribution.{declared_objects, privates_of}

@@ -1,5 +1,5 @@
 use Rattle.std.proofs.Common.{◌≡◌, map, take}
-use Rattle.mp_factor.specs.declared.schema_values.Schema.{Schema}
+use Rattle.mp_forms.specs.declared.schema_values.Schema.{Schema}
 use Rattle.mp_checker.proofs.factor.names_of_actions.Given as goal
 
 abbrev pub invariant-loop-schema : goal.invariant-loop-schema

@@ -1,10 +1,10 @@
 use Rattle.std.proofs.Common.{◌≡◌, List, All, Some, None, sym, ap, subst, ◌∙◌}
 use Rattle.std.specs.Option.{option_copied}
 use Rattle.std.specs.Prelude.{slice_get}
-use Rattle.mp_factor.specs.FactorParts.{DomainParts}
-use Rattle.mp_factor.specs.Limits.{SchemaFits}
-use Rattle.mp_factor.specs.declared.schema_values.Schema.{Schema}
-use Rattle.mp_factor.specs.declared.factor.Factor.{Factor}
+use Rattle.mp_forms.specs.FactorParts.{DomainParts}
+use Rattle.mp_forms.specs.Limits.{SchemaFits}
+use Rattle.mp_forms.specs.declared.schema_values.Schema.{Schema}
+use Rattle.mp_forms.specs.declared.factor.Factor.{Factor}
 use Rattle.mp_sexp.specs.Numbers.{place_in}
 use Rattle.mp_checker.specs.AgentView.{AgentView, names_of, factor_of}
 use Rattle.mp_checker.specs.Words.{names_of_schema}

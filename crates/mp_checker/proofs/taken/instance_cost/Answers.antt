@@ -1,8 +1,8 @@
 use Rattle.std.proofs.Common.{◌≡◌, ◌≤◌, ℕ, List, ◌++◌, map, Option, sym, ap, subst, ◌∙◌}
 use Rattle.std.specs.Option.{option_map}
 use Rattle.std.specs.Prelude.{IfSome, IsSome}
-use Rattle.mp_factor.specs.Limits.{ProblemFits}
-use Rattle.mp_factor.specs.declared.factor.Factor.{Factor}
+use Rattle.mp_forms.specs.Limits.{ProblemFits}
+use Rattle.mp_forms.specs.declared.factor.Factor.{Factor}
 use Rattle.mp_joint.specs.FactorContribution.{instance_of_schema}
 use Rattle.mp_joint.specs.Instance.{Instance}
 use Rattle.mp_checker.specs.declared.numbered.NumberedAction.{NumberedAction}

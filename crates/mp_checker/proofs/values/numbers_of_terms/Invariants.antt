@@ -1,6 +1,6 @@
 use Rattle.std.proofs.Common.{◌≡◌, map, take}
-use Rattle.mp_factor.specs.Limits.{name_of_term}
-use Rattle.mp_factor.specs.declared.atom_values.Term.{Term}
+use Rattle.mp_forms.specs.Limits.{name_of_term}
+use Rattle.mp_forms.specs.declared.atom_values.Term.{Term}
 use Rattle.mp_sexp.specs.Numbers.{number_in}
 use Rattle.mp_checker.proofs.values.numbers_of_terms.Given as goal
 

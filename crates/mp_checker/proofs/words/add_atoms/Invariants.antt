@@ -1,6 +1,6 @@
 use Rattle.std.proofs.Common.{◌≡◌, ◌++◌, drop}
 use Rattle.std.specs.List.{flat_map}
-use Rattle.mp_factor.specs.Limits.{names_of_atom}
+use Rattle.mp_forms.specs.Limits.{names_of_atom}
 use Rattle.mp_checker.proofs.words.add_atoms.Given as goal
 
 abbrev pub invariant-loop-atom : goal.invariant-loop-atom

@@ -1,5 +1,5 @@
 use Rattle.std.proofs.Common.{◌≡◌, ◌++◌, map, take}
-use Rattle.mp_factor.specs.declared.typed_values.Typed.{Typed}
+use Rattle.mp_forms.specs.declared.typed_values.Typed.{Typed}
 use Rattle.mp_checker.proofs.words.add_objects.Given as goal
 
 abbrev pub invariant-loop-object : goal.invariant-loop-object

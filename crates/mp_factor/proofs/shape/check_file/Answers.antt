@@ -1,6 +1,6 @@
 use Rattle.mp_factor.proofs.Basics.{refl, codes, nodes_in, Says, all_right, in_section, sections_rule}
 use Rattle.mp_factor.specs.OfFile.{own_words, other_words}
-use Rattle.mp_factor.specs.Rules.Sections.{requirements_rule, section_rule}
+use Rattle.mp_forms.specs.Rules.Sections.{requirements_rule, section_rule}
 use Rattle.mp_factor.proofs.ReadFiles.{besides_found}
 use Rattle.mp_factor.proofs.shape.check_file.Goals as goal
 

@@ -11,4 +11,4 @@ pub returns-in_ok-items-in-Err : goal.returns-in_ok-items-in-Err
 returns-in_ok-items-in-Err g c =
     let items = found_in (each (g.L.Listing.listing c.args.listing.now).item (node_of c.args.group.first.now ∷ nodes_in c.args.group.others.now)) in
     wrong_group c.args.so_far items c.untyped-item_type.result c.in-Err.fault c.args.item_type _ _
-    c.with_fault.ensures c.in_ok-items-in-Err.ensures c.in-Err.is
+    c.second.ensures c.in_ok-items-in-Err.ensures c.in-Err.is

@@ -1,5 +1,5 @@
 use Rattle.mp_ground.proofs.Basics.{◌≡◌, map, take}
-use Rattle.mp_factor.specs.declared.signature_values.Signature.{Signature}
+use Rattle.mp_forms.specs.declared.signature_values.Signature.{Signature}
 use Rattle.mp_ground.proofs.names.predicate_names.Given as goal
 
 abbrev pub invariant-loop-signature : goal.invariant-loop-signature

@@ -1,5 +1,5 @@
 use Rattle.mp_ground.proofs.Basics.{ℕ, List, [], map, Option, sym, ap, ◌∙◌, option_map, unwrap_or, slice_get-map, unwrap_or-slice_get}
-use Rattle.mp_factor.specs.declared.schema_values.Schema.{Schema}
+use Rattle.mp_forms.specs.declared.schema_values.Schema.{Schema}
 use Rattle.mp_ground.proofs.stepping.action_name.Goals as goal
 
 pub returns-in-None : goal.returns-in-None

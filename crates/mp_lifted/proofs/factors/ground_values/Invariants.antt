@@ -1,6 +1,6 @@
 use Rattle.mp_lifted.proofs.Basics.{◌≡◌, map, take, filter, is_total_cost, ground_value}
 use Rattle.std.specs.Prelude.{not}
-use Rattle.mp_factor.specs.declared.init_values.Value.{Value}
+use Rattle.mp_forms.specs.declared.init_values.Value.{Value}
 use Rattle.mp_lifted.proofs.factors.ground_values.Given as goal
 
 abbrev pub invariant-loop-value : goal.invariant-loop-value

@@ -1,5 +1,5 @@
 use Rattle.mp_lifted.proofs.Basics.{◌≡◌, map, take, number_in}
-use Rattle.mp_factor.specs.Limits.{name_of_term}
+use Rattle.mp_forms.specs.Limits.{name_of_term}
 use Rattle.mp_lifted.proofs.lifted_atoms.ground_with.Given as goal
 
 abbrev pub invariant-loop-term : goal.invariant-loop-term

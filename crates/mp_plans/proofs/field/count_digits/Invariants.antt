@@ -1,6 +1,6 @@
 use Rattle.std.proofs.Common.{◌≡◌, ◌+◌, drop}
 use Rattle.std.specs.List.{prefix_len}
-use Rattle.mp_factor.specs.Words.{is_digit as is_digit_byte}
+use Rattle.mp_forms.specs.Words.{is_digit as is_digit_byte}
 use Rattle.mp_plans.proofs.field.count_digits.Given as goal
 
 -- only digits so far

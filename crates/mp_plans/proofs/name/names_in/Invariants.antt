@@ -1,7 +1,7 @@
 use Rattle.std.proofs.Common.{◌≡◌, ◌+◌, ◌++◌, length}
 use Rattle.std.specs.List.{list_all}
 use Rattle.std.specs.Option.{option_map, option_map_or}
-use Rattle.mp_factor.specs.Kinds.{is_name}
+use Rattle.mp_forms.specs.Kinds.{is_name}
 use Rattle.mp_plans.specs.Names.{words_left}
 use Rattle.mp_plans.proofs.name.names_in.Given as goal
 

@@ -1,5 +1,5 @@
 use Rattle.std.proofs.Common.{List, true}
-use Rattle.mp_factor.specs.declared.factor.Factor.{Factor}
+use Rattle.mp_forms.specs.declared.factor.Factor.{Factor}
 use Rattle.mp_steps.specs.Packed.{IsRefused}
 use Rattle.mp_top.specs.Decided.{IsToldByTeam, IsToldOfSteps}
 use Rattle.mp_top.specs.declared.decision.Decision.{Decision}

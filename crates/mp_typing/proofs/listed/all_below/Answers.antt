@@ -1,4 +1,4 @@
-use Rattle.mp_typing.proofs.ListedLemmas.{counted_on}
+use Rattle.mp_typing.proofs.RangeLemmas.{counted_on}
 use Rattle.mp_typing.proofs.listed.all_below.Goals as goal
 
 pub loop-number-preserved : goal.loop-number-preserved

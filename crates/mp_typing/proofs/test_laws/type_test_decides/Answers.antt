@@ -1,4 +1,5 @@
-use Rattle.mp_typing.proofs.UnderLemmas.{lies_under_decides, is_of_type_decides}
+use Rattle.mp_typing.proofs.Finding.{lies_under_decides}
+use Rattle.mp_typing.proofs.Typing.{is_of_type_decides}
 use Rattle.mp_typing.proofs.test_laws.type_test_decides.Goals as goal
 
 pub returns-clause-under : goal.returns-clause-under

@@ -1,5 +1,5 @@
 use Rattle.mp_typing.proofs.Basics.{Some, None, List, ◌++◌, ◌∙◌, ap, sym, find, slice_get, bytes_eq, Factor, Typed, objects_of}
-use Rattle.mp_factor.specs.FactorParts.{DomainParts, ProblemParts}
+use Rattle.mp_forms.specs.FactorParts.{DomainParts, ProblemParts}
 use Rattle.mp_typing.proofs.LookupLemmas.{first_at}
 use Rattle.mp_typing.proofs.declared.Declared.object.Goals as goal
 

@@ -1,5 +1,5 @@
 use Rattle.mp_typing.proofs.Basics.{◌≡◌, ◌++◌, List, length, map, take, AreFound}
-use Rattle.mp_factor.specs.declared.typed_values.Typed.{Typed as TypedValue}
+use Rattle.mp_forms.specs.declared.typed_values.Typed.{Typed as TypedValue}
 use Rattle.mp_typing.proofs.declared.Objects.add_all.Given as goal
 
 abbrev pub invariant-loop-i : goal.invariant-loop-i

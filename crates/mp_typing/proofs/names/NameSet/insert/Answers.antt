@@ -1,5 +1,6 @@
 use Rattle.mp_typing.proofs.Basics.{◌||◌, ◌∙◌, sym, ap, not, bytes_eq, list_any, is_among}
-use Rattle.mp_typing.proofs.NameSets.{among_keys, cond_or, same_either_way}
+use Rattle.mp_typing.proofs.NameSets.{among_keys, cond_or}
+use Rattle.mp_sexp.proofs.Places.{swapped}
 use Rattle.mp_typing.proofs.names.NameSet.insert.Goals as goal
 
 pub returns-clause-added : goal.returns-clause-added
@@ -16,6 +17,6 @@ returns-clause-members c = λ other.
     rw (← c.as_slice.ensures.bytes)
     (among_keys c.insert.new.self.keys other ∙ now
     ∙ cond_or (bytes_eq name other) (list_any (λ k. bytes_eq other k.now) c.self.inside.names.keys)
-    ∙ ap (λ b. b || list_any (λ k. bytes_eq other k.now) c.self.inside.names.keys) (same_either_way name other)
+    ∙ ap (λ b. b || list_any (λ k. bytes_eq other k.now) c.self.inside.names.keys) (swapped name other)
     ∙ ap (λ b. bytes_eq other name || b) (sym (among_keys c.self.inside.names.keys other))
     ∙ ap (λ names. bytes_eq other name || is_among names other) c.self.view_is)

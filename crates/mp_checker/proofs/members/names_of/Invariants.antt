@@ -1,6 +1,0 @@
-use Rattle.std.proofs.Common.{◌≡◌, map, take}
-use Rattle.mp_factor.specs.declared.word.Word.{Word}
-use Rattle.mp_checker.proofs.members.names_of.Given as goal
-
-abbrev pub invariant-loop-word : goal.invariant-loop-word
-invariant-loop-word l = l.names ≡ map (λ (w : Word). w.name) (take l.word-index l.words)
