@@ -1,11 +1,15 @@
 -- Typed lists, as a loop reads them: group by group, where the items of a group have one type.
-use Rattle.mp_factor.proofs.Basics.{◌≡◌, ℕ, suc, ◌+◌, ◌<◌, ◌≤◌, Bool, true, false, ◌&&◌, ◌||◌, List, [], ◌∷◌, ◌++◌, map, length, get_or, take, drop, Result, Ok, Err, refl, sym, ap, ◌∙◌, drop-cons, true≢false, arith, drop_of_length-le, ◌==◌}
+use Rattle.mp_factor.proofs.Basics.{◌≡◌, ℕ, suc, ◌+◌, ◌<◌, ◌≤◌, Bool, true, false, ◌&&◌, ◌||◌, List, [], ◌∷◌, ◌++◌, map, length, take, drop, Result, Ok, Err, refl, sym, ap, ◌∙◌, true≢false, arith, ◌==◌}
 use Rattle.mp_factor.proofs.Basics.{if◌then◌else◌, IfOk, eqb-true, append_assoc, Place, Tree, Node, node_of, nodes_in, Fault, Word, Typed, Reading, Says, Wrong, misshapen, said, each, earlier_of, found_in, both_found, said_found, more_found}
 use Rattle.mp_factor.proofs.Basics.{second_found, group_size, items_found, AreBehindItems, Listing, Declared, typed_of, is_dash, with_type, with_item, with_block, typed_from, type_first, typed_rule}
 use Rattle.mp_factor.specs.FoundForms.{ends, group_found}
 use Rattle.mp_factor.proofs.FirstLemmas.{earlier_assoc}
 use Rattle.mp_factor.proofs.FoundLemmas.{found_both, found_said, found_each, lists, none_more, begins}
-use Rattle.std.proofs.lemmas.Bool.{or_parts}
+use Rattle.std.proofs.Common.{None, Some, cond, ltb, not}
+use Rattle.std.proofs.lemmas.Bool.{ltb-false, or_parts}
+use Rattle.std.proofs.lemmas.List.Sums.{prefix_len-le-length}
+use Rattle.std.specs.List.{position, position_or_len}
+use Rattle.std.specs.Prelude.{unwrap_or}
 
 -- ---- one member
 
@@ -228,33 +232,31 @@ wrong_group {X} {T} s ms u f type untyped all is_all is_untyped is_wrong =
 
 -- ---- how many items there are
 
-pub size_on : {X T : Type 0} → (l : Listing X T) (ts : List Tree) (i : ℕ) (t : Tree) (whole : ℕ) → i < length ts → t ≡ get_or ts i t
-    → ends l (node_of t) ≡ false
-    → i + group_size l (nodes_in (drop i ts)) ≡ whole → i + 1 + group_size l (nodes_in (drop (i + 1) ts)) ≡ whole
-size_on l ts i t whole lt is on so_far =
-    let next : suc i ≡ i + 1 = omega arith in
-    let rest = group_size l (nodes_in (drop (suc i) ts)) in
-    let split : group_size l (nodes_in (drop i ts)) ≡ suc rest =
-    rw (drop-cons ts i t, ← is) (ap (λ (b : Bool). if b then 0 else suc rest) on) in
-    let size : i + suc rest ≡ whole = ap (λ (n : ℕ). i + n) (sym split) ∙ so_far in
-    let more : i + 1 + rest ≡ whole = omega arith in
-    ap (λ (n : ℕ). i + 1 + group_size l (nodes_in (drop n ts))) (sym next) ∙ more
+picked : (k n : ℕ) (b : Bool) → ltb k n ≡ b → k ≤ n → unwrap_or (cond b (Some k) None) n ≡ k
+picked k n true e le = refl
+picked k n false e le = omega (arith, ltb-false k n e, le)
 
-pub size_stops : {X T : Type 0} → (l : Listing X T) (ts : List Tree) (i : ℕ) (t : Tree) (whole : ℕ) → i < length ts → t ≡ get_or ts i t
-    → ends l (node_of t) ≡ true → i + group_size l (nodes_in (drop i ts)) ≡ whole → i ≡ whole
-size_stops l ts i t whole lt is stop so_far =
-    let rest = group_size l (nodes_in (drop (suc i) ts)) in
-    let split : group_size l (nodes_in (drop i ts)) ≡ 0 =
-    rw (drop-cons ts i t, ← is) (ap (λ (b : Bool). if b then 0 else suc rest) stop) in
-    let size : i + 0 ≡ whole = ap (λ (n : ℕ). i + n) (sym split) ∙ so_far in
-    omega arith
+one_on : (b : Bool) (k n : ℕ) → k ≡ n → cond (not b) (1 + k) 0 ≡ (if b then 0 else suc n)
+one_on true k n same = refl
+one_on false k n same = omega (arith, same)
 
-pub size_ends : {X T : Type 0} → (l : Listing X T) (ts : List Tree) (i : ℕ) (whole : ℕ) → length ts ≤ i → i ≤ length ts
-    → i + group_size l (nodes_in (drop i ts)) ≡ whole → length ts ≡ whole
-size_ends l ts i whole le within so_far =
-    let all_read : drop i ts ≡ [] = drop_of_length-le ts le in
-    let size : i + 0 ≡ whole = sym (ap (λ (xs : List Tree). i + group_size l (nodes_in xs)) all_read) ∙ so_far in
-    omega arith
+size_at : {X T : Type 0} → (l : Listing X T) (ts : List Tree) → position_or_len (λ t. ends l (node_of t)) ts ≡ group_size l (nodes_in ts)
+size_at l [] = refl
+size_at l (t ∷ ts) = one_on (ends l (node_of t)) _ _ (size_at l ts)
+
+found_size : {X T : Type 0} → (l : Listing X T) (ts : List Tree)
+    → unwrap_or (position (λ t. ends l (node_of t)) ts) (length ts) ≡ position_or_len (λ t. ends l (node_of t)) ts
+found_size l ts =
+    let size = position_or_len (λ t. ends l (node_of t)) ts in
+    picked size (length ts) (ltb size (length ts)) refl (prefix_len-le-length (λ t. not (ends l (node_of t))) ts)
+
+pub size_is : {X T : Type 0} → (l : Listing X T) (ts : List Tree)
+    → unwrap_or (position (λ t. ends l (node_of t)) ts) (length ts) ≡ group_size l (nodes_in ts)
+size_is l ts = found_size l ts ∙ size_at l ts
+
+pub size_within : {X T : Type 0} → (l : Listing X T) (ts : List Tree)
+    → unwrap_or (position (λ t. ends l (node_of t)) ts) (length ts) ≤ length ts
+size_within l ts = omega (arith, found_size l ts, prefix_len-le-length (λ t. not (ends l (node_of t))) ts)
 
 -- ---- the whole list
 

@@ -1,6 +1,7 @@
 //! Typed lists: items, behind which may stand `-` and their type.
 
 ghost use Rattle.std.specs.Prelude.{◌≡◌, ◌&&◌, ◌<◌, ◌≤◌, ◌++◌, ◌∷◌, [], false, Err, List, length, map, codes, IfOk, OnOk};
+ghost use Rattle.std.specs.List.{position};
 ghost use Rattle.mp_sexp.specs.Node.{node_of, nodes_in};
 ghost use Rattle.mp_forms.specs.Reading.{besides, each, keyword, said};
 ghost use Rattle.mp_factor.specs.Found.{found_in, both_found, more_found, said_found, second_found};
@@ -60,17 +61,20 @@ fn ends_items<X, T, L: Listing<X, T>>(listing: &L, tree: &Tree) -> bool
     is_type_sign(listing, tree) || listing.is_block(tree)
 }
 
-/// How many of these trees come before the first that ends the items of one type.
+/// The place of the first of these trees that ends the items of one type.
+fn first_end<X, T, L: Listing<X, T>>(listing: &L, trees: &[Tree]) -> Option<usize>
+    ensures { result ≡ position (λ t. ends (L.listing listing.now) (node_of t)) trees.now }
+{
+    trees.iter().position(|tree| ends_items(listing, tree))
+}
+
+/// How many of these trees come before it: all where none ends them.
+#[tactic(auto, using(crate::proofs::TypedLemmas::size_within))]
 fn group_len<X, T, L: Listing<X, T>>(listing: &L, trees: &[Tree]) -> usize
     ensures size { result ≡ group_size (L.listing listing.now) (nodes_in trees.now) }
     ensures within { result ≤ length trees.now }
 {
-    for (i, tree) in trees.iter().enumerate() {
-        if ends_items(listing, tree) {
-            return i;
-        }
-    }
-    trees.len()
+    first_end(listing, trees).unwrap_or(trees.len())
 }
 
 /// The type that these trees begin with, and what stands behind it. Refuses only for want of memory.

@@ -2,8 +2,8 @@
 pub use Rattle.std.proofs.Common.{All, Bool, Greater, IfOk, Less, List, None, Option, Ordering, Some, [], ap, arith, cond, drop, false, filter, get_or, if◌then◌else◌}
 pub use Rattle.std.proofs.Common.{inl, inr, length, map, nat_lt, not, refl, slice_get, subst, suc, sym, take, true, zero, ℕ, ◌++◌, ◌+◌, ◌-◌, ◌<◌, ◌∙◌, ◌∷◌, ◌≡◌, ◌≤◌}
 pub use Rattle.std.proofs.lemmas.Bool.{cases_Bool, lt-ltb, ltb-true}
-pub use Rattle.std.proofs.lemmas.List.{length-drop, length-map, nil_from_length}
-pub use Rattle.std.proofs.lemmas.List.Elements.{All-contains, Contains-append_left, Contains-append_right, Contains-get_or}
+pub use Rattle.std.proofs.lemmas.List.{length-drop, length-map}
+pub use Rattle.std.proofs.lemmas.List.Elements.{All-contains, Contains-append_left, Contains-append_right}
 pub use Rattle.std.proofs.lemmas.Map.Keys.{IsStrictlyIncreasing-dedup}
 pub use Rattle.std.proofs.lemmas.Option.{none-some, same_Some, slice_get-map, slice_get_within, unwrap_or-slice_get}
 pub use Rattle.std.proofs.lemmas.Slice.Eq.{bytes_eq-Decides}
@@ -41,7 +41,7 @@ pub use Rattle.mp_lifted.specs.declared.lifted.LiftedAction.{LiftedAction}
 pub use Rattle.mp_lifted.specs.declared.lifted.LiftedFactor.{LiftedFactor}
 pub use Rattle.mp_lifted.specs.declared.view.OpenView.{OpenView}
 pub use Rattle.mp_list.proofs.Bools.{same_tests}
-pub use Rattle.mp_list.proofs.Members.{any_from, contains_head, contains_tail, no_member, some_member}
+pub use Rattle.mp_list.proofs.Members.{any_from, contains_head, contains_tail, some_member}
 pub use Rattle.mp_sexp.specs.Bytes.{folded}
 pub use Rattle.mp_sexp.specs.Numbers.{name_at}
 unfoldable pub use Rattle.mp_sexp.specs.Numbers.{number_in}

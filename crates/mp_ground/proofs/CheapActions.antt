@@ -12,7 +12,7 @@ use Rattle.mp_bindings.specs.Bindings.{product}
 use Rattle.mp_lifted.specs.Atoms.{atom_at, same_atom}
 use Rattle.mp_instances.specs.Costs.{value_of, amount_at, cost_at, IsSmall, IsCheap}
 use Rattle.mp_instances.specs.Instances.{suits, binding_of, instances_of}
-use Rattle.mp_grounder.proofs.Counted.{given_one}
+use Rattle.mp_grounder.proofs.Lists.{given_one}
 
 abbrev IsLow : GroundValue → Type 0
 IsLow v = v.cost ≤ 1000000

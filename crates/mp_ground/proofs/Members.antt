@@ -1,6 +1,6 @@
 -- Members of mapped and joined lists; items at places of parts of a list; functions that agree on members.
-use Rattle.mp_ground.proofs.Basics.{arith, ◌≡◌, Bool, cond, ℕ, zero, suc, ◌+◌, ◌<◌, List, [], ◌∷◌, map, filter, get_or, All, take, drop, slice_get, refl, ap, ◌∙◌}
-use Rattle.mp_ground.proofs.Basics.{Contains-get_or, Contains, contains_head, contains_tail}
+use Rattle.mp_ground.proofs.Basics.{arith, ◌≡◌, Bool, cond, ℕ, zero, suc, ◌+◌, ◌<◌, List, [], ◌∷◌, map, filter, take, drop, slice_get, refl, ap, ◌∙◌}
+use Rattle.mp_ground.proofs.Basics.{Contains, contains_head, contains_tail}
 
 -- the item at a place among the first ones
 pub get_taken : {X : Type 0} (m n : ℕ) (xs : List X) → n < m → slice_get (take m xs) n ≡ slice_get xs n
@@ -26,7 +26,3 @@ filter_on p q [] h = refl
 filter_on p q (x ∷ xs) h =
     ap (λ b. cond b (x ∷ filter p xs) (filter p xs)) (h x (contains_head x xs))
     ∙ ap (λ ys. cond (q x) (x ∷ ys) ys) (filter_on p q xs (λ y there. h y (contains_tail x xs y there)))
-
--- what holds of each member holds of all
-pub all_members : {X : Type 0} (P : X → Type 0) (xs : List X) → ((x : X) → Contains xs x → P x) → All P xs
-all_members P xs h k d less = h (get_or xs k d) (Contains-get_or xs k d less)

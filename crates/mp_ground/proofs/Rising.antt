@@ -1,6 +1,6 @@
 -- Lists in an order are told by their members; lists of places rise.
-use Rattle.mp_ground.proofs.Basics.{arith, ◌≡◌, ℕ, ◌<◌, ◌≤◌, Bool, true, List, [], ◌∷◌, length, Some, slice_get, sym, Ordering, Contains, nat_cmp-IsAntisymmetric, list_any}
-use Rattle.mp_ground.proofs.Basics.{IsStrictlyIncreasing, IsStrictlySortedBy, eq_by_cmp, nat_cmp, IsStrictlyIncreasing-dedup, slice_get_within, same_tests, any_from}
+use Rattle.mp_ground.proofs.Basics.{arith, ◌≡◌, ℕ, ◌≤◌, Bool, true, List, length, Some, slice_get, sym, ◌∙◌, Ordering, Contains, nat_cmp-IsAntisymmetric, list_any}
+use Rattle.mp_ground.proofs.Basics.{IsStrictlyIncreasing, IsStrictlySortedBy, eq_by_cmp, nat_cmp, IsStrictlyIncreasing-dedup, same_tests, any_from}
 use Rattle.mp_ground.proofs.Basics.{some_member, sorted_by, numbers_where}
 use Rattle.std.proofs.Common.{eqb}
 use Rattle.std.specs.Cmp.{IsTotalOrder}
@@ -10,9 +10,10 @@ use Rattle.std.specs.List.Sorted.{IsPermutation, IsSorted}
 use Rattle.std.proofs.lemmas.Cmp.{nat_cmp_total}
 use Rattle.std.proofs.lemmas.List.Kept.{Contains-dedup_nat, Contains-from_dedup}
 use Rattle.std.proofs.lemmas.List.Sorted.{Contains-permutation, IsPermutation-sym}
-use Rattle.std.proofs.lemmas.Map.Keys.{sorted_from_strictly_increasing}
+use Rattle.std.proofs.lemmas.Map.Keys.{IsStrictlyIncreasing-from_sorted, sorted_from_strictly_increasing}
 use Rattle.mp_ground_facts.proofs.Strict.{keys_are}
 use Rattle.mp_typing.proofs.Placing.{passing_place, place_passes, places_rise}
+use Rattle.mp_views.proofs.SortedLaws.{rises, same_members, unchanged}
 
 -- ---- one list in an order has some members
 
@@ -22,11 +23,15 @@ module _ {K : Type 0} {R : K → K → Ordering} (o : IsTotalOrder R) (one : IsA
       let found = some_member (eq_by_cmp R q) xs h in
       any_from (eq_by_cmp R q) ys found.0 (each found.0 found.1) found.2
 
+  -- lists with the same items are the same in order
+  pub same_in_order : (xs ys : List K) → ((q : K) → Contains xs q → Contains ys q) → ((q : K) → Contains ys q → Contains xs q) → sorted_by R xs ≡ sorted_by R ys
+  unfolding sorted_by
+  same_in_order xs ys there back =
+      keys_are o one (sorted_by R xs) ys (rises R xs) (λ q. same_members o xs q ∙ same_tests _ _ (passes xs ys there q) (passes ys xs back q))
+
   -- what rises and has the items of a list is that list in order, each item once
   pub sorted_is : (xs ys : List K) → IsStrictlySortedBy R xs → ((q : K) → Contains xs q → Contains ys q) → ((q : K) → Contains ys q → Contains xs q) → xs ≡ sorted_by R ys
-  unfolding sorted_by
-  sorted_is xs ys rises there back =
-      keys_are o one xs ys rises (λ q. same_tests _ _ (passes xs ys there q) (passes ys xs back q))
+  sorted_is xs ys up there back = sym (unchanged o xs up) ∙ same_in_order xs ys there back
 
 -- ---- the places of the items that pass a test
 
@@ -42,12 +47,6 @@ sorted_places test xs ns there back =
     (λ n found. let p = place_passes test xs n found in back n p.0 p.1 p.2)
     (λ n found. let h = there n found in passing_place test xs n h.0 h.1 h.2))
 
--- they are below the length of the list
-pub places_below : {X : Type 0} (test : X → Bool) (xs : List X) (n : ℕ) → Contains (numbers_where 0 test xs) n → n < length xs
-places_below test xs n found =
-    let p = place_passes test xs n found in
-    slice_get_within xs n p.0 p.1
-
 -- numbers that are sorted, each once, are the numbers in order
 pub sorted_numbers : (ns sorted : List ℕ) → IsPermutation ns sorted → IsSorted nat_cmp sorted → dedup eqb sorted ≡ sorted_by nat_cmp ns
 sorted_numbers ns sorted moved up =
@@ -56,14 +55,12 @@ sorted_numbers ns sorted moved up =
     (λ n found. Contains-permutation sorted ns n (IsPermutation-sym ns sorted moved) (Contains-from_dedup eqb sorted n found))
     (λ n found. Contains-dedup_nat sorted n (Contains-permutation ns sorted n moved found))
 
+-- so they rise
+pub rising_increases : (ns : List ℕ) → IsStrictlyIncreasing (sorted_by nat_cmp ns)
+rising_increases ns = IsStrictlyIncreasing-from_sorted (sorted_by nat_cmp ns) (rises nat_cmp ns)
+
 -- one number, or none, rises as it is
-few_sorted : (ns : List ℕ) → length ns ≤ 1 → ns ≡ sorted_by nat_cmp ns
+pub few_sorted : (ns : List ℕ) → length ns ≤ 1 → ns ≡ sorted_by nat_cmp ns
 few_sorted ns few =
     let rises : IsStrictlyIncreasing ns = λ k lt. absurd (omega (arith, few, lt)) in
     sorted_is nat_cmp_total nat_cmp-IsAntisymmetric ns ns (sorted_from_strictly_increasing ns rises) (λ n found. found) (λ n found. found)
-
-pub none_rises : [] ≡ sorted_by nat_cmp []
-none_rises = few_sorted [] (omega arith)
-
-pub one_rises : (n : ℕ) → n ∷ [] ≡ sorted_by nat_cmp (n ∷ [])
-one_rises n = few_sorted (n ∷ []) (omega arith)

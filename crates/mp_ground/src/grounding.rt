@@ -12,7 +12,7 @@ ghost use Rattle.mp_ground.specs.Refusals.{IsRefusedAt};
 use crate::grounded::Ground;
 use crate::names::fact_names;
 use crate::refusal::GroundRefusal;
-use crate::turning::turned;
+use crate::turning::{Instances, turned};
 use indexmap::IndexSet;
 use mp_ground_facts::{FactRefusal, GroundFact, numbered_facts};
 use mp_grounder::laws::checked_factor_is_checked;
@@ -83,5 +83,6 @@ pub fn ground(
     let list = all_instances(alloc, me, &lifted)?;
     let facts = numbered(alloc, me, &lifted, &list)?;
     let names = fact_names(alloc, factor.factor(), lifted.private_objects.len())?;
-    Ok(turned(alloc, me, &names, &lifted, &facts, list)?)
+    let factor = &lifted;
+    Ok(turned(alloc, me, &names, &facts, Instances { factor, list })?)
 }

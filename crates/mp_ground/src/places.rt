@@ -29,12 +29,22 @@ fn list_of(alloc: Global, numbers: &[u32]) -> Result<FactList, OutOfMemory>
     Ok(list)
 }
 
-/// Some numbers in rising order, each once.
+/// Puts numbers in rising order, each once. Most actions have no or one number, which stands so already.
+fn put_in_order(numbers: &mut Vec<u32>)
+    ensures { numbers.new.items ≡ rising numbers.old.items }
+{
+    if numbers.len() <= 1 {
+        return;
+    }
+    numbers.sort_unstable();
+    numbers.dedup();
+}
+
+/// Some numbers in rising order, each once, as a list of facts.
 fn rising_list(alloc: Global, numbers: &mut Vec<u32>) -> Result<FactList, OutOfMemory>
     ensures { IfOk result (λ list. list ≡ rising numbers.old.items) }
 {
-    numbers.sort_unstable();
-    numbers.dedup();
+    put_in_order(numbers);
     list_of(alloc, numbers.as_slice())
 }
 
@@ -86,40 +96,7 @@ fn add_public(out: &mut Vec<u32>, places: &Places, numbers: &[u32]) -> Result<()
     Ok(())
 }
 
-/// The list of one number.
-#[tactic(auto, using(crate::proofs::Rising::one_rises))]
-fn list_of_one(alloc: Global, number: u32) -> Result<FactList, OutOfMemory>
-    ensures { IfOk result (λ list. list ≡ rising (number ∷ [])) }
-{
-    let mut list = FactList::new(alloc);
-    list.push(number)?;
-    Ok(list)
-}
-
-/// The list of a number where it is that of a private fact.
-#[tactic(auto, using(crate::proofs::Rising::none_rises))]
-fn one_private(alloc: Global, places: &Places, number: u32) -> Result<FactList, OutOfMemory>
-    ensures { IfOk result (λ list. list ≡ rising (private_numbers places.now (number ∷ []))) }
-{
-    if number < places.privates {
-        return list_of_one(alloc, number);
-    }
-    Ok(FactList::new(alloc))
-}
-
-/// The list of the place of a number where it is that of a public fact.
-#[tactic(auto, using(crate::proofs::Rising::none_rises))]
-fn one_public(alloc: Global, places: &Places, number: u32) -> Result<FactList, OutOfMemory>
-    ensures { IfOk result (λ list. list ≡ rising (public_numbers places.now (number ∷ []))) }
-{
-    if number < places.privates {
-        return Ok(FactList::new(alloc));
-    }
-    list_of_one(alloc, public_place(places, number))
-}
-
-/// The private ones of some facts by their numbers. Most actions have no or one number, which needs no
-/// `scratch`.
+/// The private ones of some facts by their numbers. What `scratch` has is lost.
 pub fn private_places(
     alloc: Global,
     scratch: &mut Vec<u32>,
@@ -128,19 +105,12 @@ pub fn private_places(
 ) -> Result<FactList, OutOfMemory>
     ensures { IfOk result (λ list. list ≡ rising (private_numbers places.now numbers.now)) }
 {
-    match numbers {
-        [] => Ok(FactList::new(alloc)),
-        [number] => one_private(alloc, places, *number),
-        _ => {
-            scratch.clear();
-            add_private(scratch, places, numbers)?;
-            rising_list(alloc, scratch)
-        }
-    }
+    scratch.clear();
+    add_private(scratch, places, numbers)?;
+    rising_list(alloc, scratch)
 }
 
-/// The public ones of some facts by the places of their texts. Most actions have no or one number, which
-/// needs no `scratch`.
+/// The public ones of some facts by the places of their texts. What `scratch` has is lost.
 pub fn public_places(
     alloc: Global,
     scratch: &mut Vec<u32>,
@@ -149,13 +119,7 @@ pub fn public_places(
 ) -> Result<FactList, OutOfMemory>
     ensures { IfOk result (λ list. list ≡ rising (public_numbers places.now numbers.now)) }
 {
-    match numbers {
-        [] => Ok(FactList::new(alloc)),
-        [number] => one_public(alloc, places, *number),
-        _ => {
-            scratch.clear();
-            add_public(scratch, places, numbers)?;
-            rising_list(alloc, scratch)
-        }
-    }
+    scratch.clear();
+    add_public(scratch, places, numbers)?;
+    rising_list(alloc, scratch)
 }

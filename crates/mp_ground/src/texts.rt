@@ -14,33 +14,17 @@ use mp_ground_facts::GroundFact;
 use mp_lifted::FactTexts;
 use mp_list::{Copied, List, OutOfMemory};
 use mp_sexp::{Name, NameList, NameTable};
-use mp_views::sorted_once;
+use mp_views::{push_name, sorted_once};
 use std::alloc::Global;
 
-/// The bytes of a name, in which no letter is to be folded.
-fn bytes_of(name: &Name) -> &[u8]
-    ensures { folded result.now ≡ name.now }
-{
-    name.as_slice()
-}
-
-/// The bytes of the name with a number: none where there is no such name.
-fn name_bytes<'a>(names: &Names<'a>, number: u32) -> &'a [u8]
-    ensures { folded result.now ≡ name_at names.now number }
-{
-    match names.name(number as usize) {
-        Some(name) => bytes_of(name),
-        None => &[],
-    }
-}
-
-/// Appends the name with a number.
-#[tactic(auto, using(mp_views::proofs::FoldedLemmas::fact_steps))]
-fn push_name(text: &mut Vec<u8>, names: &Names<'_>, number: u32) -> Result<(), OutOfMemory>
+/// Appends the name with a number: nothing where there is no such name.
+fn push_numbered(text: &mut Vec<u8>, names: &Names<'_>, number: u32) -> Result<(), OutOfMemory>
     ensures { OnOk result (folded text.new.items ≡ folded text.old.items ++ name_at names.now number) }
 {
-    text.extend_from_slice(name_bytes(names, number))?;
-    Ok(())
+    match names.name(number as usize) {
+        Some(name) => push_name(text, name),
+        None => Ok(()),
+    }
 }
 
 /// Appends the names with these numbers, each behind one space.
@@ -51,7 +35,7 @@ fn push_names(text: &mut Vec<u8>, names: &Names<'_>, numbers: &[u32]) -> Result<
 {
     for number in numbers {
         text.push(b' ')?;
-        push_name(text, names, *number)?;
+        push_numbered(text, names, *number)?;
     }
     Ok(())
 }
@@ -68,7 +52,7 @@ fn push_fact(
         (name_at names.now.predicates predicate ∷ map (name_at names.now.objects) objects.now)) }
 {
     text.push(b'(')?;
-    push_name(text, &names.predicates, predicate)?;
+    push_numbered(text, &names.predicates, predicate)?;
     push_names(text, &names.objects, objects)?;
     text.push(b')')?;
     Ok(())
@@ -130,24 +114,7 @@ fn count_private(facts: &[GroundFact]) -> usize
     ensures count { result ≡ count_of_private facts.now }
     ensures within { result ≤ length facts.now }
 {
-    let mut count: usize = 0;
-    for fact in facts {
-        if !fact.is_public {
-            count += 1;
-        }
-    }
-    count
-}
-
-/// Texts in the order of their bytes, each once.
-fn in_order(alloc: Global, texts: &[Name]) -> Result<FactTexts, OutOfMemory>
-    ensures { IfOk result (λ sorted. sorted ≡ once_sorted texts.now) }
-{
-    let mut all = Vec::with_capacity(alloc, texts.len())?;
-    for text in texts {
-        all.push(text.copy()?)?;
-    }
-    sorted_once(alloc, all)
+    facts.iter().filter(|fact| !fact.is_public).count()
 }
 
 /// The number of a name in a table.
@@ -192,7 +159,7 @@ pub fn publics_of(
 {
     let privates = count_private(facts);
     let spelled = texts_of(alloc, names, &facts[privates..])?;
-    let texts = in_order(alloc, spelled.as_slice())?;
+    let texts = sorted_once(alloc, Name::copy_all(alloc, spelled.as_slice())?)?;
     let publics = numbers_in(alloc, &texts, spelled.as_slice())?;
     Ok(Publics {
         texts,

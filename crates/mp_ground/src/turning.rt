@@ -106,25 +106,32 @@ fn goals_of(
     Ok((publics, privates))
 }
 
+/// A factor in numbers, and its instances.
+#[derive(Drop)]
+pub struct Instances<'a> {
+    pub factor: &'a LiftedFactor,
+    pub list: ActionBindingList,
+}
+
 /// The factor of an agent that is grounded to these instances with these facts, by their places.
 #[tactic(auto, using(crate::proofs::Steps::instances_stay))]
 pub fn turned(
     alloc: Global,
     me: Agent,
     names: &FactNames<'_>,
-    lifted: &LiftedFactor,
     facts: &IndexSet<GroundFact>,
-    instances: ActionBindingList,
+    instances: Instances<'_>,
 ) -> Result<Ground, OutOfMemory>
     requires { length facts.now.keys ≤ 65535 }
     ensures { IfOk result (λ made. made
-        ≡ ground_at me names.now (ground_with lifted.now facts.now.keys instances)) }
+        ≡ ground_at me names.now (ground_with instances.entry.factor.now facts.now.keys instances.entry.list)) }
 {
+    let Instances { factor, list } = instances;
     let publics = publics_of(alloc, names, facts.as_slice())?;
     let places = &publics.places;
-    let start = start_of(alloc, places, facts, lifted)?;
-    let (goal_pub, goal_priv) = goals_of(alloc, places, facts, lifted)?;
-    let acts = own_acts(alloc, places, facts, lifted, &instances)?;
+    let start = start_of(alloc, places, facts, factor)?;
+    let (goal_pub, goal_priv) = goals_of(alloc, places, facts, factor)?;
+    let acts = own_acts(alloc, places, facts, factor, &list)?;
     Ok(Ground {
         me,
         privates: publics.places.privates,
@@ -133,6 +140,6 @@ pub fn turned(
         goal_pub,
         goal_priv,
         acts,
-        steps: instances,
+        steps: list,
     })
 }

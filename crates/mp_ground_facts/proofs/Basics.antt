@@ -1,6 +1,6 @@
 -- What the proofs of this crate cite of the standard library, of the crates below, and of the definitions here, under one name.
-pub use Rattle.std.proofs.Common.{Bool, Less, List, Some, [], ap, arith, cond, drop, false, filter, get_or, length, map, not, refl, subst, suc, sym, true, ℕ, ◌&&◌, ◌++◌}
-pub use Rattle.std.proofs.Common.{◌+◌, ◌<◌, ◌||◌, ◌∙◌, ◌∷◌, ◌≡◌, ◌≤◌}
+pub use Rattle.std.proofs.Common.{Bool, Less, List, Some, [], ap, arith, cond, drop, false, filter, length, map, refl, subst, sym, true, ℕ, ◌&&◌, ◌++◌}
+pub use Rattle.std.proofs.Common.{◌+◌, ◌<◌, ◌||◌, ◌∙◌, ◌∷◌, ◌≡◌}
 pub use Rattle.std.proofs.lemmas.Bool.{false≢true}
 pub use Rattle.std.specs.Bool.{Decides}
 pub use Rattle.std.specs.Cmp.{IsTotalOrder}

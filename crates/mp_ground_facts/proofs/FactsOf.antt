@@ -1,11 +1,17 @@
 -- The facts that are counted, in their order.
-use Rattle.mp_ground_facts.proofs.Basics.{◌≡◌, ℕ, suc, ◌+◌, Bool, true, false, cond, not, ◌||◌, List, [], ◌∷◌, Some, Less, refl, sym, ap, subst, ◌∙◌, arith, list_any, IsDistinct, AllByRecursion, IsSorted, IsStrictlySortedBy, eq_by_cmp, is_eq}
-use Rattle.mp_ground_facts.proofs.Basics.{false≢true, insert_all, LiftedFactor, GroundFact, fact_cmp, same_fact, number_of}
-use Rattle.std.proofs.Common.{zero, slice_get, Contains}
+use Rattle.mp_ground_facts.proofs.Basics.{◌≡◌, ℕ, ◌<◌, length, Bool, true, List, [], Some, sym, ap, subst, ◌∙◌, arith, list_any, IsDistinct, IsSorted, IsStrictlySortedBy, eq_by_cmp}
+use Rattle.mp_ground_facts.proofs.Basics.{insert_all, LiftedFactor, GroundFact, fact_cmp, same_fact, number_of}
+use Rattle.std.proofs.Common.{slice_get, Contains}
 use Rattle.std.specs.Prelude.{◌↔◌}
 use Rattle.std.specs.Cmp.{tied_itself}
 use Rattle.std.specs.List.{position_or_len}
+use Rattle.std.proofs.Common.{inl, inr}
+use Rattle.std.proofs.lemmas.Bool.{both_ways, cases_lt, cases_order}
+use Rattle.std.proofs.lemmas.List.Folds.{list_any_none}
+use Rattle.std.proofs.lemmas.List.Sums.{fails_before_first, passes_at_first}
+use Rattle.std.proofs.lemmas.Map.Keys.{Less-from_sorted}
 use Rattle.std.proofs.lemmas.Map.Made.{is_member-Decides}
+use Rattle.std.proofs.lemmas.Option.{get_or_from_slice_get, slice_get-get_or, slice_get_within}
 use Rattle.mp_lifted.specs.Binding.{ActionBinding}
 use Rattle.mp_ground_facts.specs.Touched.{counted}
 use Rattle.mp_ground_facts.specs.Ground.{facts_of}
@@ -45,42 +51,37 @@ facts_are_counted factor instances f =
     let in_all = is_member-Decides Decides-same_fact all f in
     (λ here. in_all.0 (sym same ∙ in_facts.1 here), λ here. in_facts.0 (same ∙ in_all.1 here))
 
-next : (n : ℕ) → suc n ≡ 1 + n
-next n = omega arith
-
 -- a fact that is there stands at its number
 place_of : (fs : List GroundFact) (q : GroundFact) → list_any (same_fact q) fs ≡ true → slice_get fs (position_or_len (same_fact q) fs) ≡ Some q
-place_of [] q here = absurd (false≢true here)
-place_of (f ∷ fs) q here = by (same_fact q f) refl here (place_of fs q)
-  where
-    by : (b : Bool) → same_fact q f ≡ b → (b || list_any (same_fact q) fs) ≡ true
-        → (list_any (same_fact q) fs ≡ true → slice_get fs (position_or_len (same_fact q) fs) ≡ Some q)
-        → slice_get (f ∷ fs) (cond (not b) (1 + position_or_len (same_fact q) fs) 0) ≡ Some q
-    by true e here rest = ap Some (sym ((Decides-same_fact q f).0 e))
-    by false e here rest = subst (λ (k : ℕ). slice_get (f ∷ fs) k ≡ Some q) (next (position_or_len (same_fact q) fs)) (rest here)
+place_of fs q here =
+    elim (cases_lt (position_or_len (same_fact q) fs) (length fs)) [
+      | inl less ↦
+          slice_get-get_or fs (position_or_len (same_fact q) fs) q less
+          ∙ ap Some (sym ((Decides-same_fact q _).0 (passes_at_first (same_fact q) fs q less)))
+      | inr past ↦ absurd (both_ways _ (list_any_none (same_fact q) fs (λ k d less. fails_before_first (same_fact q) fs k d (omega arith))) here)
+    ]
 
 pub facts_stand : (factor : LiftedFactor) (instances : List ActionBinding) (f : GroundFact) → Contains (counted factor instances) f
     → slice_get (facts_of factor instances) (number_of (facts_of factor instances) f) ≡ Some f
 facts_stand factor instances f here =
     place_of (facts_of factor instances) f (has_facts factor instances f ∙ (is_member-Decides Decides-same_fact (counted factor instances) f).1 here)
 
-the_item : (f g : GroundFact) → Some f ≡ Some g → f ≡ g
-the_item f g e = cc
-
 -- of facts that rise strictly none stands at two places
-apart : (f g : GroundFact) → f ≡ g → fact_cmp f g ≡ Less → ⊥
-apart f g e less =
-    false≢true (sym (ap is_eq less) ∙ ap (λ (h : GroundFact). is_eq (fact_cmp f h)) (sym e) ∙ ap is_eq (tied_itself fact_total f))
-
-there : (f g : GroundFact) (fs : List GroundFact) (k : ℕ) → AllByRecursion (λ h. fact_cmp f h ≡ Less) fs → slice_get fs k ≡ Some g → fact_cmp f g ≡ Less
-there f g [] k all is = absurd cc
-there f g (h ∷ fs) zero all is = subst (λ (x : GroundFact). fact_cmp f x ≡ Less) (the_item h g is) all.0
-there f g (h ∷ fs) (suc k) all is = there f g fs k all.1 is
+apart : (fs : List GroundFact) → IsStrictlySortedBy fact_cmp fs → (i j : ℕ) (f : GroundFact) → slice_get fs i ≡ Some f → slice_get fs j ≡ Some f → i < j → ⊥
+apart fs rises i j f is_i is_j before =
+    let less = Less-from_sorted fact_cmp fs i j f rises before (slice_get_within fs j f is_j) in
+    let at_i = get_or_from_slice_get fs i f f is_i in
+    let at_j = get_or_from_slice_get fs j f f is_j in
+    let no = sym (tied_itself fact_total f) ∙ sym (λ k. fact_cmp (at_i k) (at_j k)) ∙ less in
+    cc
 
 pub one_place : (fs : List GroundFact) → IsStrictlySortedBy fact_cmp fs → (i j : ℕ) (f : GroundFact) → slice_get fs i ≡ Some f → slice_get fs j ≡ Some f → i ≡ j
-unfolding IsStrictlySortedBy
-one_place [] rises i j f is_i is_j = absurd cc
-one_place (g ∷ fs) rises zero zero f is_i is_j = refl
-one_place (g ∷ fs) rises zero (suc j) f is_i is_j = absurd (apart g f (the_item g f is_i) (there g f fs j rises.0 is_j))
-one_place (g ∷ fs) rises (suc i) zero f is_i is_j = absurd (apart g f (the_item g f is_j) (there g f fs i rises.0 is_i))
-one_place (g ∷ fs) rises (suc i) (suc j) f is_i is_j = ap suc (one_place fs rises.1 i j f is_i is_j)
+one_place fs rises i j f is_i is_j =
+    elim (cases_order i j) [
+      | inl same ↦ same
+      | inr differ ↦
+          elim differ [
+            | inl before ↦ absurd (apart fs rises i j f is_i is_j before)
+            | inr behind ↦ absurd (apart fs rises j i f is_j is_i behind)
+          ]
+    ]

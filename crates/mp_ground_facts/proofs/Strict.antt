@@ -1,30 +1,26 @@
 -- Lists that rise strictly, and the keys of a map that has nothing at each of them.
-use Rattle.mp_ground_facts.proofs.Basics.{◌≡◌, ℕ, suc, ◌<◌, ◌≤◌, Bool, true, false, ◌&&◌, List, [], ◌∷◌, map, length, get_or, refl, sym, ap, subst, ◌∙◌, arith, Some, Less, list_any, IsDistinct, AllByRecursion, IsSorted, IsStrictlySortedBy, eq_by_cmp}
-use Rattle.mp_ground_facts.proofs.Basics.{is_eq, IsTotalOrder, IsAntisymmetric, false≢true}
+use Rattle.mp_ground_facts.proofs.Basics.{◌≡◌, ◌+◌, Bool, true, false, ◌&&◌, List, [], ◌∷◌, map, refl, sym, ap, subst, ◌∙◌, arith, Some, Less, list_any, IsDistinct, AllByRecursion, IsSorted, IsStrictlySortedBy, eq_by_cmp}
+use Rattle.mp_ground_facts.proofs.Basics.{is_eq, IsTotalOrder, IsAntisymmetric}
 use Rattle.std.proofs.Common.{Option, None, Ordering, Equal, Greater, is_some}
 use Rattle.std.specs.Prelude.{T}
 use Rattle.std.specs.Ordering.{is_lt, ordering_reverse}
 use Rattle.std.specs.FinMap.{FinMap, entries, entries_sorted, from_entries, keys, get-entries, get-from_entries, contains_key-keys}
 use Rattle.std.specs.FinMap.Entries.{below_all, find, is_some-find, is_sorted, same_entries}
-use Rattle.std.proofs.lemmas.List.MinMax.{ranks_by}
-use Rattle.std.proofs.lemmas.List.Sorted.{sorted_far}
+use Rattle.std.proofs.lemmas.Map.Keys.{apart_from_distinct, sorted_from_all_adjacent}
+use Rattle.mp_ground_facts.specs.Ground.{with_nothing}
 
 both : (a b : Bool) → T a → T b → T (a && b)
 both true b p q = q
 both false b p q = p
 
-first : (a b : Bool) → T (a && b) → T a
-first true b p = tt
-first false b p = p
-
-second : (a b : Bool) → T (a && b) → T b
-second true b p = p
-second false b p = absurd p
+split : (a b : Bool) → T (a && b) → T a × T b
+split true b p = (tt, p)
+split false b p = absurd p
 
 less_of : (o : Ordering) → is_lt (ordering_reverse o) ≡ false → is_eq o ≡ false → o ≡ Less
 less_of Less not_above differ = refl
-less_of Equal not_above differ = absurd (false≢true (sym differ))
-less_of Greater not_above differ = absurd (false≢true (sym not_above))
+less_of Equal not_above differ = absurd (cc)
+less_of Greater not_above differ = absurd (cc)
 
 is_less : (o : Ordering) → o ≡ Less → T (is_lt o)
 is_less o e = subst (λ r. T (is_lt r)) (sym e) tt
@@ -36,33 +32,18 @@ less_is Greater h = absurd h
 
 same_mark : (x y : Option (Unit {0})) → is_some x ≡ is_some y → x ≡ y
 same_mark None None e = refl
-same_mark None (Some u) e = absurd (false≢true e)
-same_mark (Some u) None e = absurd (false≢true (sym e))
+same_mark None (Some u) e = absurd (cc)
+same_mark (Some u) None e = absurd (cc)
 same_mark (Some u) (Some v) e = refl
 
--- an entry that has nothing at its key
-abbrev pub with_nothing : {K : Type 0} → K → K × Unit {0}
-with_nothing k = (k, tt)
-
-module _ {K : Type 0} {R : K → K → Ordering} (o : IsTotalOrder R) where
-  above : (x : K) (ys : List K) → ((k : ℕ) → k < length ys → is_lt (R (get_or ys k x) x) ≡ false) → AllByRecursion (λ y. eq_by_cmp R x y ≡ false) ys → AllByRecursion (λ y. R x y ≡ Less) ys
-  above x [] far differ = tt
-  above x (y ∷ ys) far differ = (
-    less_of (R x y) (ap is_lt (sym (o.antisymm y x)) ∙ far 0 (omega arith)) differ.0,
-    above x ys (λ k lt. far (suc k) (omega arith)) differ.1,
-  )
-
-  strict_far : (xs : List K) → ((i j : ℕ) (d : K) → i ≤ j → j < length xs → is_lt (R (get_or xs j d) (get_or xs i d)) ≡ false) → IsDistinct (eq_by_cmp R) xs → IsStrictlySortedBy R xs
-  unfolding IsDistinct IsStrictlySortedBy
-  strict_far [] far differ = tt
-  strict_far (x ∷ xs) far differ = (
-    above x xs (λ k lt. far 0 (suc k) x (omega arith) (omega arith)) differ.0,
-    strict_far xs (λ i j d le lt. far (suc i) (suc j) d (omega arith) (omega arith)) differ.1,
-  )
-
-  -- a list that is sorted and has no item twice rises strictly
-  pub strict : (xs : List K) → IsSorted R xs → IsDistinct (eq_by_cmp R) xs → IsStrictlySortedBy R xs
-  strict xs up differ = strict_far xs (sorted_far (λ x y. is_lt (R x y)) (ranks_by o (λ (x : K). x)) xs up) differ
+-- a list that is sorted and has no item twice rises strictly
+pub strict : {K : Type 0} {R : K → K → Ordering} → IsTotalOrder R → (xs : List K) → IsSorted R xs → IsDistinct (eq_by_cmp R) xs → IsStrictlySortedBy R xs
+unfolding IsStrictlySortedBy
+strict o [] up differ = tt
+strict {R = R} o (x ∷ xs) up differ =
+    sorted_from_all_adjacent o (x ∷ xs) x (λ k less.
+    less_of _ (ap is_lt (sym (o.antisymm _ _)) ∙ up k x (omega arith) less)
+    (apart_from_distinct (eq_by_cmp R) (x ∷ xs) k (k + 1) x differ (omega arith) less))
 
 keys_back : {K : Type 0} (xs : List K) → map (λ (e : K × Unit {0}). e.0) (map with_nothing xs) ≡ xs
 keys_back [] = refl
@@ -80,12 +61,12 @@ module _ {K : Type 0} (R : K → K → Ordering) where
 
   of_below : (x : K) (es : List (K × Unit {0})) → T (below_all R x es) → AllByRecursion (λ y. R x y ≡ Less) (map (λ e. e.0) es)
   of_below x [] h = tt
-  of_below x (e ∷ es) h = (less_is (R x e.0) (first _ _ h), of_below x es (second _ _ h))
+  of_below x (e ∷ es) h = let parts = split _ _ h in (less_is _ parts.0, of_below x es parts.1)
 
   of_sorted : (es : List (K × Unit {0})) → T (is_sorted R es) → IsStrictlySortedBy R (map (λ e. e.0) es)
   unfolding IsStrictlySortedBy
   of_sorted [] h = tt
-  of_sorted (e ∷ es) h = (of_below e.0 es (first _ _ h), of_sorted es (second _ _ h))
+  of_sorted (e ∷ es) h = let parts = split _ _ h in (of_below e.0 es parts.0, of_sorted es parts.1)
 
   has_key : (q : K) (xs : List K) → is_some (find R q (map with_nothing xs)) ≡ list_any (eq_by_cmp R q) xs
   has_key q xs = is_some-find R q (map with_nothing xs) ∙ ap (list_any (eq_by_cmp R q)) (keys_back xs)

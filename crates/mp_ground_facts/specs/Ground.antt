@@ -34,8 +34,8 @@ pub record GroundFactor : Type 0 where
   pub goals : List ℕ
 
 -- an entry of a map that has nothing at its keys
-abbrev pub with_nothing : GroundFact → GroundFact × Unit {0}
-with_nothing f = (f, tt)
+abbrev pub with_nothing : {K : Type 0} → K → K × Unit {0}
+with_nothing k = (k, tt)
 
 -- the facts and complements that an instance touches or a goal names, each once, in their order:
 -- the keys of a map that has each of them

@@ -1,18 +1,16 @@
 -- The counted facts in numbers stand for those by names, different ones for different ones and in the same order.
-use Rattle.mp_grounder.proofs.Basics.{◌≡◌, ℕ, Bool, true, false, not, List, [], ◌∷◌, ◌++◌, map, Option, Some, None, slice_get, is_none, refl, sym, ap, ◌∙◌, map-append, flat_map, option_map_or, Factor, number_in, SignedFact, GroundAtom, LiftedAction}
-use Rattle.mp_grounder.proofs.Basics.{LiftedFactor, OpenView, lifted_factor, setting_of, vocabulary_of, ActionBinding, is_private, instances, GroundFact, fact_cmp, needed, added, deleted, touched, of_action, goal_facts, counted, IsChecked}
+use Rattle.mp_grounder.proofs.Basics.{◌≡◌, ℕ, not, List, [], ◌∷◌, ◌++◌, map, Option, Some, None, slice_get, refl, sym, ap, ◌∙◌, map-append, flat_map, option_map_or, Factor, SignedFact, GroundAtom, LiftedAction}
+use Rattle.mp_grounder.proofs.Basics.{LiftedFactor, OpenView, lifted_factor, setting_of, ActionBinding, is_private, instances, GroundFact, fact_cmp, needed, added, deleted, touched, of_action, goal_facts, counted, IsChecked}
 use Rattle.mp_grounder.proofs.Basics.{counted_facts, signed_cmp, named_instance, signed_fact, IsOfFactor}
 use Rattle.std.specs.Ordering.{ordering_then, bool_cmp, nat_cmp}
 use Rattle.std.specs.Cmp.Lexicographic.{slice_cmp}
 use Rattle.mp_ground_facts.specs.Facts.{atom_of}
 use Rattle.mp_grounder.specs.Counted.{touched_by}
-use Rattle.mp_grounder.proofs.Facts.{different_facts, objects_distinct}
+use Rattle.mp_grounder.proofs.Facts.{atom_again, different_facts}
 use Rattle.mp_grounder.proofs.Grounding.{instances_stand}
-use Rattle.mp_grounder.proofs.Needed.{goals_stand}
-use Rattle.mp_grounder.proofs.Numbered.{number_at}
+use Rattle.mp_grounder.proofs.Needed.{goals_stand, not_not}
 use Rattle.mp_grounder.proofs.Parts.{HasParts, parts_of}
 use Rattle.mp_grounder.proofs.Starts.{public_is}
-use Rattle.mp_grounder.proofs.Texts.{numbers_again}
 
 -- ---- the counted facts
 
@@ -44,49 +42,25 @@ counted_stand agent factor view checked =
 
 -- ---- different ones
 
-not_not : (b : Bool) → not (not b) ≡ b
-not_not true = refl
-not_not false = refl
-
 pub different_signed : (agent : ℕ) (factor : Factor) (view : OpenView) (f g : GroundFact) → HasParts factor → IsOfFactor factor view f → IsOfFactor factor view g
     → signed_fact agent factor f ≡ signed_fact agent factor g → f ≡ g
 different_signed agent factor view f g parts first second h =
     let atoms : atom_of f ≡ atom_of g =
     different_facts agent factor (atom_of f) (atom_of g) parts first.range second.range (ap (λ (x : SignedFact). x.fact) h) in
     let signs : f.is_complement ≡ g.is_complement =
-    sym (not_not f.is_complement) ∙ ap (λ (x : SignedFact). not x.positive) h ∙ not_not g.is_complement in
+    not_not f.is_complement ∙ ap (λ (x : SignedFact). not x.positive) h ∙ sym (not_not g.is_complement) in
     let publics : f.is_public ≡ g.is_public =
     first.public ∙ ap (λ (a : GroundAtom). not (is_private (lifted_factor factor view) a)) atoms ∙ sym second.public in
-    let predicates : f.predicate ≡ g.predicate = ap (λ (a : GroundAtom). a.symbol) atoms in
-    let objects : f.objects ≡ g.objects = ap (λ (a : GroundAtom). a.args) atoms in
-    λ i. record { is_public = publics i; is_complement = signs i; predicate = predicates i; objects = objects i }
+    λ i. record { is_public = publics i; is_complement = signs i; predicate = (atoms i).symbol; objects = (atoms i).args }
 
 -- ---- their order
-
-by_parts : (f g : GroundFact) → fact_cmp f g
-    ≡ ordering_then (bool_cmp f.is_public g.is_public)
-    (ordering_then (bool_cmp f.is_complement g.is_complement)
-    (ordering_then (nat_cmp f.predicate g.predicate) (slice_cmp nat_cmp f.objects g.objects)))
-by_parts f g = refl
-
-record IsRead (agent : ℕ) (factor : Factor) (f : GroundFact) : Type 0 where
-  public : is_none (signed_fact agent factor f).fact.owner ≡ f.is_public
-  predicate : number_in (vocabulary_of factor).predicates (signed_fact agent factor f).fact.predicate ≡ f.predicate
-  objects : map (number_in (vocabulary_of factor).objects) (signed_fact agent factor f).fact.args ≡ f.objects
-
-read : (agent : ℕ) (factor : Factor) (view : OpenView) (f : GroundFact) → HasParts factor → IsOfFactor factor view f → IsRead agent factor f
-read agent factor view f parts is = record {
-  public = sym (is.public ∙ public_is agent factor view (atom_of f) is.range);
-  predicate = number_at (vocabulary_of factor).predicates f.predicate parts.predicates is.range.symbol;
-  objects = numbers_again (vocabulary_of factor).objects f.objects (objects_distinct factor) is.range.args;
-}
 
 pub same_order : (agent : ℕ) (factor : Factor) (view : OpenView) (f g : GroundFact) → HasParts factor → IsOfFactor factor view f → IsOfFactor factor view g
     → signed_cmp factor (signed_fact agent factor f) (signed_fact agent factor g) ≡ fact_cmp f g
 same_order agent factor view f g parts first second =
-    let a = read agent factor view f parts first in
-    let b = read agent factor view g parts second in
-    (λ i. ordering_then (bool_cmp (a.public i) (b.public i))
-    (ordering_then (bool_cmp (not_not f.is_complement i) (not_not g.is_complement i))
-    (ordering_then (nat_cmp (a.predicate i) (b.predicate i)) (slice_cmp nat_cmp (a.objects i) (b.objects i)))))
-    ∙ sym (by_parts f g)
+    let a = atom_again agent factor (atom_of f) parts first.range in
+    let b = atom_again agent factor (atom_of g) parts second.range in
+    let publics = λ (h : GroundFact) (is : IsOfFactor factor view h). sym (is.public ∙ public_is agent factor view (atom_of h) is.range) in
+    λ i. ordering_then (bool_cmp (publics f first i) (publics g second i))
+    (ordering_then (bool_cmp (sym (not_not f.is_complement) i) (sym (not_not g.is_complement) i))
+    (ordering_then (nat_cmp (a i).symbol (b i).symbol) (slice_cmp nat_cmp (a i).args (b i).args)))

@@ -1,15 +1,15 @@
 -- What the checks say of the names in a factor: which are declared.
-use Rattle.mp_grounder.proofs.Basics.{◌≡◌, ℕ, ◌==◌, Bool, true, false, ◌||◌, ◌&&◌, not, List, [], ◌∷◌, ◌++◌, map, filter, length, All, Option, Some, None, if◌then◌else◌, refl, sym, ap, subst, inl, inr, cases_Bool, eqb-true, All-nil, All-cons}
-use Rattle.mp_grounder.proofs.Basics.{All-head, All-tail, find, flat_map, option_map, bytes_eq, File, Word, Typed, Signature, Term, Atom, Literal, Increase, Number, Function, Value, Schema, Factor, is_named, swapped, fault_at, objects_of}
-use Rattle.mp_grounder.proofs.Basics.{repeated_faults, is_declared, Text, asked_atoms, negated_atoms, is_total_cost}
+use Rattle.mp_grounder.proofs.Basics.{◌≡◌, ℕ, Bool, true, false, ◌||◌, ◌&&◌, not, List, [], ◌∷◌, ◌++◌, map, length, All, Option, Some, None, slice_get, if◌then◌else◌, refl, sym, ap, subst, eqb-true, All-nil, All-cons}
+use Rattle.mp_grounder.proofs.Basics.{get_or_from_slice_get, All-map, find, flat_map, option_map, bytes_eq, File, Word, Typed, Signature, Term, Atom, Literal, Increase, Number, Function, Value, Schema, Factor, is_named, swapped}
+use Rattle.mp_grounder.proofs.Basics.{is_declared, Text, asked_atoms, negated_atoms, is_total_cost}
 use Rattle.std.specs.Option.{is_none}
-use Rattle.mp_grounder.proofs.NoFaults.{not_empty, none_in_first, none_in_second, not_else}
+use Rattle.std.proofs.lemmas.Option.{slice_get_within}
+use Rattle.std.proofs.lemmas.List.Elements.{All-filter}
+use Rattle.mp_grounder.proofs.NoFaults.{none_in_both, not_else}
 use Rattle.mp_forms.specs.declared.files.File.TheVariants as files
-use Rattle.mp_typing.specs.declared.fault.FaultKind.TheVariants.{Unknown, Arity}
 use Rattle.mp_typing.specs.Lookups.{arity_of}
-use Rattle.mp_typing.specs.Repeats.{parameter_faults, object_faults}
-use Rattle.mp_typing.specs.Uses.{term_faults, word_of, applied_faults, called_faults, atom_faults, literal_faults, function_faults, increase_faults}
-use Rattle.mp_typing.specs.CheckFaults.{check_faults, owner_faults, declared_faults, schema_faults, problem_faults, value_faults}
+use Rattle.mp_typing.specs.Uses.{term_faults, applied_faults, called_faults, atom_faults, literal_faults, function_faults, increase_faults}
+use Rattle.mp_typing.specs.CheckFaults.{check_faults, declared_faults, schema_faults, problem_faults, value_faults}
 use Rattle.mp_grounder.proofs.Distinct.{AreDistinct, declared_distinct}
 
 abbrev pub signature_names : List Signature → List Text
@@ -38,13 +38,23 @@ IsIncrease params factor (Function function) = IsFunction params factor function
 abbrev pub IsValue : Factor → Value → Type 0
 IsValue factor value = IsFunction [] factor value.of
 
--- ---- one atom
+-- ---- lists of faults that are empty
 
-pub none_in_four : {X : Type 0} (as' bs cs ds : List X) → as' ++ bs ++ cs ++ ds ≡ [] → (as' ≡ []) × (bs ≡ []) × (cs ≡ []) × (ds ≡ [])
-none_in_four as' bs cs ds h =
-    let three = none_in_first (as' ++ bs ++ cs) ds h in
-    let two = none_in_first (as' ++ bs) cs three in
-    (none_in_first as' bs two, none_in_second as' bs two, none_in_second (as' ++ bs) cs three, none_in_second (as' ++ bs ++ cs) ds h)
+-- many that have no fault
+all_used : {X Y : Type 0} (P : X → Type 0) (faults : X → List Y) (xs : List X) → ((x : X) → faults x ≡ [] → P x) → flat_map faults xs ≡ [] → All P xs
+all_used P faults [] each h = All-nil P
+all_used P faults (x ∷ xs) each h =
+    let none = none_in_both h in
+    All-cons P x xs (each x none.0) (all_used P faults xs each none.1)
+
+none_in_four : {X : Type 0} {as' bs cs ds : List X} → as' ++ bs ++ cs ++ ds ≡ [] → (as' ≡ []) × (bs ≡ []) × (cs ≡ []) × (ds ≡ [])
+none_in_four h =
+    let three = none_in_both h in
+    let two = none_in_both three.0 in
+    let first = none_in_both two.0 in
+    (first.0, first.1, two.1, three.1)
+
+-- ---- one atom
 
 named_by : (test later : Bool) (s : Signature) (o : Option Signature) (n : ℕ) → option_map (λ (t : Signature). length t.params) (if test then Some s else o) ≡ Some n
     → (option_map (λ (t : Signature). length t.params) o ≡ Some n → later ≡ true) → (test || later) ≡ true
@@ -59,92 +69,56 @@ has_arity name (s ∷ ss) n h =
     subst (λ test. (test || is_named (signature_names ss) name) ≡ true) (swapped s.word.name name)
     (named_by (bytes_eq s.word.name name) (is_named (signature_names ss) name) s (find (λ (t : Signature). bytes_eq t.word.name name) ss) n h (has_arity name ss n))
 
-applied_right : (file : File) (word' : Word) (count : ℕ) (o : Option ℕ) → applied_faults file word' count o ≡ [] → o ≡ Some count
-unfolding applied_faults
-applied_right file word' count None h = absurd (not_empty (fault_at Unknown file word') [] h)
-applied_right file word' count (Some n) h = ap Some (sym (eqb-true count n (not_else (count == n) (fault_at Arity file word') [] h).0))
+module _ (file : File) (params : List Typed) (factor : Factor) where
+  applied_right : (word' : Word) (count : ℕ) (o : Option ℕ) → applied_faults file word' count o ≡ [] → o ≡ Some count
+  unfolding applied_faults
+  applied_right word' count None h = absurd (cc)
+  applied_right word' count (Some n) h = ap Some (sym (eqb-true count n (not_else _ h).0))
 
-terms_declared : (file : File) (params : List Typed) (factor : Factor) (terms : List Term) → flat_map (term_faults file params factor) terms ≡ []
-    → All (IsDeclared params factor) terms
-unfolding term_faults
-terms_declared file params factor [] h = All-nil (IsDeclared params factor)
-terms_declared file params factor (t ∷ ts) h =
-    All-cons (IsDeclared params factor) t ts
-    (not_else (is_declared params factor t) (fault_at Unknown file (word_of t)) [] (none_in_first (term_faults file params factor t) (flat_map (term_faults file params factor) ts) h)).0
-    (terms_declared file params factor ts (none_in_second (term_faults file params factor t) (flat_map (term_faults file params factor) ts) h))
+  applied_used : (ss : List Signature) (atom : Atom) → applied_faults file atom.word (length atom.terms) (arity_of ss atom.word.name) ≡ []
+      → flat_map (term_faults file params factor) atom.terms ≡ [] → IsUsed (signature_names ss) params factor atom
+  unfolding term_faults
+  applied_used ss atom of_word of_terms = record {
+    named = has_arity atom.word.name ss (length atom.terms) (applied_right atom.word (length atom.terms) (arity_of ss atom.word.name) of_word);
+    terms = all_used (IsDeclared params factor) (term_faults file params factor) atom.terms (λ t none. (not_else _ none).0) of_terms;
+  }
 
-atom_used : (file : File) (params : List Typed) (factor : Factor) (atom : Atom) → atom_faults file params factor atom ≡ [] → IsAtom params factor atom
-unfolding atom_faults
-atom_used file params factor atom h =
-    let applied = applied_faults file atom.word (length atom.terms) (arity_of factor.domain.predicates atom.word.name) in
-    let terms = flat_map (term_faults file params factor) atom.terms in
-    record {
-      named = has_arity atom.word.name factor.domain.predicates (length atom.terms)
-          (applied_right file atom.word (length atom.terms) (arity_of factor.domain.predicates atom.word.name) (none_in_first applied terms h));
-      terms = terms_declared file params factor atom.terms (none_in_second applied terms h);
-    }
+  atom_used : (atom : Atom) → atom_faults file params factor atom ≡ [] → IsAtom params factor atom
+  unfolding atom_faults
+  atom_used atom h = let none = none_in_both h in applied_used factor.domain.predicates atom none.0 none.1
 
-other_function : (test : Bool) (file : File) (word' : Word) (count : ℕ) (o : Option ℕ) → test ≡ false
-    → (if test && is_none o then [] else applied_faults file word' count o) ≡ [] → applied_faults file word' count o ≡ []
-other_function true file word' count o e h = absurd (let no = e in cc)
-other_function false file word' count o e h = h
+  function_used : (f : Atom) → function_faults file params factor f ≡ [] → IsFunction params factor f
+  unfolding function_faults called_faults
+  function_used f h other =
+      let none = none_in_both h in
+      let arity = arity_of factor.domain.functions f.word.name in
+      applied_used factor.domain.functions f
+      (subst (λ b. (if b && is_none arity then [] else applied_faults file f.word (length f.terms) arity) ≡ []) other none.0) none.1
 
-function_used : (file : File) (params : List Typed) (factor : Factor) (f : Atom) → function_faults file params factor f ≡ [] → IsFunction params factor f
-unfolding function_faults called_faults
-function_used file params factor f h other =
-    let called = called_faults file f.word (length f.terms) (arity_of factor.domain.functions f.word.name) in
-    let terms = flat_map (term_faults file params factor) f.terms in
-    record {
-      named = has_arity f.word.name factor.domain.functions (length f.terms)
-          (applied_right file f.word (length f.terms) (arity_of factor.domain.functions f.word.name)
-          (other_function (is_total_cost f) file f.word (length f.terms) (arity_of factor.domain.functions f.word.name) other (none_in_first called terms h)));
-      terms = terms_declared file params factor f.terms (none_in_second called terms h);
-    }
+  increase_used : (i : Increase) → increase_faults file params factor i ≡ [] → IsIncrease params factor i
+  unfolding increase_faults
+  increase_used (Number cost) h = tt
+  increase_used (Function f) h = function_used f h
 
-increase_used : (file : File) (params : List Typed) (factor : Factor) (i : Increase) → increase_faults file params factor i ≡ [] → IsIncrease params factor i
-unfolding increase_faults
-increase_used file params factor (Number cost) h = tt
-increase_used file params factor (Function f) h = function_used file params factor f h
+-- ---- literals
 
-literal_used : (file : File) (params : List Typed) (factor : Factor) (l : Literal) → literal_faults file params factor l ≡ [] → IsAtom params factor l.atom
-unfolding literal_faults
-literal_used file params factor l h = atom_used file params factor l.atom h
-
-value_used : (factor : Factor) (v : Value) → value_faults factor v ≡ [] → IsValue factor v
-unfolding value_faults
-value_used factor v h = function_used files.Problem [] factor v.of h
-
--- ---- many
-
-all_used : {X Y : Type 0} (P : X → Type 0) (faults : X → List Y) (xs : List X) → ((x : X) → faults x ≡ [] → P x) → flat_map faults xs ≡ [] → All P xs
-all_used P faults [] each h = All-nil P
-all_used P faults (x ∷ xs) each h =
-    All-cons P x xs (each x (none_in_first (faults x) (flat_map faults xs) h)) (all_used P faults xs each (none_in_second (faults x) (flat_map faults xs) h))
-
-abbrev AtomOf : (Atom → Type 0) → Literal → Type 0
+abbrev pub AtomOf : (Atom → Type 0) → Literal → Type 0
 AtomOf P l = P l.atom
 
--- the atoms of literals that pass a test
-atoms_of_some : (P : Atom → Type 0) (test : Literal → Bool) (ls : List Literal) → All (AtomOf P) ls → All P (map (λ (l : Literal). l.atom) (filter test ls))
-atoms_of_some P test [] h = All-nil P
-atoms_of_some P test (l ∷ ls) h =
-    let rest = atoms_of_some P test ls (All-tail (AtomOf P) l ls h) in
-    elim (cases_Bool (test l)) [
-      | inl taken ↦ rw taken (All-cons P l.atom (map (λ (m : Literal). m.atom) (filter test ls)) (All-head (AtomOf P) l ls h) rest)
-      | inr left ↦ rw left rest
-    ]
-
 pub record AreUsed (params : List Typed) (factor : Factor) (literals : List Literal) : Type 0 where
+  pub all : All (AtomOf (IsAtom params factor)) literals
   pub asked : All (IsAtom params factor) (asked_atoms literals)
   pub negated : All (IsAtom params factor) (negated_atoms literals)
 
 literals_used : (file : File) (params : List Typed) (factor : Factor) (ls : List Literal) → flat_map (literal_faults file params factor) ls ≡ []
     → AreUsed params factor ls
+unfolding literal_faults
 literals_used file params factor ls h =
-    let all = all_used (AtomOf (IsAtom params factor)) (literal_faults file params factor) ls (literal_used file params factor) h in
+    let all = all_used (AtomOf (IsAtom params factor)) (literal_faults file params factor) ls (λ l. atom_used file params factor l.atom) h in
     record {
-      asked = atoms_of_some (IsAtom params factor) (λ (l : Literal). l.positive) ls all;
-      negated = atoms_of_some (IsAtom params factor) (λ (l : Literal). not l.positive) ls all;
+      all = all;
+      asked = All-map (IsAtom params factor) (λ (l : Literal). l.atom) _ (All-filter (λ (l : Literal). l.positive) (AtomOf (IsAtom params factor)) ls all);
+      negated = All-map (IsAtom params factor) (λ (l : Literal). l.atom) _ (All-filter (λ (l : Literal). not l.positive) (AtomOf (IsAtom params factor)) ls all);
     }
 
 -- ---- an action, and a factor
@@ -158,17 +132,13 @@ pub record IsSchema (factor : Factor) (s : Schema) : Type 0 where
 schema_used : (factor : Factor) (s : Schema) → schema_faults factor s ≡ [] → IsSchema factor s
 unfolding schema_faults
 schema_used factor s h =
-    let atoms = atom_faults files.Domain s.params factor in
-    let of_increases = flat_map (increase_faults files.Domain s.params factor) s.increases in
-    let first_four = parameter_faults [] s.params ++ flat_map (literal_faults files.Domain s.params factor) s.pre ++ flat_map atoms s.add ++ flat_map atoms s.del in
-    let parts = none_in_four (parameter_faults [] s.params) (flat_map (literal_faults files.Domain s.params factor) s.pre) (flat_map atoms s.add) (flat_map atoms s.del)
-    (none_in_first first_four of_increases h) in
+    let none = none_in_both h in
+    let parts = none_in_four none.0 in
     record {
       pre = literals_used files.Domain s.params factor s.pre parts.1;
-      add = all_used (IsAtom s.params factor) atoms s.add (atom_used files.Domain s.params factor) parts.2;
-      del = all_used (IsAtom s.params factor) atoms s.del (atom_used files.Domain s.params factor) parts.3;
-      increases = all_used (IsIncrease s.params factor) (increase_faults files.Domain s.params factor) s.increases
-          (increase_used files.Domain s.params factor) (none_in_second first_four of_increases h);
+      add = all_used (IsAtom s.params factor) _ s.add (atom_used files.Domain s.params factor) parts.2;
+      del = all_used (IsAtom s.params factor) _ s.del (atom_used files.Domain s.params factor) parts.3;
+      increases = all_used (IsIncrease s.params factor) _ s.increases (increase_used files.Domain s.params factor) none.1;
     }
 
 -- what is known of a factor in which nothing is wrong
@@ -181,24 +151,22 @@ pub record HasParts (factor : Factor) : Type 0 where
   pub goals : AreUsed [] factor factor.problem.goals
 
 pub parts_of : (factor : Factor) → check_faults factor.domain factor.problem ≡ [] → HasParts factor
-unfolding check_faults declared_faults problem_faults
+unfolding check_faults declared_faults problem_faults value_faults
 parts_of factor h =
-    let objects = objects_of factor in
-    let four = none_in_four (owner_faults factor.domain.word factor.problem.domain) (declared_faults objects factor.domain)
-    (flat_map (schema_faults factor) factor.domain.schemas) (problem_faults factor) h in
-    let declared = none_in_four (flat_map (object_faults files.Domain objects) factor.domain.constants)
-    (repeated_faults files.Domain (λ (s : Signature). s.word) factor.domain.predicates)
-    (repeated_faults files.Domain (λ (s : Signature). s.word) factor.domain.functions)
-    (repeated_faults files.Domain (λ (s : Schema). s.word) factor.domain.schemas) four.1 in
-    let problem = none_in_four (flat_map (object_faults files.Problem objects) factor.problem.objects)
-    (flat_map (atom_faults files.Problem [] factor) factor.problem.init)
-    (flat_map (value_faults factor) factor.problem.values)
-    (flat_map (literal_faults files.Problem [] factor) factor.problem.goals) four.3 in
+    let four = none_in_four h in
+    let declared = none_in_four four.1 in
+    let problem = none_in_four four.3 in
     record {
       predicates = declared_distinct files.Domain (λ (s : Signature). s.word) factor.domain.predicates declared.1;
       actions = declared_distinct files.Domain (λ (s : Schema). s.word) factor.domain.schemas declared.3;
-      schemas = all_used (IsSchema factor) (schema_faults factor) factor.domain.schemas (schema_used factor) four.2;
-      init = all_used (IsAtom [] factor) (atom_faults files.Problem [] factor) factor.problem.init (atom_used files.Problem [] factor) problem.1;
-      values = all_used (IsValue factor) (value_faults factor) factor.problem.values (value_used factor) problem.2;
+      schemas = all_used (IsSchema factor) _ factor.domain.schemas (schema_used factor) four.2;
+      init = all_used (IsAtom [] factor) _ factor.problem.init (atom_used files.Problem [] factor) problem.1;
+      values = all_used (IsValue factor) _ factor.problem.values (λ v. function_used files.Problem [] factor v.of) problem.2;
       goals = literals_used files.Problem [] factor factor.problem.goals problem.3;
     }
+
+-- an action at a place
+pub schema_at : (factor : Factor) → HasParts factor → (place : ℕ) (s : Schema) → slice_get factor.domain.schemas place ≡ Some s → IsSchema factor s
+schema_at factor parts place s at =
+    subst (IsSchema factor) (get_or_from_slice_get factor.domain.schemas place s s at)
+    (parts.schemas place s (slice_get_within factor.domain.schemas place s at))

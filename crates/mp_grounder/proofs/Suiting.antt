@@ -1,122 +1,171 @@
 -- Static preconditions are as the start has them in numbers where they are by names.
-use Rattle.mp_grounder.proofs.Basics.{arith, ◌≡◌, ℕ, ◌+◌, suc, ◌<◌, Bool, true, false, cond, not, ◌&&◌, ◌||◌, List, [], ◌∷◌, map, length, All, refl, sym, ap, ◌∙◌, subst, inl, inr, cases_Bool, and_from, All-head, All-tail, list_any, list_all}
-use Rattle.mp_grounder.proofs.Basics.{bytes_eq, Typed, Term, Variable, Object, Atom, Schema, Factor, is_declared, NamedFact, Text, privates_of, instance_with, suits_start, asked_atoms, negated_atoms, fact_of, LiftedAtom, OpenView, lifted_factor}
-use Rattle.mp_grounder.proofs.Basics.{parameter_in, lifted_term, lifted_atom, lifted_where, is_not, is_changed, setting_of, vocabulary_of, atom_at, is_true_at_start, suits, IsChecked, named_objects, numbered_action, IsBinding}
-use Rattle.std.proofs.lemmas.Bool.{lt-ltb}
-use Rattle.mp_instances.specs.Instances.{is_known_term, is_known}
+use Rattle.mp_grounder.proofs.Basics.{arith, ◌≡◌, ℕ, zero, suc, ◌+◌, ◌≤◌, Bool, true, false, cond, not, ◌&&◌, ◌||◌, List, [], ◌∷◌, map, filter, length, take, All, refl, sym, ap, ◌∙◌, take_all, All-head, All-tail, list_any, list_all}
+use Rattle.mp_grounder.proofs.Basics.{bytes_eq, Typed, Term, Variable, Object, Atom, Literal, Schema, Factor, is_declared, NamedFact, privates_of, instance_with, suits_start, fact_of, LiftedAtom, Vocabulary, OpenView, lifted_factor}
+use Rattle.mp_grounder.proofs.Basics.{lifted_term, lifted_atom, lifted_where, is_not, is_changed, setting_of, vocabulary_of, atom_at, is_true_at_start, suits, IsChecked, named_objects, numbered_action, IsBinding, IsObject}
+use Rattle.std.proofs.Common.{nat_lt}
+use Rattle.std.proofs.lemmas.Bool.{le-ltb, lt-ltb}
+use Rattle.std.proofs.lemmas.Bool.Decides.{nat_tests}
+use Rattle.std.proofs.lemmas.List.{length-take-le}
+use Rattle.std.proofs.lemmas.List.Elements.{All-weaker}
+use Rattle.std.proofs.lemmas.List.Folds.{list_all-map}
+use Rattle.std.proofs.lemmas.List.Sums.{AllPass-from_list_all, list_all-from_AllPass}
+use Rattle.std.specs.List.{position_or_len}
+use Rattle.mp_lifted.specs.declared.lifted.LiftedTerm.TheVariants.{Parameter}
+use Rattle.mp_instances.specs.Instances as numbers
+use Rattle.mp_instances.proofs.Narrowing.{or_true}
+use Rattle.mp_grounder.specs.Tried.{is_known_term, is_known, cut_to}
 use Rattle.mp_grounder.proofs.Atoms.{atom_stands}
-use Rattle.mp_grounder.proofs.Parts.{IsDeclared, IsAtom, IsSchema, HasParts}
+use Rattle.mp_grounder.proofs.Lists.{list_all_where, map_where}
+use Rattle.mp_grounder.proofs.Parts.{IsDeclared, IsAtom, IsSchema, HasParts, AtomOf}
 use Rattle.mp_grounder.proofs.Starts.{same_start}
 
--- ---- with objects for all parameters, each term is known
+-- ---- the place of a parameter
 
-below_by : (test more : Bool) (k n : ℕ) → (test || more) ≡ true → (more ≡ true → k < n) → cond (not test) (1 + k) 0 < suc n
-below_by true more k n h later = omega arith
-below_by false more k n h later = let less = later h in omega (arith, less)
+first_place : {X : Type 0} (p : X → Bool) (n : ℕ) (xs : List X) → list_any p (take n xs) ≡ true → position_or_len p (take n xs) ≡ position_or_len p xs
+first_place p zero xs h = absurd (cc)
+first_place p (suc n) [] h = refl
+first_place p (suc n) (x ∷ xs) h = by (p x) (first_place p n xs) h
+  where
+    by : (b : Bool) → (list_any p (take n xs) ≡ true → position_or_len p (take n xs) ≡ position_or_len p xs) → (b || list_any p (take n xs)) ≡ true
+        → cond (not b) (1 + position_or_len p (take n xs)) 0 ≡ cond (not b) (1 + position_or_len p xs) 0
+    by true rest e = refl
+    by false rest e = ap (λ k. 1 + k) (rest e)
 
-parameter_below : (params : List Typed) (v : Text) → list_any (λ (p : Typed). bytes_eq p.word.name v) params ≡ true → parameter_in params v < length params
-parameter_below [] v h = absurd (cc)
-parameter_below (p ∷ ps) v h =
-    below_by (bytes_eq p.word.name v) (list_any (λ (q : Typed). bytes_eq q.word.name v) ps) (parameter_in ps v) (length ps) h (parameter_below ps v)
+next_below : (k n : ℕ) → nat_lt (1 + k) (suc n) ≡ nat_lt k n
+next_below k n = grind (arith, nat_tests)
 
-known_term : (factor : Factor) (params : List Typed) (n : ℕ) (t : Term) → n ≡ length params → IsDeclared params factor t
-    → is_known_term n (lifted_term (vocabulary_of factor) params t) ≡ true
-unfolding is_declared
-known_term factor params n (Variable w) long h = lt-ltb (parameter_in params w.name) n (subst (λ m. parameter_in params w.name < m) (sym long) (parameter_below params w.name h))
-known_term factor params n (Object w) long h = refl
+place_within : {X : Type 0} (p : X → Bool) (n : ℕ) (xs : List X) → n ≤ length xs → nat_lt (position_or_len p xs) n ≡ list_any p (take n xs)
+place_within p zero xs few = le-ltb (position_or_len p xs) 0 (omega arith)
+place_within p (suc n) [] few = absurd (omega (arith, few))
+place_within p (suc n) (x ∷ xs) few = by (p x) (place_within p n xs (omega (arith, few)))
+  where
+    by : (b : Bool) → nat_lt (position_or_len p xs) n ≡ list_any p (take n xs)
+        → nat_lt (cond (not b) (1 + position_or_len p xs) 0) (suc n) ≡ (b || list_any p (take n xs))
+    by true rest = lt-ltb 0 (suc n) (omega arith)
+    by false rest = next_below (position_or_len p xs) n ∙ rest
 
-known_terms : (factor : Factor) (params : List Typed) (n : ℕ) (ts : List Term) → n ≡ length params → All (IsDeclared params factor) ts
-    → list_all (is_known_term n) (map (lifted_term (vocabulary_of factor) params) ts) ≡ true
-known_terms factor params n [] long h = refl
-known_terms factor params n (t ∷ ts) long h =
-    and_from (is_known_term n (lifted_term (vocabulary_of factor) params t)) (list_all (is_known_term n) (map (lifted_term (vocabulary_of factor) params) ts))
-    (known_term factor params n t long (All-head (IsDeclared params factor) t ts h)) (known_terms factor params n ts long (All-tail (IsDeclared params factor) t ts h))
+-- ---- terms and atoms with objects for the first parameters
 
--- ---- a test of the static ones in numbers, and one of all by names
+module _ (vocabulary : Vocabulary) (params : List Typed) (n : ℕ) (few : n ≤ length params) where
+  abbrev first_ones : List Typed
+  first_ones = take n params
 
-and_so : (a b c d : Bool) → a ≡ c → b ≡ d → (a && b) ≡ (c && d)
-and_so a b c d h k = λ i. h i && k i
+  known_term : (t : Term) → numbers.is_known_term n (lifted_term vocabulary params t) ≡ is_known_term first_ones t
+  known_term (Variable w) = place_within (λ (p : Typed). bytes_eq p.word.name w.name) n params few
+  known_term (Object w) = refl
 
-static_tests : (factor : Factor) (params : List Typed) (changed : Text → Bool) (p : LiftedAtom → Bool)
-    (r : Bool → Atom → Bool) (atoms : List Atom) → All (IsAtom params factor) atoms
-    → ((a : Atom) → IsAtom params factor a → p (lifted_atom (vocabulary_of factor) params a) ≡ r true a) → ((a : Atom) → r false a ≡ true)
-    → list_all p (lifted_where (vocabulary_of factor) (is_not changed) params atoms) ≡ list_all (λ (a : Atom). r (not (changed a.word.name)) a) atoms
-static_tests factor params changed p r [] all of_static others = refl
-static_tests factor params changed p r (a ∷ as') all of_static others =
-    let rest = static_tests factor params changed p r as' (All-tail (IsAtom params factor) a as' all) of_static others in
-    elim (cases_Bool (changed a.word.name)) [
-      | inl dynamic ↦
-          let passes : r (not (changed a.word.name)) a ≡ true = ap (λ b. r (not b) a) dynamic ∙ others a in
-          rw (passes, dynamic) rest
-      | inr static' ↦
-          let here : p (lifted_atom (vocabulary_of factor) params a) ≡ r (not (changed a.word.name)) a =
-          of_static a (All-head (IsAtom params factor) a as' all) ∙ sym (ap (λ b. r (not b) a) static') in
-          let left : lifted_where (vocabulary_of factor) (is_not changed) params (a ∷ as') ≡ lifted_atom (vocabulary_of factor) params a ∷ lifted_where (vocabulary_of factor) (is_not changed) params as' =
-          rw static' refl in
-          ap (list_all p) left ∙ and_so (p (lifted_atom (vocabulary_of factor) params a)) (list_all p (lifted_where (vocabulary_of factor) (is_not changed) params as'))
-          (r (not (changed a.word.name)) a) (list_all (λ (b : Atom). r (not (changed b.word.name)) b) as') here rest
-    ]
+  -- an atom is known in numbers where it is by names
+  known_atom : (l : Literal) → numbers.is_known n (lifted_atom vocabulary params l.atom) ≡ is_known first_ones l
+  known_atom l =
+      list_all-map (numbers.is_known_term n) (lifted_term vocabulary params) l.atom.terms
+      ∙ (λ i. list_all (λ t. known_term t i) l.atom.terms)
 
-all_of_map : {X Y : Type 0} (test : Y → Bool) (f : X → Y) (xs : List X) → list_all test (map f xs) ≡ list_all (λ x. test (f x)) xs
-all_of_map test f [] = refl
-all_of_map test f (x ∷ xs) = ap (λ b. test (f x) && b) (all_of_map test f xs)
+  same_term : (t : Term) → is_known_term first_ones t ≡ true → lifted_term vocabulary first_ones t ≡ lifted_term vocabulary params t
+  same_term (Variable w) h = ap Parameter (first_place (λ (p : Typed). bytes_eq p.word.name w.name) n params h)
+  same_term (Object w) h = refl
+
+  -- and it is the same for the first parameters as for all
+  same_atom : (l : Literal) → is_known first_ones l ≡ true → lifted_atom vocabulary first_ones l.atom ≡ lifted_atom vocabulary params l.atom
+  same_atom l h = ap (λ ts. record { symbol = (lifted_atom vocabulary params l.atom).symbol; terms = ts })
+      (map_where (λ t. is_known_term first_ones t ≡ true) _ _ l.atom.terms (AllPass-from_list_all (is_known_term first_ones) l.atom.terms h) same_term)
+
+-- ---- what a test says of some literals
+
+all_filter : {X : Type 0} (test p : X → Bool) (xs : List X) → list_all test (filter p xs) ≡ list_all (λ x. not (p x) || test x) xs
+all_filter test p [] = refl
+all_filter test p (x ∷ xs) = by (p x) (all_filter test p xs)
+  where
+    by : (b : Bool) → list_all test (filter p xs) ≡ list_all (λ y. not (p y) || test y) xs
+        → list_all test (cond b (x ∷ filter p xs) (filter p xs)) ≡ ((not b || test x) && list_all (λ y. not (p y) || test y) xs)
+    by true rest = ap (λ t. test x && t) rest
+    by false rest = rest
+
+filter_all : {X : Type 0} (p : X → Bool) (xs : List X) → All (λ x. p x ≡ true) xs → filter p xs ≡ xs
+filter_all p [] all = refl
+filter_all p (x ∷ xs) all =
+    let rest = filter_all p xs (All-tail (λ y. p y ≡ true) x xs all) in
+    λ i. cond (All-head (λ y. p y ≡ true) x xs all i) (x ∷ rest i) (rest i)
+
+of_atoms : (test : Atom → Bool) (sign : Literal → Bool) (ls : List Literal)
+    → list_all test (map (λ (l : Literal). l.atom) (filter sign ls)) ≡ list_all (λ (l : Literal). not (sign l) || test l.atom) ls
+of_atoms test sign ls = list_all-map test (λ (l : Literal). l.atom) (filter sign ls) ∙ all_filter (λ (l : Literal). test l.atom) sign ls
+
+-- what is said of a static precondition that is known, and nothing of any other
+by_known : (says : Bool → Bool → Bool) → ((b : Bool) → says false b ≡ true) → (changed known sign a b : Bool) → (known ≡ true → a ≡ b)
+    → (not sign || (not (not changed) || says known a)) ≡ (not known || (not sign || says (not changed) b))
+by_known says nothing true true sign a b same = ap (λ t. not sign || t) (sym (nothing b))
+by_known says nothing true false sign a b same = or_true (not sign)
+by_known says nothing false true sign a b same = ap (λ t. not sign || says true t) (same refl)
+by_known says nothing false false sign a b same = ap (λ t. not sign || t) (nothing a) ∙ or_true (not sign)
 
 -- ---- an action
 
-record IsAtStart (agent : ℕ) (factor : Factor) (view : OpenView) (params : List Typed) (objects : List ℕ) (a : Atom) : Type 0 where
-  known : is_known (length objects) (lifted_atom (vocabulary_of factor) params a) ≡ true
-  same : is_true_at_start (lifted_factor factor view) (atom_at objects (lifted_atom (vocabulary_of factor) params a))
-      ≡ (setting_of agent factor view).start (fact_of agent (privates_of factor) params (named_objects factor objects) a)
+declared_known : (factor : Factor) (params : List Typed) (t : Term) → IsDeclared params factor t → is_known_term params t ≡ true
+unfolding is_declared
+declared_known factor params (Variable w) h = h
+declared_known factor params (Object w) h = refl
 
-at_start : (agent : ℕ) (factor : Factor) (view : OpenView) (params : List Typed) (objects : List ℕ) (a : Atom) → IsChecked factor → HasParts factor
-    → IsBinding factor params objects → IsAtom params factor a → IsAtStart agent factor view params objects a
-at_start agent factor view params objects a checked parts b h =
-    let stands = atom_stands agent factor params objects a b h in
-    record {
-      known = known_terms factor params (length objects) a.terms b.long h.terms;
-      same = same_start agent factor view (atom_at objects (lifted_atom (vocabulary_of factor) params a)) checked parts stands.range
-          ∙ ap (setting_of agent factor view).start stands.is;
-    }
+known_declared : (factor : Factor) (params first : List Typed) (t : Term) → is_known_term first t ≡ true → IsDeclared params factor t → IsDeclared first factor t
+unfolding is_declared
+known_declared factor params first (Variable w) known h = known
+known_declared factor params first (Object w) known h = h
 
-positive_suits : (agent : ℕ) (factor : Factor) (view : OpenView) (params : List Typed) (objects : List ℕ) (atoms : List Atom) → IsChecked factor → HasParts factor
-    → IsBinding factor params objects → All (IsAtom params factor) atoms
-    → list_all (λ (x : LiftedAtom). not (is_known (length objects) x) || is_true_at_start (lifted_factor factor view) (atom_at objects x))
-    (lifted_where (vocabulary_of factor) (is_not (is_changed factor view)) params atoms)
-    ≡ list_all (λ (f : NamedFact). not (not (is_changed factor view f.predicate)) || (setting_of agent factor view).start f)
-    (map (fact_of agent (privates_of factor) params (named_objects factor objects)) atoms)
-positive_suits agent factor view params objects atoms checked parts b h =
-    let fact = fact_of agent (privates_of factor) params (named_objects factor objects) in
-    let start = (setting_of agent factor view).start in
-    static_tests factor params (is_changed factor view)
-    (λ (x : LiftedAtom). not (is_known (length objects) x) || is_true_at_start (lifted_factor factor view) (atom_at objects x))
-    (λ static' a. not static' || start (fact a)) atoms h
-    (λ a is. let s = at_start agent factor view params objects a checked parts b is in
-    ap (λ k. not k || is_true_at_start (lifted_factor factor view) (atom_at objects (lifted_atom (vocabulary_of factor) params a))) s.known ∙ s.same)
-    (λ a. refl)
-    ∙ sym (all_of_map (λ (f : NamedFact). not (not (is_changed factor view f.predicate)) || start f) fact atoms)
+module _ (agent : ℕ) (factor : Factor) (view : OpenView) (s : Schema) (objects : List ℕ)
+    (checked : IsChecked factor) (parts : HasParts factor) (h : IsSchema factor s) where
+  abbrev n : ℕ
+  n = length objects
 
-negative_suits : (agent : ℕ) (factor : Factor) (view : OpenView) (params : List Typed) (objects : List ℕ) (atoms : List Atom) → IsChecked factor → HasParts factor
-    → IsBinding factor params objects → All (IsAtom params factor) atoms
-    → list_all (λ (x : LiftedAtom). not (is_known (length objects) x && is_true_at_start (lifted_factor factor view) (atom_at objects x)))
-    (lifted_where (vocabulary_of factor) (is_not (is_changed factor view)) params atoms)
-    ≡ list_all (λ (f : NamedFact). not (not (is_changed factor view f.predicate) && (setting_of agent factor view).start f))
-    (map (fact_of agent (privates_of factor) params (named_objects factor objects)) atoms)
-negative_suits agent factor view params objects atoms checked parts b h =
-    let fact = fact_of agent (privates_of factor) params (named_objects factor objects) in
-    let start = (setting_of agent factor view).start in
-    static_tests factor params (is_changed factor view)
-    (λ (x : LiftedAtom). not (is_known (length objects) x && is_true_at_start (lifted_factor factor view) (atom_at objects x)))
-    (λ static' a. not (static' && start (fact a))) atoms h
-    (λ a is. let s = at_start agent factor view params objects a checked parts b is in
-    ap (λ k. not (k && is_true_at_start (lifted_factor factor view) (atom_at objects (lifted_atom (vocabulary_of factor) params a)))) s.known ∙ ap not s.same)
-    (λ a. refl)
-    ∙ sym (all_of_map (λ (f : NamedFact). not (not (is_changed factor view f.predicate) && start f)) fact atoms)
+  abbrev fact : Atom → NamedFact
+  fact a = fact_of agent (privates_of factor) (take n s.params) (named_objects factor objects) a
 
--- an action suits the start with objects for all its parameters where its instance does
-pub same_suits : (agent : ℕ) (factor : Factor) (view : OpenView) (s : Schema) (objects : List ℕ) (cost : ℕ) → IsChecked factor → HasParts factor
-    → IsBinding factor s.params objects → IsSchema factor s
-    → suits (lifted_factor factor view) (numbered_action factor view s) objects
-    ≡ suits_start (setting_of agent factor view) (instance_with agent factor s (named_objects factor objects) cost)
-same_suits agent factor view s objects cost checked parts b h =
-    λ i. positive_suits agent factor view s.params objects (asked_atoms s.pre) checked parts b h.pre.asked i
-    && negative_suits agent factor view s.params objects (negated_atoms s.pre) checked parts b h.pre.negated i
+  abbrev is_so : LiftedAtom → Bool
+  is_so x = is_true_at_start (lifted_factor factor view) (atom_at objects x)
+
+  module _ (range : All (IsObject factor) objects) (few : n ≤ length s.params) where
+    -- a precondition that is known is true at the start in numbers where it is by names
+    at_start : (l : Literal) → IsAtom s.params factor l.atom → is_known (take n s.params) l ≡ true
+        → is_so (lifted_atom (vocabulary_of factor) s.params l.atom) ≡ (setting_of agent factor view).start (fact l.atom)
+    at_start l is known =
+        let declared : All (IsDeclared (take n s.params) factor) l.atom.terms =
+        λ k d less. known_declared factor s.params (take n s.params) _ (AllPass-from_list_all _ l.atom.terms known k d less) (is.terms k d less) in
+        let stands = atom_stands agent factor (take n s.params) objects l.atom (record { long = sym (length-take-le n s.params few); range = range })
+        (record { named = is.named; terms = declared }) in
+        ap is_so (sym (same_atom (vocabulary_of factor) s.params n few l known))
+        ∙ same_start agent factor view _ checked parts stands.range ∙ ap (setting_of agent factor view).start stands.is
+
+    static_tests : (says : Bool → Bool → Bool) → ((b : Bool) → says false b ≡ true) → (sign : Literal → Bool)
+        → list_all (λ x. says (numbers.is_known n x) (is_so x))
+        (lifted_where (vocabulary_of factor) (is_not (is_changed factor view)) s.params (map (λ (l : Literal). l.atom) (filter sign s.pre)))
+        ≡ list_all (λ (f : NamedFact). says (not (is_changed factor view f.predicate)) ((setting_of agent factor view).start f))
+        (map fact (map (λ (l : Literal). l.atom) (filter sign (filter (is_known (take n s.params)) s.pre))))
+    static_tests says nothing sign =
+        let p : LiftedAtom → Bool = λ x. says (numbers.is_known n x) (is_so x) in
+        let q : NamedFact → Bool = λ f. says (not (is_changed factor view f.predicate)) ((setting_of agent factor view).start f) in
+        let lifted : Atom → LiftedAtom = lifted_atom (vocabulary_of factor) s.params in
+        list_all-map p lifted _ ∙ all_filter (λ a. p (lifted a)) (λ (a : Atom). not (is_changed factor view a.word.name)) _
+        ∙ of_atoms _ sign s.pre
+        ∙ list_all_where (AtomOf (IsAtom s.params factor)) _ _ s.pre h.pre.all (λ l is.
+        (λ i. not (sign l) || (not (not (is_changed factor view l.atom.word.name))
+        || says (known_atom (vocabulary_of factor) s.params n few l i) (is_so (lifted l.atom))))
+        ∙ by_known says nothing (is_changed factor view l.atom.word.name) (is_known (take n s.params) l) (sign l) _ _ (at_start l is))
+        ∙ sym (list_all-map q fact _ ∙ of_atoms (λ a. q (fact a)) sign _ ∙ all_filter _ (is_known (take n s.params)) s.pre)
+
+    -- objects for the first parameters suit the start where the instance of the action that is cut to these does
+    pub suits_cut : (cost : ℕ) → suits (lifted_factor factor view) (numbered_action factor view s) objects
+        ≡ suits_start (setting_of agent factor view) (instance_with agent factor (cut_to (length objects) s) (named_objects factor objects) cost)
+    suits_cut cost =
+        λ i. static_tests (λ k b. not k || b) (λ b. refl) (λ (l : Literal). l.positive) i
+        && static_tests (λ k b. not (k && b)) (λ b. refl) (λ (l : Literal). not l.positive) i
+
+  -- an action suits the start with objects for all its parameters where its instance does
+  pub same_suits : (cost : ℕ) → IsBinding factor s.params objects → suits (lifted_factor factor view) (numbered_action factor view s) objects
+      ≡ suits_start (setting_of agent factor view) (instance_with agent factor s (named_objects factor objects) cost)
+  same_suits cost b =
+      let long = b.long in
+      let whole = take_all n s.params (omega (arith, long)) in
+      let known = All-weaker (AtomOf (IsAtom s.params factor)) (λ l. is_known s.params l ≡ true)
+      (λ l is. list_all-from_AllPass (is_known_term s.params) l.atom.terms (λ k d less. declared_known factor s.params _ (is.terms k d less))) s.pre h.pre.all in
+      let all = ap (λ ps. filter (is_known ps) s.pre) whole ∙ filter_all (is_known s.params) s.pre known in
+      suits_cut b.range (omega (arith, long)) cost
+      ∙ (λ i. suits_start (setting_of agent factor view) (instance_with agent factor
+      (record { word = s.word; params = whole i; pre = all i; add = []; del = []; increases = [] }) (named_objects factor objects) cost))

@@ -1,6 +1,6 @@
 -- Facts and the texts that spell them.
-use Rattle.mp_grounder.proofs.Basics.{arith, ◌≡◌, ℕ, ◌+◌, ◌-◌, ◌==◌, suc, Bool, true, false, not, ◌&&◌, ◌||◌, List, [], ◌∷◌, ◌++◌, map, filter, length, take, get_or, All, Option, Some, None, if◌then◌else◌, refl, sym, ap, ◌∙◌, subst, inl, inr}
-use Rattle.mp_grounder.proofs.Basics.{cons_option, list_all, bytes_eq, cases_Bool, and_parts, and_from, eqb-true, true≢false, take_all, All-nil, All-cons, All-head, All-tail, All-map, All-append, bytes_eq-Decides, same_tests, Typed}
+use Rattle.mp_grounder.proofs.Basics.{arith, ◌≡◌, ℕ, ◌+◌, ◌-◌, ◌==◌, suc, Bool, true, false, not, ◌&&◌, ◌||◌, List, [], ◌∷◌, ◌++◌, map, filter, length, take, All, Option, Some, None, if◌then◌else◌, refl, sym, ap, ◌∙◌, subst}
+use Rattle.mp_grounder.proofs.Basics.{cons_option, list_all, bytes_eq, and_parts, and_from, eqb-true, true≢false, take_all, All-nil, All-cons, All-head, All-tail, All-map, All-append, bytes_eq-Decides, same_tests, Typed}
 use Rattle.mp_grounder.proofs.Basics.{Signature, Factor, name_at, number_in, first_declared, Text, GroundAtom, known_atoms, fact_text, vocabulary_of, same_atom, is_among, name_at_number, IsChecked, named_objects, named_fact, IsInRange}
 use Rattle.std.proofs.Common.{length-append}
 use Rattle.std.specs.Prelude.{IsTrue}
@@ -14,10 +14,13 @@ use Rattle.mp_forms.proofs.TakenFiles.{predicates_named, constants_named, object
 use Rattle.mp_joint.specs.Fact.{is_listed}
 use Rattle.mp_lifted.specs.Factors.{between_brackets, has_brackets, words_of, can_be_named, named_atom, known_atom}
 use Rattle.mp_lifted.specs.Texts.{bracketed}
-use Rattle.mp_grounder.proofs.Distinct.{AreDistinct}
-use Rattle.mp_grounder.proofs.Facts.{objects_distinct}
-use Rattle.mp_grounder.proofs.Lists.{all_some}
-use Rattle.mp_grounder.proofs.Numbered.{IsPlace, named_at, number_at}
+use Rattle.mp_grounder.proofs.Facts.{atom_again}
+use Rattle.std.proofs.lemmas.Bool.{both_ways, false_from_ne_true}
+use Rattle.std.proofs.lemmas.List.Elements.{All-filter, All-weaker}
+use Rattle.std.proofs.lemmas.List.Folds.{map_fixed}
+use Rattle.std.proofs.lemmas.List.Sums.{AllPass-from_list_all, list_all-from_AllPass}
+use Rattle.std.proofs.lemmas.Simd.{map-map}
+use Rattle.mp_grounder.proofs.Numbered.{named_at}
 use Rattle.mp_grounder.proofs.Parts.{HasParts}
 use Rattle.mp_lifted.proofs.Keeping.{equal, itself}
 
@@ -72,72 +75,40 @@ spells name names h =
 
 byte_not_space : (b : ℕ) → is_name_byte b ≡ true → NotSpace b
 byte_not_space b h =
-    elim (cases_Bool (is_space b)) [
-      | inl space ↦
-          let is : b ≡ 32 = eqb-true b 32 space in
-          absurd (true≢false (sym (subst (λ c. is_name_byte c ≡ true) is h)))
-      | inr other ↦ other
-    ]
-
-bytes_not_space : (name : Text) → list_all is_name_byte name ≡ true → HasNoSpace name
-bytes_not_space [] h = All-nil NotSpace
-bytes_not_space (b ∷ bs) h =
-    let parts = and_parts (is_name_byte b) (list_all is_name_byte bs) h in
-    All-cons NotSpace b bs (byte_not_space b parts.0) (bytes_not_space bs parts.1)
+    false_from_ne_true (is_space b) (λ space. both_ways (is_name_byte 32) refl (subst (λ c. is_name_byte c ≡ true) (eqb-true b 32 space) h))
 
 name_not_space : (name : Text) → IsTrue (is_name name) → HasNoSpace name
 unfolding is_name
-name_not_space name h = bytes_not_space name ((and_parts (begins_with_letter name) (list_all is_name_byte name) h).1)
-
-each_implies : {X : Type 0} (P Q : X → Type 0) (xs : List X) → ((x : X) → P x → Q x) → All P xs → All Q xs
-each_implies P Q xs f h k d less = f (get_or xs k d) (h k d less)
+name_not_space name h =
+    All-weaker (λ b. is_name_byte b ≡ true) NotSpace byte_not_space name
+    (AllPass-from_list_all is_name_byte name ((and_parts (begins_with_letter name) (list_all is_name_byte name) h).1))
 
 predicates_spaceless : (factor : Factor) → IsChecked factor → All HasNoSpace (vocabulary_of factor).predicates
 predicates_spaceless factor h =
     All-map HasNoSpace (λ (s : Signature). s.word.name) factor.domain.predicates
-    (each_implies (λ (s : Signature). IsName s.word) (λ (s : Signature). HasNoSpace s.word.name) factor.domain.predicates
-    (λ s is. name_not_space s.word.name is) (predicates_named factor.domain h.domain_names))
+    (All-weaker (λ (s : Signature). IsName s.word) _ (λ s. name_not_space s.word.name) factor.domain.predicates
+    (predicates_named factor.domain h.domain_names))
 
 all_first : (P : Typed → Type 0) (ts : List Typed) → All P ts → All P (first_declared ts)
 unfolding first_declared
 all_first P [] h = All-nil P
 all_first P (t ∷ ts) h =
     All-cons P t (filter (λ (o : Typed). not (bytes_eq o.word.name t.word.name)) (first_declared ts)) (All-head P t ts h)
-    (all_some P (λ (o : Typed). not (bytes_eq o.word.name t.word.name)) (first_declared ts) (all_first P ts (All-tail P t ts h)))
+    (All-filter (λ (o : Typed). not (bytes_eq o.word.name t.word.name)) P (first_declared ts) (all_first P ts (All-tail P t ts h)))
 
 objects_spaceless : (factor : Factor) → IsChecked factor → All HasNoSpace (vocabulary_of factor).objects
 objects_spaceless factor h =
     let all = factor.domain.constants ++ factor.problem.objects in
     All-map HasNoSpace (λ (o : Typed). o.word.name) (first_declared all)
-    (each_implies (λ (o : Typed). IsName o.word) (λ (o : Typed). HasNoSpace o.word.name) (first_declared all)
-    (λ o is. name_not_space o.word.name is)
+    (All-weaker (λ (o : Typed). IsName o.word) _ (λ o. name_not_space o.word.name) (first_declared all)
     (all_first (λ (o : Typed). IsName o.word) all
     (All-append (λ (o : Typed). IsName o.word) factor.domain.constants factor.problem.objects
     (constants_named factor.domain h.domain_names) (objects_named factor.problem h.problem_names))))
 
--- names at places
-all_named : (names : List Text) (ns : List ℕ) → All HasNoSpace names → All (IsPlace names) ns → All HasNoSpace (map (name_at names) ns)
-all_named names [] each h = All-nil HasNoSpace
-all_named names (n ∷ ns) each h =
-    All-cons HasNoSpace (name_at names n) (map (name_at names) ns) (each n [] (All-head (IsPlace names) n ns h))
-    (all_named names ns each (All-tail (IsPlace names) n ns h))
-
-all_listed : (names : List Text) (ns : List ℕ) → All (IsPlace names) ns → list_all (λ o. is_listed o names) (map (name_at names) ns) ≡ true
-all_listed names [] h = refl
-all_listed names (n ∷ ns) h =
-    and_from (is_listed (name_at names n) names) (list_all (λ o. is_listed o names) (map (name_at names) ns))
-    (named_at names n (All-head (IsPlace names) n ns h)) (all_listed names ns (All-tail (IsPlace names) n ns h))
-
-pub numbers_again : (names : List Text) (ns : List ℕ) → AreDistinct names → All (IsPlace names) ns → map (number_in names) (map (name_at names) ns) ≡ ns
-numbers_again names [] once h = refl
-numbers_again names (n ∷ ns) once h =
-    λ i. number_at names n once (All-head (IsPlace names) n ns h) i ∷ numbers_again names ns once (All-tail (IsPlace names) n ns h) i
-
 names_again : (names texts : List Text) → list_all (λ o. is_listed o names) texts ≡ true → map (name_at names) (map (number_in names) texts) ≡ texts
-names_again names [] h = refl
-names_again names (t ∷ ts) h =
-    let parts = and_parts (is_listed t names) (list_all (λ o. is_listed o names) ts) h in
-    λ i. name_at_number names t parts.0 i ∷ names_again names ts parts.1 i
+names_again names ts h =
+    map-map (name_at names) (number_in names) ts
+    ∙ map_fixed _ ts (λ k d less. name_at_number names _ (AllPass-from_list_all (λ o. is_listed o names) ts h k d less))
 
 -- ---- the facts that texts spell
 
@@ -152,21 +123,13 @@ own_text agent factor a checked parts range =
     let voc = vocabulary_of factor in
     let predicate = name_at voc.predicates a.symbol in
     let args = named_objects factor a.args in
-    let spaceless = All-cons HasNoSpace predicate args (predicates_spaceless factor checked a.symbol [] range.symbol)
-    (all_named voc.objects a.args (objects_spaceless factor checked) range.args) in
-    let s = spells predicate args spaceless in
-    let listed = and_from (is_listed predicate voc.predicates) (list_all (λ o. is_listed o voc.objects) args)
-    (named_at voc.predicates a.symbol range.symbol) (all_listed voc.objects a.args range.args) in
-    let can : can_be_named voc (words_of (bracketed (predicate ∷ args))) ≡ true = ap (can_be_named voc) s.words ∙ listed in
-    let is : named_atom voc (words_of (bracketed (predicate ∷ args))) ≡ a =
-    ap (named_atom voc) s.words
-    ∙ (λ i. record {
-      symbol = number_at voc.predicates a.symbol parts.predicates range.symbol i;
-      args = numbers_again voc.objects a.args (objects_distinct factor) range.args i;
-    }) in
+    let spaceless = All-map HasNoSpace (name_at voc.objects) a.args (λ k d less. objects_spaceless factor checked _ [] (range.args k d less)) in
+    let s = spells predicate args (All-cons HasNoSpace predicate args (predicates_spaceless factor checked a.symbol [] range.symbol) spaceless) in
+    let listed = list_all-from_AllPass (λ o. is_listed o voc.objects) args
+    (All-map (λ o. is_listed o voc.objects ≡ true) (name_at voc.objects) a.args (λ k d less. named_at voc.objects _ (range.args k d less))) in
     ap (λ b. is_option a (if b then Some (named_atom voc (words_of (bracketed (predicate ∷ args)))) else None))
-    (and_from (has_brackets (bracketed (predicate ∷ args))) (can_be_named voc (words_of (bracketed (predicate ∷ args)))) s.brackets can)
-    ∙ ap (same_atom a) is ∙ itself a
+    (and_from _ _ s.brackets (ap (can_be_named voc) s.words ∙ and_from _ _ (named_at voc.predicates a.symbol range.symbol) listed))
+    ∙ ap (same_atom a) (ap (named_atom voc) s.words ∙ atom_again agent factor a parts range) ∙ itself a
 
 -- and a text that spells it is its own
 by_words : (agent : ℕ) (factor : Factor) (words : List Text) → can_be_named (vocabulary_of factor) words ≡ true

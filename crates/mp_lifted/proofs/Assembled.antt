@@ -1,5 +1,5 @@
 -- A factor in numbers, put together from its parts.
-use Rattle.mp_lifted.proofs.Basics.{◌≡◌, not, List, map, sym, ap, filter, Signature, Factor, is_listed, privates_of, asked_atoms, negated_atoms, Facts, LiftedFactor, Vocabulary, ground_atom, ground_value, known_atoms}
+use Rattle.mp_lifted.proofs.Basics.{◌≡◌, not, List, map, sym, ap, filter, Bool, Signature, Factor, is_listed, privates_of, asked_atoms, negated_atoms, Facts, LiftedFactor, Vocabulary, ground_atom, ground_value, known_atoms}
 use Rattle.mp_lifted.proofs.Basics.{is_total_cost, lifted_action, vocabulary_of}
 use Rattle.std.proofs.lemmas.Simd.{map-map}
 use Rattle.mp_lifted.specs.declared.view.OpenView.{OpenView}
@@ -21,7 +21,7 @@ assembled names whole factor view = record {
   private_predicates = map (λ p. is_listed p (privates_of whole).predicates) names.predicates;
   negated_predicates = map (λ s. has_complements whole view s.word.name) whole.domain.predicates;
   private_objects = map (λ o. is_listed o (privates_of whole).objects) names.objects;
-  actions = map (lifted_action names (is_changed factor view) factor) factor.domain.schemas;
+  actions = map (lifted_action names (is_changed whole view) factor) whole.domain.schemas;
   init = map (ground_atom names) whole.problem.init;
   known = known_atoms names view.init;
   goals = map (ground_atom names) (asked_atoms whole.problem.goals);
@@ -31,7 +31,5 @@ assembled names whole factor view = record {
 
 pub is_lifted : (view : OpenView) (factor : Factor) → assembled (vocabulary_of factor) factor factor view ≡ lifted_factor factor view
 is_lifted view factor =
-    let negated : map (λ (s : Signature). has_complements factor view s.word.name) factor.domain.predicates
-    ≡ map (has_complements factor view) (map (λ (s : Signature). s.word.name) factor.domain.predicates) =
-    sym (map-map (has_complements factor view) (λ (s : Signature). s.word.name) factor.domain.predicates) in
-    ap (λ (flags : List _). record (lifted_factor factor view) { negated_predicates = flags }) negated
+    let negated = sym (map-map (has_complements factor view) (λ (s : Signature). s.word.name) factor.domain.predicates) in
+    ap (λ (flags : List Bool). record (lifted_factor factor view) { negated_predicates = flags }) negated

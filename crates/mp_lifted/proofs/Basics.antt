@@ -21,9 +21,7 @@ pub use Rattle.mp_list.proofs.Bools.{same_tests}
 unfoldable pub use Rattle.mp_sexp.specs.Numbers.{number_in}
 pub use Rattle.mp_typing.specs.Members.{Members}
 pub use Rattle.mp_lifted.specs.Atoms.{is_among, same_atom}
-pub use Rattle.mp_lifted.specs.Binding.{ActionBinding}
 pub use Rattle.mp_lifted.specs.Factors.{ground_atom, ground_value, known_atoms}
-pub use Rattle.mp_lifted.specs.Flat.{start_at}
 pub use Rattle.mp_lifted.specs.Held.{fact_of, has_kind, is_held}
 pub use Rattle.mp_lifted.specs.Lifting.{is_total_cost, lifted_action, lifted_atom}
 pub use Rattle.mp_lifted.specs.Start.{is_true_at_start}

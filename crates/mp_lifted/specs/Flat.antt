@@ -1,25 +1,20 @@
--- Bindings whose objects stand behind one another in one list: what the flat lists stand for.
-use Rattle.std.specs.Prelude.{ℕ, zero, suc, ◌≡◌, ◌≤◌, ◌-◌, List, [], ◌∷◌, take, drop}
+-- Bindings whose objects stand behind one another in one list: what the fields of a flat list stand for.
+use Rattle.std.specs.Prelude.{ℕ, ◌≤◌, List, All, length, map, slice_range}
 use Rattle.mp_lifted.specs.Binding.{ActionBinding}
 use Rattle.mp_lifted.specs.declared.bindings.Head.{Head}
+use Rattle.mp_lifted.specs.declared.bindings.ActionBindingList.TheInside.{Inside}
 
--- a head with the objects between a start and its end
-abbrev pub one : ℕ → List ℕ → Head → ActionBinding
-one start objects head =
-    record { action = head.action; objects = take (head.end - start) (drop start objects); cost = head.cost }
+-- a head with its objects, which are some of all
+abbrev pub with_objects : List ℕ → Head → ActionBinding
+with_objects all head =
+    record { action = head.action; objects = slice_range all head.start head.end; cost = head.cost }
 
--- the first head's objects begin at this start, and those of each other one at the end of the one before it
-abbrev pub bindings_from : ℕ → List ℕ → List Head → List ActionBinding
-bindings_from start objects [] = []
-bindings_from start objects (head ∷ heads) = one start objects head ∷ bindings_from head.end objects heads
+abbrev pub bindings : Inside → List ActionBinding
+bindings l = map (with_objects l.objects.items) l.heads.items
 
--- where the objects of the head at a place begin
-abbrev pub start_at : ℕ → List Head → ℕ → ℕ
-start_at start heads zero = start
-start_at start [] (suc at) = start
-start_at start (head ∷ heads) (suc at) = start_at head.end heads at
+-- a head's objects are among so many
+abbrev pub IsWithin : ℕ → Head → Type 0
+IsWithin count head = (head.start ≤ head.end) × (head.end ≤ count)
 
--- the ends rise from a start, and the last one is this
-abbrev pub EndsRise : ℕ → ℕ → List Head → Type 0
-EndsRise start last [] = start ≡ last
-EndsRise start last (head ∷ heads) = (start ≤ head.end) × EndsRise head.end last heads
+abbrev pub IsFlat : Inside → Type 0
+IsFlat l = All (IsWithin (length l.objects.items)) l.heads.items

@@ -12,4 +12,3 @@ pub mod Binding
 pub mod Bound
 -- bindings in flat lists, and what these stand for
 pub mod Flat
-pub mod FlatFields

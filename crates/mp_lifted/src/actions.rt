@@ -16,6 +16,15 @@ use mp_sexp::Name;
 use mp_typing::CheckedFactor;
 use std::alloc::Global;
 
+/// A part of a condition.
+#[derive(Clone, Copy)]
+struct Part {
+    /// Whether it has the literals that the condition asks for, or those that it has under `not`.
+    positive: bool,
+    /// Whether it has those whose predicates actions change, or the static ones.
+    changed: bool,
+}
+
 /// Whether a predicate is changed by actions, or whether it is static.
 fn is_wanted(shown: &Shown<'_>, changed: bool, predicate: &Name) -> bool
     ensures { result ≡ (if changed then is_of shown.now.privates shown.now.own shown.now.shown predicate.now
@@ -28,38 +37,34 @@ fn is_wanted(shown: &Shown<'_>, changed: bool, predicate: &Name) -> bool
     }
 }
 
-/// Whether a literal is one that a condition asks for, or has under `not`, and actions change its predicate, or it is
-/// static.
-fn is_in_part(shown: &Shown<'_>, literal: &Literal, positive: bool, changed: bool) -> bool
-    ensures { result ≡ ((if positive then literal.now.positive else not literal.now.positive)
-        && (if changed then is_of shown.now.privates shown.now.own shown.now.shown literal.now.atom.word.name
+/// Whether a literal is in a part of a condition.
+fn is_in_part(shown: &Shown<'_>, literal: &Literal, part: Part) -> bool
+    ensures { result ≡ ((if part.positive then literal.now.positive else not literal.now.positive)
+        && (if part.changed then is_of shown.now.privates shown.now.own shown.now.shown literal.now.atom.word.name
         else not (is_of shown.now.privates shown.now.own shown.now.shown literal.now.atom.word.name))) }
 {
-    has_sign(literal, positive) && is_wanted(shown, changed, &literal.atom.word.name)
+    has_sign(literal, part.positive) && is_wanted(shown, part.changed, &literal.atom.word.name)
 }
 
-/// The atoms of a condition in numbers that it asks for, or has under `not`, and whose predicates actions change, or
-/// are static.
+/// The atoms in numbers that stand in a part of an action's condition.
 fn parted(
     alloc: Global,
     vocabulary: &Vocabulary<'_>,
     shown: &Shown<'_>,
-    params: &TypedList,
-    pre: &LiteralList,
-    positive: bool,
-    changed: bool,
+    schema: &Schema,
+    part: Part,
 ) -> Result<List<LiftedAtom>, OutOfMemory>
     ensures { IfOk result (λ made. made ≡ atoms_where vocabulary.now
-        (λ p. if changed then is_of shown.now.privates shown.now.own shown.now.shown p
+        (λ p. if part.changed then is_of shown.now.privates shown.now.own shown.now.shown p
         else not (is_of shown.now.privates shown.now.own shown.now.shown p))
-        params.now
-        (if positive then asked_atoms pre.now else negated_atoms pre.now)) }
+        schema.now.params
+        (if part.positive then asked_atoms schema.now.pre else negated_atoms schema.now.pre)) }
 {
     let names = &vocabulary.predicates;
     let mut made = List::new(alloc);
-    for literal in pre.as_slice() {
-        if is_in_part(shown, literal, positive, changed) {
-            made.push(lifted_with(alloc, names, vocabulary, params, &literal.atom)?)?;
+    for literal in schema.pre.as_slice() {
+        if is_in_part(shown, literal, part) {
+            made.push(lifted_with(alloc, names, vocabulary, &schema.params, &literal.atom)?)?;
         }
     }
     Ok(made)
@@ -127,12 +132,28 @@ pub fn lifted_action(
 {
     let params = &schema.params;
     let metric = factor.factor().problem.metric;
+    let asked = Part {
+        positive: true,
+        changed: true,
+    };
+    let negated = Part {
+        positive: false,
+        changed: true,
+    };
+    let static_asked = Part {
+        positive: true,
+        changed: false,
+    };
+    let static_negated = Part {
+        positive: false,
+        changed: false,
+    };
     Ok(LiftedAction {
         members: all_members(alloc, factor, params)?,
-        static_positive: parted(alloc, vocabulary, shown, params, &schema.pre, true, false)?,
-        static_negative: parted(alloc, vocabulary, shown, params, &schema.pre, false, false)?,
-        positive: parted(alloc, vocabulary, shown, params, &schema.pre, true, true)?,
-        negative: parted(alloc, vocabulary, shown, params, &schema.pre, false, true)?,
+        static_positive: parted(alloc, vocabulary, shown, schema, static_asked)?,
+        static_negative: parted(alloc, vocabulary, shown, schema, static_negated)?,
+        positive: parted(alloc, vocabulary, shown, schema, asked)?,
+        negative: parted(alloc, vocabulary, shown, schema, negated)?,
         add: lifted_atoms(alloc, vocabulary, params, &schema.add)?,
         del: lifted_atoms(alloc, vocabulary, params, &schema.del)?,
         amounts: amounts(alloc, vocabulary, metric, schema)?,

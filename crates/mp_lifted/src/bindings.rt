@@ -1,8 +1,7 @@
 //! What stands for the parameters of actions, in little memory.
 
-ghost use Rattle.std.specs.Prelude.{◌≡◌, ◌++◌, ◌∷◌, ◌<◌, ◌≤◌, ◌-◌, [], length, take, drop, option_map, slice_index_or, slice_get, Some, OnOk, OnErr};
+ghost use Rattle.std.specs.Prelude.{◌≡◌, ◌++◌, ◌∷◌, ◌<◌, [], length, option_map, slice_index_or, slice_get, Some, OnOk, OnErr};
 ghost use Rattle.mp_lifted.specs.Bound.{binding};
-ghost use Rattle.mp_lifted.specs.Flat.{bindings_from, start_at, EndsRise};
 
 use crate::bound::BoundAction;
 use mp_list::{OutOfMemory, does_not_fit, to_u32};
@@ -14,13 +13,15 @@ use std::marker::Model;
 struct Head {
     /// The place of the action in its factor, from 0.
     action: u32,
-    /// Where the objects end among those of all bindings. They begin where those of the binding before it end.
+    /// Where the objects begin among those of all bindings.
+    start: u32,
+    /// Where they end there.
     end: u32,
     cost: u64,
 }
 
 /// Bindings, in the order of actions and then of objects. Contracts see the list of them. A binding of three objects takes
-/// 28 bytes, and no memory of its own.
+/// 36 bytes, and no memory of its own.
 #[derive(Drop)]
 pub struct ActionBindingList {
     heads: Vec<Head>,
@@ -34,7 +35,7 @@ impl Model for ActionBindingList {
 
     ghost Value = { List ActionBinding };
 
-    ghost use Rattle.mp_lifted.specs.FlatFields.{bindings, IsFlat};
+    ghost use Rattle.mp_lifted.specs.Flat.{bindings, IsFlat};
 
     ghost view = { bindings };
 
@@ -60,13 +61,21 @@ impl ActionBindingList {
         ensures err { OnErr result (self.new ≡ self.old) }
     {
         let action = to_u32(action)?;
-        let Some(end) = self.objects.len().checked_add(objects.len()) else {
+        let before = self.objects.len();
+        let Some(behind) = before.checked_add(objects.len()) else {
             return Err(does_not_fit());
         };
-        let end = to_u32(end)?;
+        let start = to_u32(before)?;
+        let end = to_u32(behind)?;
         self.heads.reserve(1)?;
         self.objects.extend_from_slice(objects)?;
-        self.heads.push(Head { action, end, cost }).unwrap();
+        let head = Head {
+            action,
+            start,
+            end,
+            cost,
+        };
+        self.heads.push(head).unwrap();
         Ok(())
     }
 
@@ -94,41 +103,11 @@ impl ActionBindingList {
         ensures found { slice_get self.now at ≡ Some (binding result) }
         ensures read { binding result ≡ slice_index_or self.now at (binding result) }
     {
-        part(self.heads.as_slice(), self.objects.as_slice(), at)
+        let head = self.heads[at];
+        BoundAction {
+            action: head.action as usize,
+            objects: &self.objects[head.start as usize..head.end as usize],
+            cost: head.cost,
+        }
     }
-}
-
-/// Where the objects of the binding at a place begin.
-fn start_of(heads: &[Head], at: usize) -> usize
-    requires { at < length heads.now }
-    ensures { result ≡ start_at 0 heads.now at }
-{
-    if at == 0 {
-        return 0;
-    }
-    heads[at - 1].end as usize
-}
-
-/// The binding at a place.
-fn part<'a>(heads: &[Head], objects: &'a [u32], at: usize) -> BoundAction<'a>
-    requires rise { EndsRise 0 (length objects.now) heads.now }
-    requires inside { at < length heads.now }
-    ensures { slice_get (bindings_from 0 objects.now heads.now) at ≡ Some (binding result) }
-{
-    let start = start_of(heads, at);
-    let Head { action, end, cost } = heads[at];
-    BoundAction {
-        action: action as usize,
-        objects: between(objects, start, end as usize),
-        cost,
-    }
-}
-
-/// The objects from a start to an end.
-fn between(objects: &[u32], start: usize, end: usize) -> &[u32]
-    requires start { start ≤ end }
-    requires end { end ≤ length objects.now }
-    ensures { result.now ≡ take (end - start) (drop start objects.now) }
-{
-    &objects[start..end]
 }

@@ -99,10 +99,5 @@ fn is_flagged(flags: &[bool], number: u32) -> bool
 fn has_flagged(flags: &[bool], objects: &[u32]) -> bool
     ensures { result ≡ list_any (is_so flags.now) objects.now }
 {
-    for object in objects {
-        if is_flagged(flags, *object) {
-            return true;
-        }
-    }
-    false
+    objects.iter().any(|object| is_flagged(flags, *object))
 }

@@ -6,8 +6,7 @@ ghost use Rattle.mp_joint.specs.FactorContribution.{privates_of};
 ghost use Rattle.mp_joint.specs.Grounding.{asked_atoms, negated_atoms};
 ghost use Rattle.mp_lifted.specs.Lifting.{lifted_action as action_of, is_total_cost as is_cost};
 ghost use Rattle.mp_lifted.specs.Factors.{ground_atom as atom_of, ground_value as value_of, known_atoms as known_of, lifted_factor};
-ghost use Rattle.mp_lifted.specs.Views.{is_of, is_changed, has_complements};
-ghost use Rattle.mp_lifted.specs.Vocabulary.{vocabulary_of};
+ghost use Rattle.mp_lifted.specs.Views.{is_of, has_complements};
 
 use crate::actions::lifted_action;
 use crate::lifted::{GroundAtom, GroundValue, LiftedAction, LiftedFactor};
@@ -19,7 +18,7 @@ use crate::view::OpenView;
 use crate::vocabulary::{Vocabulary, make_vocabulary};
 use mp_forms::{AtomList, Factor, LiteralList, Problem, SchemaList, SignatureList, ValueList};
 use mp_list::{List, OutOfMemory};
-use mp_sexp::{Name, NameTable};
+use mp_sexp::NameTable;
 use mp_typing::CheckedFactor;
 use std::alloc::Global;
 
@@ -42,27 +41,15 @@ fn flags_of(
 /// For each of these names whether it is in a table.
 fn flags_in(
     alloc: Global,
-    names: &[&Name],
+    names: &NameTable<'_>,
     table: &NameTable<'_>,
 ) -> Result<List<bool>, OutOfMemory>
-    ensures { IfOk result (λ flags. flags ≡ map (λ n. is_listed n.now table.now) names.now) }
+    ensures { IfOk result (λ flags. flags ≡ map (λ n. is_listed n table.now) names.now) }
 {
     let mut flags = List::with_capacity(alloc, names.len())?;
-    for name in names {
+    for name in names.as_slice() {
         flags.push(table.contains(name))?;
     }
-    Ok(flags)
-}
-
-/// For each of these names whether it is private.
-fn private_flags(
-    alloc: Global,
-    names: &NameTable<'_>,
-    privates: &NameTable<'_>,
-) -> Result<List<bool>, OutOfMemory>
-    ensures { IfOk result (λ flags. flags ≡ map (λ n. is_listed n privates.now) names.now) }
-{
-    let flags = flags_in(alloc, names.as_slice(), privates)?;
     Ok(flags)
 }
 
@@ -148,31 +135,6 @@ struct Marks {
     private_objects: List<bool>,
 }
 
-/// For each predicate and for each object whether it is private.
-fn private_marks(
-    alloc: Global,
-    factor: &Factor,
-    names: &Vocabulary<'_>,
-) -> Result<(List<bool>, List<bool>), OutOfMemory>
-    ensures predicates { IfOk result (λ made. made.0 ≡ map (λ p. is_listed p (privates_of factor.now).predicates) names.now.predicates) }
-    ensures objects { IfOk result (λ made. made.1 ≡ map (λ o. is_listed o (privates_of factor.now).objects) names.now.objects) }
-{
-    let privates = private_names(alloc, factor)?;
-    let predicates = private_flags(alloc, &names.predicates, &privates.predicates)?;
-    let objects = private_flags(alloc, &names.objects, &privates.objects)?;
-    Ok((predicates, objects))
-}
-
-/// For each predicate whether its facts have complements.
-fn negated_marks(alloc: Global, factor: &Factor, view: &OpenView) -> Result<List<bool>, OutOfMemory>
-    ensures { IfOk result (λ flags. flags
-        ≡ map (λ s. has_complements factor.now view.now s.word.name) factor.now.domain.predicates) }
-{
-    let complements = negated(alloc, factor, view)?;
-    let flags = flags_of(alloc, &complements, &factor.domain.predicates)?;
-    Ok(flags)
-}
-
 /// The marks of a factor's predicates and objects.
 fn marks_of(
     alloc: Global,
@@ -180,35 +142,20 @@ fn marks_of(
     view: &OpenView,
     names: &Vocabulary<'_>,
 ) -> Result<Marks, OutOfMemory>
-    ensures { IfOk result (λ made. made ≡ record {
-      private_predicates = map (λ p. is_listed p (privates_of factor.now).predicates) names.now.predicates;
-      negated_predicates = map (λ s. has_complements factor.now view.now s.word.name) factor.now.domain.predicates;
-      private_objects = map (λ o. is_listed o (privates_of factor.now).objects) names.now.objects;
-    }) }
+    ensures private_predicates { IfOk result (λ made. made.private_predicates
+        ≡ map (λ p. is_listed p (privates_of factor.now).predicates) names.now.predicates) }
+    ensures negated_predicates { IfOk result (λ made. made.negated_predicates
+        ≡ map (λ s. has_complements factor.now view.now s.word.name) factor.now.domain.predicates) }
+    ensures private_objects { IfOk result (λ made. made.private_objects
+        ≡ map (λ o. is_listed o (privates_of factor.now).objects) names.now.objects) }
 {
-    let negated_predicates = negated_marks(alloc, factor, view)?;
-    let (private_predicates, private_objects) = private_marks(alloc, factor, names)?;
+    let privates = private_names(alloc, factor)?;
+    let complements = negated(alloc, factor, view)?;
     Ok(Marks {
-        private_predicates,
-        negated_predicates,
-        private_objects,
+        private_predicates: flags_in(alloc, &names.predicates, &privates.predicates)?,
+        negated_predicates: flags_of(alloc, &complements, &factor.domain.predicates)?,
+        private_objects: flags_in(alloc, &names.objects, &privates.objects)?,
     })
-}
-
-/// The actions of a factor in numbers.
-fn actions_of(
-    alloc: Global,
-    factor: &CheckedFactor,
-    view: &OpenView,
-    names: &Vocabulary<'_>,
-) -> Result<List<LiftedAction>, OutOfMemory>
-    ensures { IfOk result (λ made. made
-        ≡ map (action_of names.now (is_changed factor.now view.now) factor.now) factor.now.domain.schemas) }
-{
-    let whole = factor.factor();
-    let changes = changed(alloc, whole, view)?;
-    let actions = lifted_actions(alloc, names, &changes, factor, &whole.domain.schemas)?;
-    Ok(actions)
 }
 
 /// The facts of a problem and those that agents show, and values.
@@ -245,20 +192,20 @@ fn facts_of(
     })
 }
 
-/// A factor of these names in numbers.
-fn lift_with(
+/// A factor in numbers, as an agent knows it that has seen this of all agents. Refuses only for want of memory.
+pub fn lift(
     alloc: Global,
     factor: &CheckedFactor,
     view: &OpenView,
-    names: &Vocabulary<'_>,
 ) -> Result<LiftedFactor, OutOfMemory>
-    requires { names.now ≡ vocabulary_of factor.now }
     ensures { IfOk result (λ made. made ≡ lifted_factor factor.now view.now) }
 {
     let whole = factor.factor();
-    let marks = marks_of(alloc, whole, view, names)?;
-    let actions = actions_of(alloc, factor, view, names)?;
-    let facts = facts_of(alloc, &whole.problem, view, names)?;
+    let names = make_vocabulary(alloc, whole)?;
+    let marks = marks_of(alloc, whole, view, &names)?;
+    let changes = changed(alloc, whole, view)?;
+    let actions = lifted_actions(alloc, &names, &changes, factor, &whole.domain.schemas)?;
+    let facts = facts_of(alloc, &whole.problem, view, &names)?;
     Ok(LiftedFactor {
         private_predicates: marks.private_predicates,
         negated_predicates: marks.negated_predicates,
@@ -270,17 +217,4 @@ fn lift_with(
         avoided: facts.avoided,
         values: facts.values,
     })
-}
-
-/// A factor in numbers, as an agent knows it that has seen this of all agents. Refuses only for want of memory.
-pub fn lift(
-    alloc: Global,
-    factor: &CheckedFactor,
-    view: &OpenView,
-) -> Result<LiftedFactor, OutOfMemory>
-    ensures { IfOk result (λ made. made ≡ lifted_factor factor.now view.now) }
-{
-    let names = make_vocabulary(alloc, factor.factor())?;
-    let lifted = lift_with(alloc, factor, view, &names)?;
-    Ok(lifted)
 }

@@ -1,6 +1,7 @@
 -- Own actions one after another, and the expansion of an entry.
-use Rattle.std.proofs.Common.{Result, Ok, Err, ◌≡◌, ℕ, zero, suc, ◌+◌, ◌-◌, ◌<◌, ◌≤◌, Bool, true, false, List, [], ◌∷◌, ◌++◌, length, drop, get_or, Option, Some, None, refl, sym, ap, ◌∙◌, inl, inr, arith}
+use Rattle.std.proofs.Common.{Result, Ok, Err, ◌≡◌, ℕ, zero, suc, ◌+◌, ◌-◌, ◌<◌, ◌≤◌, Bool, true, false, List, [], ◌∷◌, ◌++◌, length, drop, get_or, Option, Some, None, sym, ap, ◌∙◌, inl, inr, arith}
 use Rattle.std.specs.Prelude.{◌⊎◌, if◌then◌else◌, slice_get, slice_set, IfOk, IsSomeAnd}
+use Rattle.std.specs.List.{cons_option}
 use Rattle.std.specs.Option.{option_map_or}
 use Rattle.std.proofs.lemmas.List.{append-nil, append_assoc, drop_all, drop_more, get_or-set_same}
 use Rattle.std.proofs.lemmas.Option.{get_or_from_slice_get, slice_get_cases, slice_get_within}
@@ -21,7 +22,7 @@ use Rattle.mp_search.specs.Applying.{is_applicable_in, AreFound, HasApplied}
 use Rattle.mp_search.specs.Expansion.{Parent, and_then, answered, expanded, expansion, expanded_entry, one_more, with_action, with_actions, with_successor}
 use Rattle.mp_search.specs.Search.{SearchRecord, is_open_below, is_spent}
 use Rattle.mp_search.specs.StateKeys.{KeptStates}
-use Rattle.mp_search.specs.Steps.{AreStatesOf, HaveSent}
+use Rattle.mp_search.specs.Steps.{AreStatesOf, HasSent}
 use Rattle.mp_search.proofs.KeyedStates.{entry_told}
 use Rattle.mp_search.proofs.SendingSteps.{entry_inside}
 
@@ -31,30 +32,27 @@ drop_at xs i x is = drop_more xs i x (slice_get_within xs i x is) ∙ (λ j. get
 
 module _ (t : AgentTask) (value : Numbers → Numbers → Option ℕ) (p : Parent) where
   -- the actions below a number were applied: with those that are left, all is sent that is to be sent
-  pub record AreApplied (i : ℕ) (before out : List Sending) (old new : KeptStates) : Type 0 where
-    pub sent : out ++ (with_actions t value p i (drop i t.acts) new.kept).0 ≡ before ++ (with_actions t value p 0 t.acts old.kept).0
+  pub record AreApplied (i : ℕ) (out : List Sending) (old new : KeptStates) : Type 0 where
+    pub sent : out ++ (with_actions t value p i (drop i t.acts) new.kept).0 ≡ (with_actions t value p 0 t.acts old.kept).0
     pub kept : (with_actions t value p i (drop i t.acts) new.kept).1 ≡ (with_actions t value p 0 t.acts old.kept).1
     pub states : AreStatesOf t new
     pub longer : length old.kept.entries ≤ length new.kept.entries
-
-  pub none_applied : (out : List Sending) (k : KeptStates) → AreStatesOf t k → AreApplied 0 out out k k
-  none_applied out k of = record { sent = refl; kept = refl; states = of; longer = omega arith }
 
   step : (i : ℕ) (act : Act) (r : Record AgentState) → slice_get t.acts i ≡ Some act
       → with_actions t value p i (drop i t.acts) r ≡ and_then (with_action t value p i act r) (with_actions t value p (i + 1) (drop (i + 1) t.acts))
   unfolding with_actions
   step i act r is = ap (λ (acts : List Act). with_actions t value p i acts r) (drop_at t.acts i act is)
 
-  pub one_applied : (i : ℕ) (act : Act) (before mid out : List Sending) (old k new : KeptStates) → AreApplied i before mid old k → slice_get t.acts i ≡ Some act
-      → HaveSent t (with_action t value p i act k.kept) mid out k new → AreApplied (i + 1) before out old new
-  one_applied i act before mid out old k new applied is sent =
+  one_applied : (i : ℕ) (act : Act) (before out : List Sending) (old k new : KeptStates) (answer : Option Sending) → AreApplied i before old k → slice_get t.acts i ≡ Some act
+      → HasSent t (with_action t value p i act k.kept) k new answer → out ≡ before ++ cons_option answer [] → AreApplied (i + 1) out old new
+  one_applied i act before out old k new answer applied is sent grown =
       let left = λ (r : Record AgentState). with_actions t value p (i + 1) (drop (i + 1) t.acts) r in
       let made = with_action t value p i act k.kept in
       record {
         sent =
-            (λ j. sent.out j ++ (left (sent.kept j)).0)
-            ∙ append_assoc mid made.0 (left made.1).0
-            ∙ ap (λ (d : List Sending × Record AgentState). mid ++ d.0) (sym (step i act k.kept is))
+            (λ j. (grown ∙ (λ i. before ++ sent.sent i)) j ++ (left (sent.kept j)).0)
+            ∙ append_assoc before made.0 (left made.1).0
+            ∙ ap (λ (d : List Sending × Record AgentState). before ++ d.0) (sym (step i act k.kept is))
             ∙ applied.sent;
         kept = ap (λ (r : Record AgentState). (left r).1) sent.kept ∙ ap (λ (d : List Sending × Record AgentState). d.1) (sym (step i act k.kept is)) ∙ applied.kept;
         states = sent.states;
@@ -98,10 +96,10 @@ module _ (t : AgentTask) (value : Numbers → Numbers → Option ℕ) (p : Paren
       same = omega arith
 
   -- the actions up to the next one that may be applied are as good as applied
-  pub next_applied : (i k : ℕ) (before out : List Sending) (old new : KeptStates) (found : SizedSet) → AreFound t p.state found → i ≤ k
+  next_applied : (i k : ℕ) (out : List Sending) (old new : KeptStates) (found : SizedSet) → AreFound t p.state found → i ≤ k
       → ((m : ℕ) → i ≤ m → m < k → set.contains found.members m ≡ false)
-      → AreApplied i before out old new → AreApplied k before out old new
-  next_applied i k before out old new found are from none applied =
+      → AreApplied i out old new → AreApplied k out old new
+  next_applied i k out old new found are from none applied =
       let to : i + (k - i) ≡ k = omega (arith, from) in
       let same : with_actions t value p i (drop i t.acts) new.kept ≡ with_actions t value p k (drop k t.acts) new.kept =
       all_passed i (k - i) new.kept (λ m above below. sym (are.numbers m) ∙ none m above (omega (arith, below, to)))
@@ -115,31 +113,23 @@ module _ (t : AgentTask) (value : Numbers → Numbers → Option ℕ) (p : Paren
       }
 
   -- one of them is applied
-  pub found_applied : (i k : ℕ) (before mid out : List Sending) (old mid_states new : KeptStates) (found : SizedSet) → AreFound t p.state found
-      → IsLeastFrom found.members i k → AreApplied i before mid old mid_states → HasApplied t value p k mid out mid_states new
-      → AreApplied (k + 1) before out old new
-  found_applied i k before mid out old mid_states new found are least applied has =
-      one_applied k has.act before mid out old mid_states new
-      (next_applied i k before mid old mid_states found are least.above least.least applied) has.is has.sent
-
-  all_applied : (i : ℕ) (before out : List Sending) (old new : KeptStates) → length t.acts ≤ i → AreApplied i before out old new
-      → HaveSent t (with_actions t value p 0 t.acts old.kept) before out old new
-  all_applied i before out old new all applied =
-      let none = nothing_left i new.kept all in
-      record {
-        out = sym (append-nil out) ∙ ap (λ (d : List Sending × Record AgentState). out ++ d.0) (sym none) ∙ applied.sent;
-        kept = ap (λ (d : List Sending × Record AgentState). d.1) (sym none) ∙ applied.kept;
-        states = applied.states;
-        longer = applied.longer;
-      }
+  pub found_applied : (i k : ℕ) (before out : List Sending) (old mid new : KeptStates) (found : SizedSet) (answer : Option Sending) → AreFound t p.state found
+      → IsLeastFrom found.members i k → AreApplied i before old mid → HasApplied t value p k mid new answer → out ≡ before ++ cons_option answer []
+      → AreApplied (k + 1) out old new
+  found_applied i k before out old mid new found answer are least applied has grown =
+      one_applied k has.act before out old mid new answer
+      (next_applied i k before old mid found are least.above least.least applied) has.is has.sent grown
 
   -- where no further one may be applied, all are
-  pub last_applied : (i : ℕ) (before out : List Sending) (old new : KeptStates) (found : SizedSet) → AreFound t p.state found → i ≤ length t.acts
-      → HasNoneFrom found.members i → AreApplied i before out old new
-      → HaveSent t (with_actions t value p 0 t.acts old.kept) before out old new
-  last_applied i before out old new found are inside none applied =
-      all_applied (length t.acts) before out old new (omega arith)
-      (next_applied i (length t.acts) before out old new found are inside (λ m above below. none m above) applied)
+  pub last_applied : (i : ℕ) (out : List Sending) (old new : KeptStates) (found : SizedSet) → AreFound t p.state found → i ≤ length t.acts
+      → HasNoneFrom found.members i → AreApplied i out old new → (out, new.kept) ≡ with_actions t value p 0 t.acts old.kept
+  last_applied i out old new found are inside none applied =
+      let all = next_applied i (length t.acts) out old new found are inside (λ m above below. none m above) applied in
+      let left = nothing_left (length t.acts) new.kept (omega arith) in
+      λ j. (
+        (sym (append-nil out) ∙ ap (λ (d : List Sending × Record AgentState). out ++ d.0) (sym left) ∙ all.sent) j,
+        (ap (λ (d : List Sending × Record AgentState). d.1) (sym left) ∙ all.kept) j,
+      )
 
 -- ---- the least open entry
 

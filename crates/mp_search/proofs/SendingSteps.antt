@@ -3,7 +3,6 @@ use Rattle.std.proofs.Common.{map-id, ◌≡◌, ℕ, zero, suc, ◌+◌, ◌-�
 use Rattle.std.specs.Prelude.{slice_get, option_map, IfSome, OnOk, if◌then◌else◌}
 use Rattle.std.specs.FinSet as set
 use Rattle.std.specs.Option.{option_map_or}
-use Rattle.std.proofs.lemmas.List.{append-nil}
 use Rattle.std.proofs.lemmas.List.FromFn.{filter_of_map_range_with_len_more}
 use Rattle.mp_sets.specs.Numbers.{Numbers, listed}
 use Rattle.mp_task.specs.AgentTask.{AgentTask}
@@ -23,20 +22,20 @@ use Rattle.mp_store.specs.declared.entry.Origin.TheVariants.{Own}
 use Rattle.mp_task.specs.declared.act.Act.{Act}
 use Rattle.std.specs.List.{filter, range_with_len}
 use Rattle.mp_search.specs.Search.{sent_sets, tokens_given}
-use Rattle.mp_search.specs.Sending.{message_of_entry, sending_of, sent_entry_of, sent_if_due}
+use Rattle.mp_search.specs.Sending.{is_due, message_of_entry, sending_of, sent_best, sent_entry_of, sent_if_due}
 use Rattle.mp_search.specs.StateKeys.{IsMessageOf, IsSent, IsShown, KeptStates, used_after}
-use Rattle.mp_search.specs.Steps.{AreStatesOf, HaveSent}
+use Rattle.mp_search.specs.Steps.{AreStatesOf, HasSent}
 use Rattle.mp_search.proofs.SentSets.{more_sets, order_more, same_entries, unsent_sets}
 
 -- nothing is sent, and nothing else happens
-pub nothing_sent : (t : AgentTask) (out : List Sending) (k : KeptStates) → AreStatesOf t k → HaveSent t ([], k.kept) out out k k
-nothing_sent t out k of = record { out = sym (append-nil out); kept = refl; states = of; longer = omega arith }
+pub nothing_sent : (t : AgentTask) (k : KeptStates) → AreStatesOf t k → HasSent t ([], k.kept) k k None
+nothing_sent t k of = record { sent = refl; kept = refl; states = of; longer = omega arith }
 
 -- what was not sent before counts as no sending
-pub later_sent : (t : AgentTask) (done : List Sending × Record AgentState) (before after : List Sending) (old mid new : KeptStates)
-    → length old.kept.entries ≤ length mid.kept.entries → HaveSent t done before after mid new → HaveSent t done before after old new
-later_sent t done before after old mid new more sent =
-    record { out = sent.out; kept = sent.kept; states = sent.states; longer = let h = sent.longer in omega arith }
+later_sent : (t : AgentTask) (done : List Sending × Record AgentState) (old mid new : KeptStates) (answer : Option Sending)
+    → length old.kept.entries ≤ length mid.kept.entries → HasSent t done mid new answer → HasSent t done old new answer
+later_sent t done old mid new answer more sent =
+    record { sent = sent.sent; kept = sent.kept; states = sent.states; longer = let h = sent.longer in omega arith }
 
 -- states whose sent sets are the same
 pub same_states : (t : AgentTask) (old new : KeptStates) → AreStatesOf t old → new.publics ≡ old.publics → new.privates ≡ old.privates
@@ -75,11 +74,11 @@ module _ (t : AgentTask) (s : AgentState) (n : ℕ) (answer : Option (ℕ × ℕ
             ∙ of.used ∙ ap (tokens_given t) (sym same);
       }
 
-  pub none_sent : answer ≡ None → (out : List Sending) → HaveSent t (sent_entry_of t s (Some n) old.kept) out out old new
-  none_sent none out =
+  pub none_sent : answer ≡ None → HasSent t (sent_entry_of t s (Some n) old.kept) old new None
+  none_sent none =
       let done : sent_entry_of t s (Some n) old.kept ≡ ([], new.kept) = as_decided ∙ ap (λ (a : Option (ℕ × ℕ)). sending_of t s e (option_map (λ x. x.0) a, new.kept)) none in
       record {
-        out = sym (append-nil out) ∙ ap (λ (d : List Sending × Record AgentState). out ++ d.0) (sym done);
+        sent = ap (λ (d : List Sending × Record AgentState). d.0) (sym done);
         kept = ap (λ (d : List Sending × Record AgentState). d.1) (sym done);
         states = states_unsent none;
         longer = not_shorter;
@@ -118,51 +117,49 @@ module _ (t : AgentTask) (s : AgentState) (n : ℕ) (answer : Option (ℕ × ℕ
           }))) j;
         }
 
-    pub one_sent : (out : List Sending) (m : State) → m ≡ message_of_entry t new.kept number e
-        → HaveSent t (sent_entry_of t s (Some n) old.kept) out (out ++ record { state = m; to = receivers t s } ∷ []) old new
-    one_sent out m is_message =
+    pub one_sent : (sending : Sending) → sending.state ≡ message_of_entry t new.kept number e → sending.to ≡ receivers t s
+        → HasSent t (sent_entry_of t s (Some n) old.kept) old new (Some sending)
+    one_sent sending is_message to =
         let done : sent_entry_of t s (Some n) old.kept ≡ (record { state = message_of_entry t new.kept number e; to = receivers t s } ∷ [], new.kept) =
         as_decided ∙ ap (λ (a : Option (ℕ × ℕ)). sending_of t s e (option_map (λ x. x.0) a, new.kept)) some
         in
         record {
-          out = (λ j. out ++ record { state = is_message j; to = receivers t s } ∷ []) ∙ ap (λ (d : List Sending × Record AgentState). out ++ d.0) (sym done);
+          sent = (λ j. record { state = is_message j; to = to j } ∷ []) ∙ ap (λ (d : List Sending × Record AgentState). d.0) (sym done);
           kept = ap (λ (d : List Sending × Record AgentState). d.1) (sym done);
           states = record { publics = publics ∙ of.publics; privates = privates ∙ of.privates; used = used_now };
           longer = not_shorter;
         }
 
 -- no entry, no sending
-pub none_best : (t : AgentTask) (s : AgentState) (out : List Sending) (k : KeptStates) → AreStatesOf t k → HaveSent t (sent_entry_of t s None k.kept) out out k k
+pub none_best : (t : AgentTask) (s : AgentState) (k : KeptStates) (due : Bool) → AreStatesOf t k
+    → HasSent t (if due then sent_entry_of t s None k.kept else ([], k.kept)) k k None
 unfolding sent_entry_of
-none_best t s out k of = nothing_sent t out k of
+none_best t s k true of = nothing_sent t k of
+none_best t s k false of = nothing_sent t k of
 
 -- ---- a state that an own action led to
 
 module _ (t : AgentTask) (value : Numbers → Numbers → Option ℕ) (p : Parent) (number : ℕ) (act : Act) where
-  pub successor_sent : (s reached : AgentState) (old mid new : KeptStates) (out after : List Sending)
+  pub successor_sent : (s reached : AgentState) (old mid new : KeptStates) (due : Bool) (answer : Option Sending)
       → reached ≡ s
       → mid.kept ≡ (offered_at t s (p.g + act.cost) (own_value t value s) (Own number p.number) old.kept).1
       → length old.kept.entries ≤ length mid.kept.entries
-      → HaveSent t (sent_if_due t act p.state reached mid.kept) out after mid new
-      → HaveSent t (with_successor t value p number act s old.kept) out after old new
-  unfolding with_successor
-  successor_sent s reached old mid new out after same kept_is more sent =
-      subst (λ (r : Record AgentState). HaveSent t (sent_if_due t act p.state s r) out after old new) kept_is
-      (subst (λ (x : AgentState). HaveSent t (sent_if_due t act p.state x mid.kept) out after old new) same
-      (later_sent t (sent_if_due t act p.state reached mid.kept) out after old mid new more sent))
+      → due ≡ is_due t act p.state reached
+      → HasSent t (if due then sent_best t reached mid.kept else ([], mid.kept)) mid new answer
+      → HasSent t (with_successor t value p number act s old.kept) old new answer
+  unfolding with_successor sent_if_due
+  successor_sent s reached old mid new due answer same kept_is more due_is sent =
+      subst (λ (r : Record AgentState). HasSent t (sent_if_due t act p.state s r) old new answer) kept_is
+      (subst (λ (x : AgentState). HasSent t (sent_if_due t act p.state x mid.kept) old new answer) same
+      (later_sent t (sent_if_due t act p.state reached mid.kept) old mid new answer more
+      (subst (λ (b : Bool). HasSent t (if b then sent_best t reached mid.kept else ([], mid.kept)) mid new answer) due_is sent)))
 
-  pub action_sent : (old new : KeptStates) (out after : List Sending) → applies act p.state ≡ true
-      → HaveSent t (with_successor t value p number act (successor act p.state) old.kept) out after old new
-      → HaveSent t (with_action t value p number act old.kept) out after old new
+  pub action_sent : (old new : KeptStates) (answer : Option Sending) → applies act p.state ≡ true
+      → HasSent t (with_successor t value p number act (successor act p.state) old.kept) old new answer
+      → HasSent t (with_action t value p number act old.kept) old new answer
   unfolding with_action
-  action_sent old new out after may sent =
-      subst (λ (b : Bool). HaveSent t (if b then with_successor t value p number act (successor act p.state) old.kept else ([], old.kept)) out after old new) (sym may) sent
-
-  pub no_action : (k : KeptStates) (out : List Sending) → applies act p.state ≡ false → AreStatesOf t k
-      → HaveSent t (with_action t value p number act k.kept) out out k k
-  unfolding with_action
-  no_action k out may_not of =
-      subst (λ (b : Bool). HaveSent t (if b then with_successor t value p number act (successor act p.state) k.kept else ([], k.kept)) out out k k) (sym may_not) (nothing_sent t out k of)
+  action_sent old new answer may sent =
+      subst (λ (b : Bool). HasSent t (if b then with_successor t value p number act (successor act p.state) old.kept else ([], old.kept)) old new answer) (sym may) sent
 
 -- an entry at a place inside
 pub entry_inside : {X : Type 0} (xs : List X) (n : ℕ) → n < length xs → (x : X) × (slice_get xs n ≡ Some x)

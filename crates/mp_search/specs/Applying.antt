@@ -1,5 +1,5 @@
 -- Own actions that may be applied in a state, and what each adds.
-use Rattle.std.specs.Prelude.{◌≡◌, ℕ, Bool, List, Option, Some, length, slice_get}
+use Rattle.std.specs.Prelude.{◌≡◌, ℕ, Bool, Option, Some, length, slice_get}
 use Rattle.std.specs.FinSet as set
 use Rattle.mp_sets.specs.Numbers.{Numbers, SizedSet}
 use Rattle.mp_task.specs.declared.act.Act.{Act}
@@ -10,7 +10,7 @@ use Rattle.mp_search.specs.declared.expansion.Scratch.{Scratch}
 use Rattle.mp_search.specs.AgentState.{AgentState}
 use Rattle.mp_search.specs.Expansion.{Parent, with_action}
 use Rattle.mp_search.specs.StateKeys.{HasSizes, KeptStates}
-use Rattle.mp_search.specs.Steps.{HaveSent}
+use Rattle.mp_search.specs.Steps.{HasSent}
 
 -- there is an own action of a number, and it may be applied
 abbrev pub is_applicable_in : AgentTask → AgentState → ℕ → Bool
@@ -27,12 +27,12 @@ pub record HasApplied
     (value : Numbers → Numbers → Option ℕ)
     (parent : Parent)
     (number : ℕ)
-    (before after : List Sending)
     (old new : KeptStates)
+    (answer : Option Sending)
     : Type 0 where
   pub act : Act
   pub is : slice_get t.acts number ≡ Some act
-  pub sent : HaveSent t (with_action t value parent number act old.kept) before after old new
+  pub sent : HasSent t (with_action t value parent number act old.kept) old new answer
 
 -- there is room for the sets of an expansion in a task
 pub record HasRoom (t : AgentTask) (x : Scratch) : Type 0 where

@@ -2,15 +2,13 @@
 use Rattle.std.specs.Prelude.{◌≡◌, ◌≤◌, ℕ, Bool, false}
 use Rattle.mp_task.specs.AgentTask.{AgentTask}
 use Rattle.mp_task.specs.Limits.{most_expansions}
-use Rattle.mp_applicable.specs.Far.{IsFarIndexOf}
-use Rattle.mp_applicable.specs.Index.{IsIndexOf}
 use Rattle.mp_search.specs.Applying.{HasRoom}
-use Rattle.mp_search.specs.declared.expansion.Index.{Index}
+use Rattle.mp_search.specs.declared.context.Context.{Context}
 use Rattle.mp_search.specs.declared.expansion.Scratch.{Scratch}
 use Rattle.mp_search.specs.declared.reached.Reached.{Reached}
 use Rattle.mp_search.specs.Search.{AgentSearch}
 use Rattle.mp_search.specs.StateKeys.{HasSizes, KeptStates}
-use Rattle.mp_search.specs.Steps.{AreStatesOf}
+use Rattle.mp_search.specs.Steps.{AreStatesOf, IsContext}
 
 abbrev pub agent_search : AgentTask → ℕ → KeptStates → ℕ → Bool → AgentSearch
 agent_search t limit k expansions failed = record {
@@ -22,10 +20,9 @@ agent_search t limit k expansions failed = record {
 
 pub record IsSearch
     (IsFor : AgentTask → Type 0)
-    (t : AgentTask)
+    (c : Context)
     (limit : ℕ)
     (k : KeptStates)
-    (index : Index)
     (scratch : Scratch)
     (came : Reached)
     (expansions : ℕ)
@@ -33,9 +30,8 @@ pub record IsSearch
     : Type 0 where
   pub at_most : limit ≤ most_expansions
   pub within : expansions ≤ limit
-  pub heuristic : IsFor t
-  pub actions : IsIndexOf t index.actions
-  pub far : IsFarIndexOf t index.far
-  pub room : failed ≡ false → HasRoom t scratch
-  pub sizes : HasSizes t.publics t.privates came
-  pub states : failed ≡ false → AreStatesOf t k
+  pub heuristic : IsFor c.task
+  pub context : IsContext c
+  pub room : failed ≡ false → HasRoom c.task scratch
+  pub sizes : HasSizes c.task.publics c.task.privates came
+  pub states : failed ≡ false → AreStatesOf c.task k

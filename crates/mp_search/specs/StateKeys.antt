@@ -1,5 +1,5 @@
 -- Keys of a store, and the states that they stand for.
-use Rattle.std.specs.Prelude.{◌≡◌, ℕ, ◌<◌, List, length, All, Option, None, Some, IfSome, option_map, slice_get}
+use Rattle.std.specs.Prelude.{◌≡◌, ℕ, Bool, ◌<◌, List, length, All, Option, None, Some, IfSome, option_map, slice_get}
 use Rattle.std.specs.Coded.{Coded, coded_ℕ}
 use Rattle.std.specs.FinSet as set
 use Rattle.mp_sets.specs.Numbers.{Numbers, listed}
@@ -10,9 +10,10 @@ use Rattle.mp_tokens.specs.Order.{AreDifferent, place, set_at, with_set}
 use Rattle.mp_store.specs.declared.key.Key.{Key}
 use Rattle.mp_store.specs.declared.entry.Entry.{Entry}
 use Rattle.mp_store.specs.Named.{named}
-use Rattle.mp_store.specs.Record.{Record}
+use Rattle.mp_store.specs.Record.{Record, new_entry}
 use Rattle.mp_store.specs.Sent.{mark_sent}
 use Rattle.mp_search.specs.declared.reached.Reached.{Reached}
+use Rattle.mp_search.specs.declared.states.Arrival.{Arrival}
 use Rattle.mp_search.specs.declared.states.Shown.{Shown}
 use Rattle.mp_search.specs.declared.states.States.TheInside.{Inside}
 use Rattle.mp_search.specs.AgentState.{AgentState, same_state, with_tag}
@@ -66,6 +67,10 @@ reached_state x = record {
 pub record HasSizes (publics privates : ℕ) (x : Reached) : Type 0 where
   pub publics_size : x.key.publics.size ≡ publics
   pub privates_size : x.mine.size ≡ privates
+
+-- the entry of a state that was reached so
+abbrev pub entry_of : AgentState → Arrival → Bool → Entry AgentState
+entry_of s arrival goal = new_entry s arrival.g arrival.h arrival.origin goal
 
 -- an entry as a caller sees it
 pub record IsShown (x : Shown) (e : Entry AgentState) : Type 0 where

@@ -1,39 +1,31 @@
 //! How an entry is expanded.
 
-ghost use Rattle.std.specs.Prelude.{◌≡◌, ◌<◌, ◌≤◌, ◌+◌, ◌^◌, ℕ, true, Some, IfOk, OnOk, IsSomeAnd, length, slice_get};
+ghost use Rattle.std.specs.Prelude.{◌≡◌, ◌<◌, ◌≤◌, ◌+◌, ◌++◌, ◌^◌, [], ℕ, true, Some, IfOk, OnOk, IsSomeAnd, length, slice_get};
+ghost use Rattle.std.specs.List.{cons_option};
 ghost use Rattle.mp_task.specs.Limits.{ActFits};
-ghost use Rattle.mp_applicable.specs.Far.{IsFarIndexOf};
 ghost use Rattle.mp_applicable.specs.Index.{IsIndexOf};
 ghost use Rattle.mp_store.specs.Laws.{IsEarlier};
 ghost use Rattle.mp_store.specs.Minima.{best};
-ghost use Rattle.mp_search.specs.AgentState.{applies, same_state};
+ghost use Rattle.mp_search.specs.AgentState.{same_state};
 ghost use Rattle.mp_search.specs.Applying.{is_applicable_in, AreFound, HasApplied, HasRoom};
-ghost use Rattle.mp_search.specs.Expansion.{expanded, with_action, with_actions};
+ghost use Rattle.mp_search.specs.Expansion.{expanded, with_actions};
 ghost use Rattle.mp_search.specs.Offering.{offered_at, own_value};
 ghost use Rattle.mp_search.specs.Search.{is_open_below};
 ghost use Rattle.mp_search.specs.StateKeys.{reached_state, HasSizes};
-ghost use Rattle.mp_search.specs.Steps.{parent_of, AreStatesOf, HaveSent, IsExpanding};
+ghost use Rattle.mp_search.specs.Steps.{parent_of, AreStatesOf, IsContext, IsExpanding};
 
-use crate::answer::SendingList;
+use crate::answer::{Sending, SendingList};
+use crate::context::{Context, Progress};
 use crate::offering::{best_after, offer_found};
 use crate::reached::Reached;
-use crate::sending::send_if_due;
-use crate::states::States;
-use mp_applicable::{ActionIndex, FarIndex};
+use crate::sending::{first_due, send_if_due};
+use crate::states::{Arrival, States};
+use mp_applicable::ActionIndex;
 use mp_list::OutOfMemory;
 use mp_sets::{Bits, Tags};
 use mp_store::{Key, Origin};
 use mp_task::{Act, Heuristic, Task};
 use std::alloc::Global;
-
-/// What is worked out once of a task.
-#[derive(Drop)]
-pub(crate) struct Index {
-    /// Finds the own actions that may be applied.
-    pub(crate) actions: ActionIndex,
-    /// Tells which other agents' public actions may be applicable.
-    pub(crate) far: FarIndex,
-}
 
 /// An entry that is expanded.
 #[derive(Drop)]
@@ -130,150 +122,116 @@ fn action(task: &Task, number: u32) -> &Act
 /// the state, whatever the estimate.
 fn offer_new<H: Heuristic>(
     task: &Task,
-    heuristic: &mut H,
-    states: &mut States,
+    progress: &mut Progress<H>,
     reached: &mut Reached,
     g: u64,
     origin: Origin,
 ) -> Result<Option<u64>, OutOfMemory>
-    requires heuristic { H.is_for heuristic.old task.now }
-    requires states { AreStatesOf task.now states.old }
+    requires heuristic { H.is_for progress.old.heuristic task.now }
+    requires states { AreStatesOf task.now progress.old.states }
     requires sizes { HasSizes task.now.publics task.now.privates reached.old }
-    requires parent { IsEarlier (length states.old.kept.entries) origin }
-    ensures kept { OnOk result (states.new.kept ≡ (offered_at task.now (reached_state reached.old) g
-        (own_value task.now (H.value task.now) (reached_state reached.old)) origin states.old.kept).1) }
-    ensures best { IfOk result (λ found. found ≡ best same_state (reached_state reached.old) states.new.kept) }
-    ensures longer { OnOk result (length states.old.kept.entries ≤ length states.new.kept.entries) }
-    ensures states { OnOk result (AreStatesOf task.now states.new) }
-    ensures heuristic { H.is_for heuristic.new task.now }
+    requires parent { IsEarlier (length progress.old.states.kept.entries) origin }
+    ensures kept { OnOk result (progress.new.states.kept ≡ (offered_at task.now (reached_state reached.old) g
+        (own_value task.now (H.value task.now) (reached_state reached.old)) origin progress.old.states.kept).1) }
+    ensures best { IfOk result (λ found. found ≡ best same_state (reached_state reached.old) progress.new.states.kept) }
+    ensures longer { OnOk result (length progress.old.states.kept.entries ≤ length progress.new.states.kept.entries) }
+    ensures states { OnOk result (AreStatesOf task.now progress.new.states) }
+    ensures heuristic { H.is_for progress.new.heuristic task.now }
     ensures state { reached_state reached.new ≡ reached_state reached.old }
     ensures sizes { HasSizes task.now.publics task.now.privates reached.new }
 {
-    let found = states.best(reached);
-    if states.is_as_cheap(found, g) {
+    let found = progress.states.best(reached);
+    if progress.states.is_as_cheap(found, g) {
         return Ok(found);
     }
-    let value = heuristic.value(&reached.key.publics, &reached.mine)?;
-    let received = offer_found(task, states, reached, found, g, value, origin)?;
-    Ok(best_after(found, received))
+    let value = progress
+        .heuristic
+        .value(&reached.key.publics, &reached.mine)?;
+    match value {
+        Some(h) => {
+            let arrival = Arrival { g, h, origin };
+            let received = offer_found(task, &mut progress.states, reached, found, arrival)?;
+            Ok(best_after(found, received))
+        }
+        None => Ok(found),
+    }
 }
 
-/// Applies an own action that may be applied: the state that it leads to is offered, and sent where that is due.
-fn add_action<H: Heuristic>(
-    alloc: Global,
-    task: &Task,
-    far: &FarIndex,
-    heuristic: &mut H,
+/// Applies the own action of a number, which may be applied: the state that it leads to is offered, and sent where that
+/// is due.
+fn add_found<H: Heuristic>(
+    context: &Context,
+    progress: &mut Progress<H>,
     number: u32,
-    act: &Act,
     parent: &Expanding,
-    states: &mut States,
     reached: &mut Reached,
-    out: &mut SendingList,
-) -> Result<(), OutOfMemory>
-    requires heuristic { H.is_for heuristic.old task.now }
-    requires index { IsFarIndexOf task.now far.now }
-    requires act { slice_get task.now.acts number ≡ Some act.now }
-    requires states { AreStatesOf task.now states.old }
-    requires parent { IsExpanding task.now states.old parent.now }
-    requires applies { applies act.now (reached_state parent.now.state) ≡ true }
-    requires sizes { HasSizes task.now.publics task.now.privates reached.old }
+) -> Result<Option<Sending>, OutOfMemory>
+    requires context { IsContext context.now }
+    requires heuristic { H.is_for progress.old.heuristic context.now.task }
+    requires states { AreStatesOf context.now.task progress.old.states }
+    requires inside { number < length context.now.task.acts }
+    requires parent { IsExpanding context.now.task progress.old.states parent.now }
+    requires found { is_applicable_in context.now.task (reached_state parent.now.state) number ≡ true }
+    requires sizes { HasSizes context.now.task.publics context.now.task.privates reached.old }
     requires tags { reached.old.key.tags ≡ parent.now.state.key.tags }
-    ensures sent { OnOk result (HaveSent task.now
-        (with_action task.now (H.value task.now) (parent_of parent.now) number act.now states.old.kept)
-        out.old out.new states.old states.new) }
-    ensures heuristic { H.is_for heuristic.new task.now }
-    ensures sizes { HasSizes task.now.publics task.now.privates reached.new }
+    ensures sent { IfOk result (HasApplied context.now.task (H.value context.now.task) (parent_of parent.now) number
+        progress.old.states progress.new.states) }
+    ensures heuristic { H.is_for progress.new.heuristic context.now.task }
+    ensures sizes { HasSizes context.now.task.publics context.now.task.privates reached.new }
     ensures tags { reached.new.key.tags ≡ parent.now.state.key.tags }
 {
+    let task = &context.task;
+    let act = action(task, number);
     keeps_limits(task, number, act);
     reached.follow(&parent.state, act);
-    let g = parent.g + act.cost;
     let origin = Origin::Own {
         action: number,
         parent: parent.number,
     };
-    let found = offer_new(task, heuristic, states, reached, g, origin)?;
-    let is_public = task.is_public(number);
-    send_if_due(
-        alloc,
-        task,
-        far,
-        is_public,
-        act,
-        &parent.state,
-        states,
-        reached,
-        found,
-        out,
-    )
+    let found = offer_new(task, progress, reached, parent.g + act.cost, origin)?;
+    let due = first_due(context, task.is_public(number), act, &parent.state, reached);
+    send_if_due(context, &mut progress.states, reached, due, found)
 }
 
-/// Applies the own action of a number, which may be applied.
-fn add_found<H: Heuristic>(
-    alloc: Global,
-    task: &Task,
-    far: &FarIndex,
-    heuristic: &mut H,
-    number: u32,
-    parent: &Expanding,
-    states: &mut States,
-    reached: &mut Reached,
-    out: &mut SendingList,
-) -> Result<(), OutOfMemory>
-    requires heuristic { H.is_for heuristic.old task.now }
-    requires index { IsFarIndexOf task.now far.now }
-    requires inside { number < length task.now.acts }
-    requires states { AreStatesOf task.now states.old }
-    requires parent { IsExpanding task.now states.old parent.now }
-    requires found { is_applicable_in task.now (reached_state parent.now.state) number ≡ true }
-    requires sizes { HasSizes task.now.publics task.now.privates reached.old }
-    requires tags { reached.old.key.tags ≡ parent.now.state.key.tags }
-    ensures sent { OnOk result (HasApplied task.now (H.value task.now) (parent_of parent.now) number
-        out.old out.new states.old states.new) }
-    ensures heuristic { H.is_for heuristic.new task.now }
-    ensures sizes { HasSizes task.now.publics task.now.privates reached.new }
-    ensures tags { reached.new.key.tags ≡ parent.now.state.key.tags }
+/// Adds what was sent, if anything was.
+fn add_sending(out: &mut SendingList, sending: Option<Sending>) -> Result<(), OutOfMemory>
+    ensures { OnOk result (out.new ≡ out.old ++ cons_option sending []) }
 {
-    let act = action(task, number);
-    add_action(
-        alloc, task, far, heuristic, number, act, parent, states, reached, out,
-    )
+    match sending {
+        Some(sending) => out.push(sending),
+        None => Ok(()),
+    }
 }
 
 /// Applies each own action that may be applied, in number order.
 fn add_actions<H: Heuristic>(
-    alloc: Global,
-    task: &Task,
-    far: &FarIndex,
-    heuristic: &mut H,
+    context: &Context,
+    progress: &mut Progress<H>,
     found: &Bits,
     parent: &Expanding,
-    states: &mut States,
     reached: &mut Reached,
-    out: &mut SendingList,
-) -> Result<(), OutOfMemory>
-    requires heuristic { H.is_for heuristic.old task.now }
-    requires index { IsFarIndexOf task.now far.now }
-    requires sizes { HasSizes task.now.publics task.now.privates reached.old }
+) -> Result<SendingList, OutOfMemory>
+    requires context { IsContext context.now }
+    requires heuristic { H.is_for progress.old.heuristic context.now.task }
+    requires states { AreStatesOf context.now.task progress.old.states }
+    requires found { AreFound context.now.task (reached_state parent.now.state) found.now }
+    requires parent { IsExpanding context.now.task progress.old.states parent.now }
+    requires sizes { HasSizes context.now.task.publics context.now.task.privates reached.old }
     requires tags { reached.old.key.tags ≡ parent.now.state.key.tags }
-    requires found { AreFound task.now (reached_state parent.now.state) found.now }
-    requires states { AreStatesOf task.now states.old }
-    requires parent { IsExpanding task.now states.old parent.now }
-    ensures sent { OnOk result (HaveSent task.now
-        (with_actions task.now (H.value task.now) (parent_of parent.now) 0 task.now.acts states.old.kept)
-        out.old out.new states.old states.new) }
-    ensures heuristic { H.is_for heuristic.new task.now }
-    ensures sizes { HasSizes task.now.publics task.now.privates reached.new }
+    ensures sent { IfOk result (λ out. (out, progress.new.states.kept) ≡ with_actions context.now.task
+        (H.value context.now.task) (parent_of parent.now) 0 context.now.task.acts progress.old.states.kept) }
+    ensures states { OnOk result (AreStatesOf context.now.task progress.new.states) }
+    ensures heuristic { H.is_for progress.new.heuristic context.now.task }
+    ensures sizes { HasSizes context.now.task.publics context.now.task.privates reached.new }
 {
+    let mut out = SendingList::new(context.alloc);
     let mut from = 0;
     while let Some(number) = found.least_from(from) {
-        add_found(
-            alloc, task, far, heuristic, number, parent, states, reached, out,
-        )?;
+        let sending = add_found(context, progress, number, parent, reached)?;
+        add_sending(&mut out, sending)?;
         from = number + 1;
     }
-    Ok(())
+    Ok(out)
 }
 
 /// The own actions that may be applied in a state.
@@ -306,77 +264,57 @@ fn set_parent(parent: &mut Expanding, states: &States, number: u64) -> Result<()
 
 /// Applies each own action that may be applied in an entry.
 fn expand_entry<H: Heuristic>(
-    alloc: Global,
-    task: &Task,
-    index: &Index,
-    heuristic: &mut H,
+    context: &Context,
+    progress: &mut Progress<H>,
     number: u64,
-    states: &mut States,
-    found: &mut Bits,
-    parent: &mut Expanding,
-    reached: &mut Reached,
+    scratch: &mut Scratch,
 ) -> Result<SendingList, OutOfMemory>
-    requires heuristic { H.is_for heuristic.old task.now }
-    requires actions { IsIndexOf task.now index.now.actions }
-    requires far { IsFarIndexOf task.now index.now.far }
-    requires size { found.old.size ≡ length task.now.acts }
-    requires parent { HasSizes task.now.publics task.now.privates parent.old.state }
-    requires reached { HasSizes task.now.publics task.now.privates reached.old }
-    requires states { AreStatesOf task.now states.old }
-    requires inside { number < length states.old.kept.entries }
-    ensures sent { IfOk result (λ out. IsSomeAnd (slice_get states.old.kept.entries number) (λ e.
-        (out, states.new.kept) ≡ with_actions task.now (H.value task.now)
-        (record { number = number; state = e.key; g = e.g }) 0 task.now.acts states.old.kept)) }
-    ensures states { OnOk result (AreStatesOf task.now states.new) }
-    ensures heuristic { H.is_for heuristic.new task.now }
-    ensures size { OnOk result (found.new.size ≡ length task.now.acts) }
-    ensures parent { OnOk result (HasSizes task.now.publics task.now.privates parent.new.state) }
-    ensures reached { OnOk result (HasSizes task.now.publics task.now.privates reached.new) }
+    requires context { IsContext context.now }
+    requires heuristic { H.is_for progress.old.heuristic context.now.task }
+    requires states { AreStatesOf context.now.task progress.old.states }
+    requires inside { number < length progress.old.states.kept.entries }
+    requires room { HasRoom context.now.task scratch.old }
+    ensures sent { IfOk result (λ out. IsSomeAnd (slice_get progress.old.states.kept.entries number) (λ e.
+        (out, progress.new.states.kept) ≡ with_actions context.now.task (H.value context.now.task)
+        (record { number = number; state = e.key; g = e.g }) 0 context.now.task.acts progress.old.states.kept)) }
+    ensures states { OnOk result (AreStatesOf context.now.task progress.new.states) }
+    ensures heuristic { H.is_for progress.new.heuristic context.now.task }
+    ensures room { OnOk result (HasRoom context.now.task scratch.new) }
 {
-    let mut out = SendingList::new(alloc);
-    set_parent(parent, states, number)?;
+    let parent = &mut scratch.parent;
+    let reached = &mut scratch.reached;
+    set_parent(parent, &progress.states, number)?;
     set_tags(&mut reached.key.tags, &parent.state.key.tags)?;
-    find(&index.actions, task, &parent.state, found);
-    add_actions(
-        alloc, task, &index.far, heuristic, found, parent, states, reached, &mut out,
-    )?;
-    Ok(out)
+    find(
+        &context.actions,
+        &context.task,
+        &parent.state,
+        &mut scratch.found,
+    );
+    add_actions(context, progress, &scratch.found, parent, reached)
 }
 
 /// Expands the least open entry.
 pub(crate) fn expand_least<H: Heuristic>(
-    alloc: Global,
-    task: &Task,
-    index: &Index,
-    heuristic: &mut H,
-    states: &mut States,
+    context: &Context,
+    progress: &mut Progress<H>,
     scratch: &mut Scratch,
 ) -> Result<SendingList, OutOfMemory>
-    requires heuristic { H.is_for heuristic.old task.now }
-    requires actions { IsIndexOf task.now index.now.actions }
-    requires far { IsFarIndexOf task.now index.now.far }
-    requires room { HasRoom task.now scratch.old }
-    requires states { AreStatesOf task.now states.old }
-    requires open { is_open_below states.old.kept ≡ true }
+    requires context { IsContext context.now }
+    requires heuristic { H.is_for progress.old.heuristic context.now.task }
+    requires states { AreStatesOf context.now.task progress.old.states }
+    requires open { is_open_below progress.old.states.kept ≡ true }
+    requires room { HasRoom context.now.task scratch.old }
     ensures expanded { IfOk result (λ out. (expansions : ℕ)
-        → (out, record { kept = states.new.kept; expansions = expansions + 1 })
-        ≡ expanded task.now (H.value task.now) (record { kept = states.old.kept; expansions = expansions })) }
-    ensures states { OnOk result (AreStatesOf task.now states.new) }
-    ensures heuristic { H.is_for heuristic.new task.now }
-    ensures room { OnOk result (HasRoom task.now scratch.new) }
+        → (out, record { kept = progress.new.states.kept; expansions = expansions + 1 })
+        ≡ expanded context.now.task (H.value context.now.task)
+        (record { kept = progress.old.states.kept; expansions = expansions })) }
+    ensures states { OnOk result (AreStatesOf context.now.task progress.new.states) }
+    ensures heuristic { H.is_for progress.new.heuristic context.now.task }
+    ensures room { OnOk result (HasRoom context.now.task scratch.new) }
 {
-    let Some(number) = states.pop_least() else {
-        return Ok(SendingList::new(alloc));
+    let Some(number) = progress.states.pop_least() else {
+        return Ok(SendingList::new(context.alloc));
     };
-    expand_entry(
-        alloc,
-        task,
-        index,
-        heuristic,
-        number,
-        states,
-        &mut scratch.found,
-        &mut scratch.parent,
-        &mut scratch.reached,
-    )
+    expand_entry(context, progress, number, scratch)
 }

@@ -3,6 +3,7 @@
 
 mod answer;
 mod concern;
+mod context;
 mod expansion;
 mod laws;
 mod offering;

@@ -4,16 +4,16 @@ ghost use Rattle.std.specs.Prelude.{◌≡◌, ◌≤◌, ◌+◌, ◌^◌, nat_
 ghost use Rattle.mp_store.specs.Laws.{IsEarlier};
 ghost use Rattle.mp_store.specs.Minima.{best};
 ghost use Rattle.mp_search.specs.AgentState.{same_state};
-ghost use Rattle.mp_search.specs.Offering.{best_after, offered_at, offered_with, reception_of};
+ghost use Rattle.mp_search.specs.Offering.{best_after, offered_with, reception_of};
 ghost use Rattle.mp_search.specs.StateKeys.{reached_state, HasSizes};
 ghost use Rattle.mp_search.specs.Steps.{AreStatesOf};
 
 use crate::answer::Received;
 use crate::concern::is_goal;
 use crate::reached::Reached;
-use crate::states::States;
+use crate::states::{Arrival, States};
 use mp_list::OutOfMemory;
-use mp_store::{Offer, Origin};
+use mp_store::Offer;
 use mp_task::Task;
 
 /// Every cost and estimate together are below it.
@@ -47,84 +47,51 @@ pub(crate) fn best_after(found: Option<u64>, received: Received) -> Option<u64>
     }
 }
 
-/// Offers a state at a cost and with an estimate. Its best entry is known, if it has one.
+/// Offers a state. Its best entry is known, if it has one.
 #[tactic(auto, unfolding(crate::specs::Offering::offered_with), using(crate::proofs::SendingSteps::same_states))]
-fn offer_with(
-    task: &Task,
-    states: &mut States,
-    state: &mut Reached,
-    found: Option<u64>,
-    g: u64,
-    h: u64,
-    origin: Origin,
-) -> Result<Received, OutOfMemory>
-    requires found { found ≡ best same_state (reached_state state.old) states.old.kept }
-    requires states { AreStatesOf task.now states.old }
-    requires sizes { HasSizes task.now.publics task.now.privates state.old }
-    requires parent { IsEarlier (length states.old.kept.entries) origin }
-    ensures offered { IfOk result (λ answer. (answer, states.new.kept)
-        ≡ offered_with task.now (reached_state state.old) g h origin states.old.kept) }
-    ensures states { OnOk result (AreStatesOf task.now states.new) }
-    ensures longer { OnOk result (length states.old.kept.entries ≤ length states.new.kept.entries) }
-    ensures state { reached_state state.new ≡ reached_state state.old }
-    ensures sizes { HasSizes task.now.publics task.now.privates state.new }
-{
-    if !is_in_range(g, h) {
-        return Ok(Received::Worse);
-    }
-    if states.is_as_cheap(found, g) {
-        return Ok(Received::Worse);
-    }
-    let goal = is_goal(task, state);
-    Ok(reception(states.offer(state, found, g, h, origin, goal)?))
-}
-
-/// Offers a state at a cost, with an estimate or none. Its best entry is known, if it has one.
 pub(crate) fn offer_found(
     task: &Task,
     states: &mut States,
     state: &mut Reached,
     found: Option<u64>,
-    g: u64,
-    value: Option<u64>,
-    origin: Origin,
+    arrival: Arrival,
 ) -> Result<Received, OutOfMemory>
     requires found { found ≡ best same_state (reached_state state.old) states.old.kept }
     requires states { AreStatesOf task.now states.old }
     requires sizes { HasSizes task.now.publics task.now.privates state.old }
-    requires parent { IsEarlier (length states.old.kept.entries) origin }
+    requires parent { IsEarlier (length states.old.kept.entries) arrival.origin }
     ensures offered { IfOk result (λ answer. (answer, states.new.kept)
-        ≡ offered_at task.now (reached_state state.old) g value origin states.old.kept) }
+        ≡ offered_with task.now (reached_state state.old) arrival.g arrival.h arrival.origin states.old.kept) }
     ensures states { OnOk result (AreStatesOf task.now states.new) }
     ensures longer { OnOk result (length states.old.kept.entries ≤ length states.new.kept.entries) }
     ensures state { reached_state state.new ≡ reached_state state.old }
     ensures sizes { HasSizes task.now.publics task.now.privates state.new }
 {
-    match value {
-        Some(h) => offer_with(task, states, state, found, g, h, origin),
-        None => Ok(Received::Dead),
+    if !is_in_range(arrival.g, arrival.h) {
+        return Ok(Received::Worse);
     }
+    if states.is_as_cheap(found, arrival.g) {
+        return Ok(Received::Worse);
+    }
+    let goal = is_goal(task, state);
+    Ok(reception(states.offer(state, found, arrival, goal)?))
 }
 
-/// Offers a state at a cost, with an estimate or none.
-pub(crate) fn offer_at(
+/// Offers a state.
+pub(crate) fn offer(
     task: &Task,
     states: &mut States,
     state: &mut Reached,
-    g: u64,
-    value: Option<u64>,
-    origin: Origin,
+    arrival: Arrival,
 ) -> Result<Received, OutOfMemory>
     requires states { AreStatesOf task.now states.old }
     requires sizes { HasSizes task.now.publics task.now.privates state.old }
-    requires parent { IsEarlier (length states.old.kept.entries) origin }
+    requires parent { IsEarlier (length states.old.kept.entries) arrival.origin }
     ensures offered { IfOk result (λ answer. (answer, states.new.kept)
-        ≡ offered_at task.now (reached_state state.old) g value origin states.old.kept) }
+        ≡ offered_with task.now (reached_state state.old) arrival.g arrival.h arrival.origin states.old.kept) }
     ensures states { OnOk result (AreStatesOf task.now states.new) }
-    ensures longer { OnOk result (length states.old.kept.entries ≤ length states.new.kept.entries) }
-    ensures state { reached_state state.new ≡ reached_state state.old }
     ensures sizes { HasSizes task.now.publics task.now.privates state.new }
 {
     let found = states.best(state);
-    offer_found(task, states, state, found, g, value, origin)
+    offer_found(task, states, state, found, arrival)
 }

@@ -15,9 +15,10 @@ ghost use Rattle.mp_search.specs.Steps.{AreStatesOf};
 
 use crate::answer::{ReceiveRefusal, Received};
 use crate::concern::is_met;
-use crate::offering::offer_at;
+use crate::context::Progress;
+use crate::offering::offer;
 use crate::reached::Reached;
-use crate::states::States;
+use crate::states::Arrival;
 use mp_list::{Copied, OutOfMemory};
 use mp_messages::{State, StateNumbers, decode_state_into};
 use mp_sets::{Agent, Bits, BitsView, Tag, Tags};
@@ -89,59 +90,64 @@ fn greater<H: Heuristic>(
 /// Offers a state that came from another agent.
 fn offer_received<H: Heuristic>(
     task: &Task,
-    heuristic: &mut H,
-    states: &mut States,
+    progress: &mut Progress<H>,
     from: Agent,
     numbers: StateNumbers,
     state: &mut Reached,
 ) -> Result<Received, OutOfMemory>
-    requires heuristic { H.is_for heuristic.old task.now }
-    requires states { AreStatesOf task.now states.old }
+    requires heuristic { H.is_for progress.old.heuristic task.now }
+    requires states { AreStatesOf task.now progress.old.states }
     requires sizes { HasSizes task.now.publics task.now.privates state.old }
-    ensures received { IfOk result (λ answer. (answer, states.new.kept)
+    ensures received { IfOk result (λ answer. (answer, progress.new.states.kept)
         ≡ offered_at task.now (reached_state state.old) numbers.g
-        (greater_value task.now (H.value task.now) numbers.h (reached_state state.old)) (From from numbers.sent) states.old.kept) }
-    ensures states { OnOk result (AreStatesOf task.now states.new) }
+        (greater_value task.now (H.value task.now) numbers.h (reached_state state.old)) (From from numbers.sent)
+        progress.old.states.kept) }
+    ensures states { OnOk result (AreStatesOf task.now progress.new.states) }
     ensures sizes { HasSizes task.now.publics task.now.privates state.new }
-    ensures heuristic { H.is_for heuristic.new task.now }
+    ensures heuristic { H.is_for progress.new.heuristic task.now }
 {
-    let value = greater(task, heuristic, numbers.h, state)?;
-    let origin = Origin::From {
-        agent: from,
-        sent: numbers.sent,
+    let Some(h) = greater(task, &mut progress.heuristic, numbers.h, state)? else {
+        return Ok(Received::Dead);
     };
-    offer_at(task, states, state, numbers.g, value, origin)
+    let arrival = Arrival {
+        g: numbers.g,
+        h,
+        origin: Origin::From {
+            agent: from,
+            sent: numbers.sent,
+        },
+    };
+    offer(task, &mut progress.states, state, arrival)
 }
 
 /// Receives a state from another agent, whose facts and tags are as they came.
 fn receive_read<H: Heuristic>(
     task: &Task,
-    heuristic: &mut H,
-    states: &mut States,
+    progress: &mut Progress<H>,
     from: Agent,
     numbers: StateNumbers,
     state: &mut Reached,
 ) -> Result<Received, ReceiveRefusal>
-    requires heuristic { H.is_for heuristic.old task.now }
-    requires states { AreStatesOf task.now states.old }
+    requires heuristic { H.is_for progress.old.heuristic task.now }
+    requires states { AreStatesOf task.now progress.old.states }
     requires sizes { HasSizes task.now.publics task.now.privates state.old }
     ensures receipt { (m : State) → parts numbers state.old.key.publics.members state.old.key.tags ≡ parts_of m
         → (expansions : ℕ) → lacks_memory_for result ≡ false
-        → (result, record { kept = states.new.kept; expansions = expansions })
-        ≡ receipt task.now (H.value task.now) from m (record { kept = states.old.kept; expansions = expansions }) }
-    ensures states { lacks_memory_for result ≡ false → AreStatesOf task.now states.new }
+        → (result, record { kept = progress.new.states.kept; expansions = expansions })
+        ≡ receipt task.now (H.value task.now) from m (record { kept = progress.old.states.kept; expansions = expansions }) }
+    ensures states { lacks_memory_for result ≡ false → AreStatesOf task.now progress.new.states }
     ensures sizes { HasSizes task.now.publics task.now.privates state.new }
-    ensures heuristic { H.is_for heuristic.new task.now }
+    ensures heuristic { H.is_for progress.new.heuristic task.now }
 {
     let tag = tag_of(task.me, &state.key.tags);
-    let Some(mine) = states.own_set(tag.token) else {
+    let Some(mine) = progress.states.own_set(tag.token) else {
         return Err(ReceiveRefusal::UnknownToken);
     };
     if !is_byte_right(task, tag, &mine) {
         return Err(ReceiveRefusal::WrongByte);
     }
     enter(task, &mine, state);
-    Ok(offer_received(task, heuristic, states, from, numbers, state)?)
+    Ok(offer_received(task, progress, from, numbers, state)?)
 }
 
 /// A state with the facts and the tags of a message, as they came.
@@ -165,20 +171,19 @@ fn as_it_came(alloc: Global, task: &Task, message: &State) -> Result<Reached, Ou
 pub(crate) fn receive_state<H: Heuristic>(
     alloc: Global,
     task: &Task,
-    heuristic: &mut H,
-    states: &mut States,
+    progress: &mut Progress<H>,
     from: Agent,
     message: &State,
 ) -> Result<Received, ReceiveRefusal>
-    requires heuristic { H.is_for heuristic.old task.now }
-    requires states { AreStatesOf task.now states.old }
+    requires heuristic { H.is_for progress.old.heuristic task.now }
+    requires states { AreStatesOf task.now progress.old.states }
     requires state { IsStateFor task.now message.now }
     ensures receipt { (expansions : ℕ) → lacks_memory_for result ≡ false
-        → (result, record { kept = states.new.kept; expansions = expansions })
+        → (result, record { kept = progress.new.states.kept; expansions = expansions })
         ≡ receipt task.now (H.value task.now) from message.now
-        (record { kept = states.old.kept; expansions = expansions }) }
-    ensures states { lacks_memory_for result ≡ false → AreStatesOf task.now states.new }
-    ensures heuristic { H.is_for heuristic.new task.now }
+        (record { kept = progress.old.states.kept; expansions = expansions }) }
+    ensures states { lacks_memory_for result ≡ false → AreStatesOf task.now progress.new.states }
+    ensures heuristic { H.is_for progress.new.heuristic task.now }
 {
     let mut state = as_it_came(alloc, task, message)?;
     let numbers = StateNumbers {
@@ -186,36 +191,35 @@ pub(crate) fn receive_state<H: Heuristic>(
         g: message.g,
         h: message.h,
     };
-    receive_read(task, heuristic, states, from, numbers, &mut state)
+    receive_read(task, progress, from, numbers, &mut state)
 }
 
 /// Receives the state that bytes from another agent spell, and tells the sum of its cost and estimate: none exactly
 /// where they spell no state. Its facts and tags are read into a state that is there.
 pub(crate) fn receive_bytes<H: Heuristic>(
     task: &Task,
-    heuristic: &mut H,
-    states: &mut States,
+    progress: &mut Progress<H>,
     state: &mut Reached,
     from: Agent,
     bytes: &[u8],
 ) -> Result<Option<(Received, u64)>, ReceiveRefusal>
-    requires heuristic { H.is_for heuristic.old task.now }
-    requires states { AreStatesOf task.now states.old }
+    requires heuristic { H.is_for progress.old.heuristic task.now }
+    requires states { AreStatesOf task.now progress.old.states }
     requires sizes { HasSizes task.now.publics task.now.privates state.old }
     ensures receipt { (expansions : ℕ) → lacks_memory_for result ≡ false
-        → (result, record { kept = states.new.kept; expansions = expansions })
+        → (result, record { kept = progress.new.states.kept; expansions = expansions })
         ≡ receipt_of_bytes task.now (H.value task.now) from bytes.now
-        (record { kept = states.old.kept; expansions = expansions }) }
-    ensures states { lacks_memory_for result ≡ false → AreStatesOf task.now states.new }
+        (record { kept = progress.old.states.kept; expansions = expansions }) }
+    ensures states { lacks_memory_for result ≡ false → AreStatesOf task.now progress.new.states }
     ensures sizes { HasSizes task.now.publics task.now.privates state.new }
-    ensures heuristic { H.is_for heuristic.new task.now }
+    ensures heuristic { H.is_for progress.new.heuristic task.now }
 {
     let facts = &mut state.key.publics;
     let tags = &mut state.key.tags;
     let Some(numbers) = decode_state_into(task.agents, bytes, facts, tags)? else {
         return Ok(None);
     };
-    match receive_read(task, heuristic, states, from, numbers, state) {
+    match receive_read(task, progress, from, numbers, state) {
         Ok(answer) => Ok(Some((answer, numbers.g + numbers.h))),
         Err(refusal) => Err(refusal),
     }

@@ -2,23 +2,22 @@
 
 ghost use Rattle.std.specs.Prelude.{◌≡◌, ◌≢◌, ◌+◌, ◌<◌, ◌≤◌, ◌^◌, true, false, length, slice_get, Err, IfOk, IsFalse, IsSomeAnd};
 ghost use Rattle.mp_task.specs.Limits.{most_expansions};
-ghost use Rattle.mp_applicable.specs.Far.{IsFarIndexOf};
-ghost use Rattle.mp_applicable.specs.Index.{IsIndexOf};
 ghost use Rattle.mp_search.specs.Answers.{IsExpansion, IsReceipt, IsReceiptOfBytes};
 ghost use Rattle.mp_search.specs.Offering.{start_record};
 ghost use Rattle.mp_search.specs.Receipt.{IsStateFor};
 ghost use Rattle.mp_search.specs.Search.{is_open_below, is_spent, may_expand, tokens_given, AgentSearch};
 ghost use Rattle.mp_search.specs.StateKeys.{IsShown};
 ghost use Rattle.mp_search.specs.StoreSeen.{HasEntriesOf};
-ghost use Rattle.mp_search.specs.Steps.{AreStatesOf};
+ghost use Rattle.mp_search.specs.Steps.{AreStatesOf, IsContext};
 
 use crate::answer::{ExpandRefusal, ReceiveRefusal, Received, SendingList};
-use crate::expansion::{Index, Scratch, expand_least, scratch_for};
-use crate::offering::offer_at;
+use crate::context::{Context, Progress};
+use crate::expansion::{Scratch, expand_least, scratch_for};
+use crate::offering::offer;
 use crate::reached::Reached;
 use crate::receipt::{receive_bytes, receive_state};
 use crate::sending::start_state;
-use crate::states::{Shown, States};
+use crate::states::{Arrival, Shown, States};
 use mp_applicable::{ActionIndex, FarIndex};
 use mp_list::{Copied, OutOfMemory};
 use mp_messages::State;
@@ -32,13 +31,10 @@ use std::marker::Model;
 /// The search of one agent in its task, with a heuristic that was made of that task. Contracts see it as the plain
 /// record of what it did.
 pub struct Search<H: Heuristic> {
-    alloc: Global,
-    task: Task,
-    heuristic: H,
+    context: Context,
+    progress: Progress<H>,
     /// How many entries it may expand.
     limit: u64,
-    states: States,
-    index: Index,
     scratch: Scratch,
     /// Where states from other agents are read, so that they take no memory of their own.
     came: Reached,
@@ -51,12 +47,9 @@ pub struct Search<H: Heuristic> {
 impl<H: Heuristic> Drop for Search<H> {
     fn drop(self) {
         let Search {
-            alloc: _,
-            task: _,
-            heuristic: _,
+            context: _,
+            progress: _,
             limit: _,
-            states: _,
-            index: _,
             scratch: _,
             came: _,
             expansions: _,
@@ -76,9 +69,9 @@ impl<H: Heuristic> Model for Search<H> {
 
     ghost coded = { Prim.hlevel (codes, coded_numbers) };
 
-    ghost view = { λ s. agent_search s.task s.limit s.states s.expansions s.failed };
+    ghost view = { λ s. agent_search s.context.task s.limit s.progress.states s.expansions s.failed };
 
-    ghost invariant = { λ s. IsSearch (H.is_for s.heuristic) s.task s.limit s.states s.index s.scratch s.came s.expansions s.failed };
+    ghost invariant = { λ s. IsSearch (H.is_for s.progress.heuristic) s.context s.limit s.progress.states s.scratch s.came s.expansions s.failed };
 }
 
 /// The states that are kept at the start: the initial one, unless no plan leads on from it.
@@ -94,19 +87,30 @@ fn start_states<H: Heuristic>(
 {
     let mut state = start_state(alloc, task)?;
     let mut states = States::new(alloc, task.publics, state.mine.copy()?)?;
-    let value = heuristic.value(&state.key.publics, &state.mine)?;
-    offer_at(task, &mut states, &mut state, 0, value, Origin::Root)?;
+    let Some(h) = heuristic.value(&state.key.publics, &state.mine)? else {
+        return Ok(states);
+    };
+    let arrival = Arrival {
+        g: 0,
+        h,
+        origin: Origin::Root,
+    };
+    offer(task, &mut states, &mut state, arrival)?;
     Ok(states)
 }
 
-/// What is worked out once of a task.
-fn index_of(alloc: Global, task: &Task) -> Result<Index, OutOfMemory>
-    ensures actions { IfOk result (λ index. IsIndexOf task.now index.actions) }
-    ensures far { IfOk result (λ index. IsFarIndexOf task.now index.far) }
+/// What a search in a task looks at.
+fn context_of(alloc: Global, task: Task) -> Result<Context, OutOfMemory>
+    ensures task { IfOk result (λ made. made.task ≡ task) }
+    ensures context { IfOk result IsContext }
 {
-    Ok(Index {
-        actions: ActionIndex::new(alloc, task)?,
-        far: FarIndex::new(alloc, task)?,
+    let actions = ActionIndex::new(alloc, &task)?;
+    let far = FarIndex::new(alloc, &task)?;
+    Ok(Context {
+        alloc,
+        task,
+        actions,
+        far,
     })
 }
 
@@ -131,16 +135,12 @@ impl<H: Heuristic> Search<H> {
     {
         let mut heuristic = heuristic;
         let states = start_states(alloc, &task, &mut heuristic)?;
-        let index = index_of(alloc, &task)?;
         let scratch = scratch_for(alloc, &task)?;
         let came = start_state(alloc, &task)?;
         Ok(Search {
-            alloc,
-            task,
-            heuristic,
+            context: context_of(alloc, task)?,
+            progress: Progress { heuristic, states },
             limit,
-            states,
-            index,
             scratch,
             came,
             expansions: 0,
@@ -152,7 +152,7 @@ impl<H: Heuristic> Search<H> {
     pub fn can_expand(&self) -> bool
         ensures { result ≡ may_expand self.now.limit self.now.done }
     {
-        !self.spent() && self.states.is_open_below()
+        !self.spent() && self.progress.states.is_open_below()
     }
 
     /// Whether it has expanded as many entries as it may.
@@ -173,7 +173,7 @@ impl<H: Heuristic> Search<H> {
     pub fn store(&self) -> &Store
         ensures { HasEntriesOf result.now self.now.done.kept }
     {
-        &self.states.store
+        &self.progress.states.store
     }
 
     /// The entry of a number, with its own private set itself.
@@ -184,7 +184,7 @@ impl<H: Heuristic> Search<H> {
         ensures publics { IsFalse self.now.failed → result.publics.size ≡ self.now.task.publics }
         ensures privates { IsFalse self.now.failed → result.mine.size ≡ self.now.task.privates }
     {
-        self.states.entry(number)
+        self.progress.states.entry(number)
     }
 
     /// The own private sets, by their indices and by their tokens.
@@ -192,7 +192,7 @@ impl<H: Heuristic> Search<H> {
         ensures used { IsFalse self.now.failed → result.now.used ≡ tokens_given self.now.task self.now.done.kept }
         ensures size { IsFalse self.now.failed → result.now.size ≡ self.now.task.privates }
     {
-        &self.states.tokens
+        &self.progress.states.tokens
     }
 
     /// Expands the least open entry, and answers what is to be sent, in this order. Without memory, now or before, it
@@ -206,17 +206,10 @@ impl<H: Heuristic> Search<H> {
         if self.spent() {
             return Err(ExpandRefusal::AtLimit);
         }
-        if !self.states.is_open_below() {
+        if !self.progress.states.is_open_below() {
             return Err(ExpandRefusal::Nothing);
         }
-        match expand_least(
-            self.alloc,
-            &self.task,
-            &self.index,
-            &mut self.heuristic,
-            &mut self.states,
-            &mut self.scratch,
-        ) {
+        match expand_least(&self.context, &mut self.progress, &mut self.scratch) {
             Ok(sendings) => {
                 self.expansions += 1;
                 Ok(sendings)
@@ -239,10 +232,9 @@ impl<H: Heuristic> Search<H> {
             return Err(ReceiveRefusal::OutOfMemory);
         }
         let answer = receive_state(
-            self.alloc,
-            &self.task,
-            &mut self.heuristic,
-            &mut self.states,
+            self.context.alloc,
+            &self.context.task,
+            &mut self.progress,
             from,
             &state,
         );
@@ -267,9 +259,8 @@ impl<H: Heuristic> Search<H> {
             return Err(ReceiveRefusal::OutOfMemory);
         }
         let answer = receive_bytes(
-            &self.task,
-            &mut self.heuristic,
-            &mut self.states,
+            &self.context.task,
+            &mut self.progress,
             &mut self.came,
             from,
             bytes,

@@ -1,22 +1,21 @@
 //! What is sent of a state.
 
-ghost use Rattle.std.specs.Prelude.{◌≡◌, ◌<◌, is_some, IfOk, IfSome, OnOk, Some, length, map};
+ghost use Rattle.std.specs.Prelude.{◌≡◌, ◌<◌, [], if◌then◌else◌, is_some, IfOk, IfSome, Some, length, map};
 ghost use Rattle.mp_store.specs.Minima.{best};
 ghost use Rattle.mp_store.specs.Sent.{mark_sent};
 ghost use Rattle.mp_task.specs.Public as public;
-ghost use Rattle.mp_applicable.specs.Far.{IsFarIndexOf};
 ghost use Rattle.mp_search.specs.Concern.{IsFirstReceiver};
 ghost use Rattle.mp_search.specs.AgentState.{same_state, start_state, start_tag, with_tag};
 ghost use Rattle.mp_search.specs.Search.{tokens_given};
-ghost use Rattle.mp_search.specs.Sending.{is_due, sent_best, sent_entry_of, sent_if_due};
+ghost use Rattle.mp_search.specs.Sending.{is_due, sent_best, sent_entry_of};
 ghost use Rattle.mp_search.specs.StateKeys.{reached_state, HasSizes, IsMessageOf};
-ghost use Rattle.mp_search.specs.Steps.{AreStatesOf, HaveSent};
+ghost use Rattle.mp_search.specs.Steps.{AreStatesOf, HasSent, IsContext};
 
-use crate::answer::{Sending, SendingList};
+use crate::answer::Sending;
 use crate::concern::{first_receiver, is_visible, receivers};
+use crate::context::Context;
 use crate::reached::Reached;
 use crate::states::{Shown, States};
-use mp_applicable::FarIndex;
 use mp_list::{Copied, OutOfMemory};
 use mp_messages::State;
 use mp_sets::{Agent, Bits, Tag, Tags};
@@ -72,106 +71,80 @@ fn message(
 
 /// Sends the state of an entry to the agents that it concerns, unless it was sent at that cost or less.
 fn send_entry(
-    alloc: Global,
-    task: &Task,
-    far: &FarIndex,
+    context: &Context,
     states: &mut States,
     state: &Reached,
     first: Agent,
     entry: u64,
-    out: &mut SendingList,
-) -> Result<(), OutOfMemory>
-    requires index { IsFarIndexOf task.now far.now }
-    requires states { AreStatesOf task.now states.old }
-    requires sizes { HasSizes task.now.publics task.now.privates state.now }
-    requires first { IsFirstReceiver task.now (reached_state state.now) first }
+) -> Result<Option<Sending>, OutOfMemory>
+    requires context { IsContext context.now }
+    requires states { AreStatesOf context.now.task states.old }
+    requires sizes { HasSizes context.now.task.publics context.now.task.privates state.now }
+    requires first { IsFirstReceiver context.now.task (reached_state state.now) first }
     requires inside { entry < length states.old.kept.entries }
-    ensures { OnOk result (HaveSent task.now
-        (sent_entry_of task.now (reached_state state.now) (Some entry) states.old.kept)
-        out.old out.new states.old states.new) }
+    ensures { IfOk result (HasSent context.now.task
+        (sent_entry_of context.now.task (reached_state state.now) (Some entry) states.old.kept)
+        states.old states.new) }
 {
     let Some((number, token)) = states.send(entry)? else {
-        return Ok(());
+        return Ok(None);
     };
-    let to = receivers(alloc, task, far, first, state)?;
-    let state = message(alloc, task, number, token, states.entry(entry))?;
-    out.push(Sending { state, to })
-}
-
-/// Sends the best entry of a state, which is known, if it has one.
-fn send_best(
-    alloc: Global,
-    task: &Task,
-    far: &FarIndex,
-    states: &mut States,
-    state: &Reached,
-    first: Agent,
-    found: Option<u64>,
-    out: &mut SendingList,
-) -> Result<(), OutOfMemory>
-    requires index { IsFarIndexOf task.now far.now }
-    requires states { AreStatesOf task.now states.old }
-    requires sizes { HasSizes task.now.publics task.now.privates state.now }
-    requires first { IsFirstReceiver task.now (reached_state state.now) first }
-    requires found { found ≡ best same_state (reached_state state.now) states.old.kept }
-    ensures { OnOk result (HaveSent task.now (sent_best task.now (reached_state state.now) states.old.kept)
-        out.old out.new states.old states.new) }
-{
-    match found {
-        Some(entry) => send_entry(alloc, task, far, states, state, first, entry, out),
-        None => Ok(()),
-    }
+    let to = receivers(context.alloc, &context.task, &context.far, first, state)?;
+    let state = message(
+        context.alloc,
+        &context.task,
+        number,
+        token,
+        states.entry(entry),
+    )?;
+    Ok(Some(Sending { state, to }))
 }
 
 /// The first agent that a state that an own action led to is due to be sent to, if there is one. Takes no memory.
-fn first_due(
-    task: &Task,
-    far: &FarIndex,
+pub(crate) fn first_due(
+    context: &Context,
     is_public: bool,
     act: &Act,
     before: &Reached,
     state: &Reached,
 ) -> Option<Agent>
-    requires index { IsFarIndexOf task.now far.now }
+    requires context { IsContext context.now }
     requires public { is_public ≡ public.is_public act.now }
-    requires before { HasSizes task.now.publics task.now.privates before.now }
-    requires sizes { HasSizes task.now.publics task.now.privates state.now }
-    ensures due { is_some result ≡ is_due task.now act.now (reached_state before.now) (reached_state state.now) }
-    ensures first { IfSome result (IsFirstReceiver task.now (reached_state state.now)) }
+    requires before { HasSizes context.now.task.publics context.now.task.privates before.now }
+    requires sizes { HasSizes context.now.task.publics context.now.task.privates state.now }
+    ensures due { is_some result ≡ is_due context.now.task act.now (reached_state before.now) (reached_state state.now) }
+    ensures first { IfSome result (IsFirstReceiver context.now.task (reached_state state.now)) }
 {
-    if is_visible(task, is_public, act, before, state) {
-        return first_receiver(task, far, state);
+    if is_visible(&context.task, is_public, act, before, state) {
+        return first_receiver(&context.task, &context.far, state);
     }
     None
 }
 
-/// Sends a state that an own action led to, where that is due. Its best entry is known, if it has one.
-#[tactic(auto, unfolding(crate::specs::Sending::sent_if_due), using(crate::proofs::SendingSteps::nothing_sent))]
+/// Sends the best entry of a state, if it has one, where there is an agent to send it to. Both are known: that entry, and
+/// the first of these agents.
 pub(crate) fn send_if_due(
-    alloc: Global,
-    task: &Task,
-    far: &FarIndex,
-    is_public: bool,
-    act: &Act,
-    before: &Reached,
+    context: &Context,
     states: &mut States,
     state: &Reached,
+    due: Option<Agent>,
     found: Option<u64>,
-    out: &mut SendingList,
-) -> Result<(), OutOfMemory>
-    requires index { IsFarIndexOf task.now far.now }
-    requires public { is_public ≡ public.is_public act.now }
-    requires states { AreStatesOf task.now states.old }
-    requires before { HasSizes task.now.publics task.now.privates before.now }
-    requires sizes { HasSizes task.now.publics task.now.privates state.now }
+) -> Result<Option<Sending>, OutOfMemory>
+    requires context { IsContext context.now }
+    requires states { AreStatesOf context.now.task states.old }
+    requires sizes { HasSizes context.now.task.publics context.now.task.privates state.now }
+    requires due { IfSome due (IsFirstReceiver context.now.task (reached_state state.now)) }
     requires found { found ≡ best same_state (reached_state state.now) states.old.kept }
-    ensures { OnOk result (HaveSent task.now
-        (sent_if_due task.now act.now (reached_state before.now) (reached_state state.now) states.old.kept)
-        out.old out.new states.old states.new) }
+    ensures { IfOk result (HasSent context.now.task
+        (if is_some due then sent_best context.now.task (reached_state state.now) states.old.kept
+        else ([], states.old.kept)) states.old states.new) }
 {
-    match first_due(task, far, is_public, act, before, state) {
-        Some(first) => send_best(alloc, task, far, states, state, first, found, out),
-        None => Ok(()),
+    let Some(first) = due else {
+        return Ok(None);
+    };
+    match found {
+        Some(entry) => send_entry(context, states, state, first, entry),
+        None => Ok(None),
     }
 }
 

@@ -3,12 +3,12 @@
 ghost use Rattle.std.specs.Prelude.{◌↔◌, IsNone, ◌≡◌, ◌+◌, ◌<◌, ◌≤◌, ◌^◌, ◌∷◌, [], IfOk, OnOk, IsSomeAnd, IfSome, None, Some, OnErr, length, slice_get};
 ghost use Rattle.mp_store.specs.Laws.{IsEarlier};
 ghost use Rattle.mp_store.specs.Minima.{best, least_goal, least_f, popped};
-ghost use Rattle.mp_store.specs.Record.{empty, f, is_known, new_entry, offered};
+ghost use Rattle.mp_store.specs.Record.{empty, f, is_known, offered};
 ghost use Rattle.mp_store.specs.Sent.{mark_sent, sent_entry};
 ghost use Rattle.mp_tokens.specs.Order.{with_set, place, set_at};
 ghost use Rattle.mp_search.specs.AgentState.{same_state, AgentState};
 ghost use Rattle.mp_search.specs.Search.{is_open_below, sent_sets};
-ghost use Rattle.mp_search.specs.StateKeys.{reached_state, HasSizes, IsShown, IsSent};
+ghost use Rattle.mp_search.specs.StateKeys.{entry_of, reached_state, HasSizes, IsShown, IsSent};
 
 use crate::reached::Reached;
 use mp_list::OutOfMemory;
@@ -31,6 +31,17 @@ pub struct Shown<'a> {
     pub g: u64,
     /// What it costs at least from there to a goal.
     pub h: u64,
+}
+
+/// How a state that is offered was reached.
+#[derive(Clone, Copy)]
+pub(crate) struct Arrival {
+    /// What it cost to reach the state.
+    pub(crate) g: u64,
+    /// What it costs at least from there to a goal.
+    pub(crate) h: u64,
+    /// Where it came from.
+    pub(crate) origin: Origin,
 }
 
 /// The states that an agent keeps: in the keys of the store an index stands for each own private set. Contracts see
@@ -132,17 +143,15 @@ impl States {
         &mut self,
         state: &mut Reached,
         found: Option<u64>,
-        g: u64,
-        h: u64,
-        origin: Origin,
+        arrival: Arrival,
         goal: bool,
     ) -> Result<Offer, OutOfMemory>
         requires found { found ≡ best same_state (reached_state state.old) self.old.kept }
         requires sizes { HasSizes self.old.publics self.old.privates state.old }
-        requires bounded { g + h < 2 ^ 60 }
-        requires parent { IsEarlier (length self.old.kept.entries) origin }
+        requires bounded { arrival.g + arrival.h < 2 ^ 60 }
+        requires parent { IsEarlier (length self.old.kept.entries) arrival.origin }
         ensures offered { IfOk result (λ answer. (answer, self.new.kept)
-            ≡ offered same_state (new_entry (reached_state state.old) g h origin goal) self.old.kept) }
+            ≡ offered same_state (entry_of (reached_state state.old) arrival goal) self.old.kept) }
         ensures used { self.new.used ≡ self.old.used }
         ensures publics { self.new.publics ≡ self.old.publics }
         ensures privates { self.new.privates ≡ self.old.privates }
@@ -152,8 +161,8 @@ impl States {
         ensures sizes { HasSizes self.new.publics self.new.privates state.new }
     {
         match found {
-            Some(entry) => self.offer_again(state, entry, g, h, origin, goal),
-            None => self.offer_new(state, g, h, origin, goal),
+            Some(entry) => self.offer_again(state, entry, arrival, goal),
+            None => self.offer_new(state, arrival, goal),
         }
     }
 
@@ -162,16 +171,14 @@ impl States {
         &mut self,
         state: &Reached,
         entry: u64,
-        g: u64,
-        h: u64,
-        origin: Origin,
+        arrival: Arrival,
         goal: bool,
     ) -> Result<Offer, OutOfMemory>
         requires best { best same_state (reached_state state.now) self.old.kept ≡ Some entry }
-        requires bounded { g + h < 2 ^ 60 }
-        requires parent { IsEarlier (length self.old.kept.entries) origin }
+        requires bounded { arrival.g + arrival.h < 2 ^ 60 }
+        requires parent { IsEarlier (length self.old.kept.entries) arrival.origin }
         ensures offered { IfOk result (λ answer. (answer, self.new.kept)
-            ≡ offered same_state (new_entry (reached_state state.now) g h origin goal) self.old.kept) }
+            ≡ offered same_state (entry_of (reached_state state.now) arrival goal) self.old.kept) }
         ensures used { self.new.used ≡ self.old.used }
         ensures publics { self.new.publics ≡ self.old.publics }
         ensures privates { self.new.privates ≡ self.old.privates }
@@ -180,24 +187,23 @@ impl States {
     {
         let _ = self.store.count();
         let _ = state;
-        self.store.offer_again(entry, g, h, origin, goal)
+        self.store
+            .offer_again(entry, arrival.g, arrival.h, arrival.origin, goal)
     }
 
     /// Offers a state that has no entry. Writes the index of the own set into the key.
     fn offer_new(
         &mut self,
         state: &mut Reached,
-        g: u64,
-        h: u64,
-        origin: Origin,
+        arrival: Arrival,
         goal: bool,
     ) -> Result<Offer, OutOfMemory>
         requires new { best same_state (reached_state state.old) self.old.kept ≡ None }
         requires sizes { HasSizes self.old.publics self.old.privates state.old }
-        requires bounded { g + h < 2 ^ 60 }
-        requires parent { IsEarlier (length self.old.kept.entries) origin }
+        requires bounded { arrival.g + arrival.h < 2 ^ 60 }
+        requires parent { IsEarlier (length self.old.kept.entries) arrival.origin }
         ensures offered { IfOk result (λ answer. (answer, self.new.kept)
-            ≡ offered same_state (new_entry (reached_state state.old) g h origin goal) self.old.kept) }
+            ≡ offered same_state (entry_of (reached_state state.old) arrival goal) self.old.kept) }
         ensures used { self.new.used ≡ self.old.used }
         ensures publics { self.new.publics ≡ self.old.publics }
         ensures privates { self.new.privates ≡ self.old.privates }
@@ -208,7 +214,8 @@ impl States {
     {
         let _ = self.store.count();
         give_index(&mut self.tokens, state)?;
-        self.store.keep_new(&state.key, g, h, origin, goal)
+        self.store
+            .keep_new(&state.key, arrival.g, arrival.h, arrival.origin, goal)
     }
 
     /// Notes that the state of an entry is sent, and gives it the next sent number, and the token of its own set: none

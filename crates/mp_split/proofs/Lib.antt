@@ -1,13 +1,7 @@
--- what holds of each item of a list
 -- what the proofs cite of other places
 mod Basics
-pub mod Each
 -- the numbers of texts are their places in a table that is in the order of bytes
 pub mod Numbering
--- rising numbers of own texts, and the places of these texts in a table that has them all
-pub mod Renumbering
--- numbers as the code finds them, and places of marks
-pub mod TableNumbers
 -- what holds of the items of a list holds of those in order
 pub mod InOrder
 -- a list that is made of what is taken from another one
@@ -22,9 +16,5 @@ pub mod Showing
 pub mod Together
 -- the task of one agent: own actions by the team's numbers, its limits
 pub mod OneTask
--- the grounded factors of the first agents of a team, one more and all
+-- the grounded factors of the first agents of a team, one more and all, and the tasks that are made of them
 pub mod FirstAgents
--- the tasks of a team from its table and from what they have in common
-pub mod Whole
--- the tasks that are made of a team's grounded factors are those of the team
-pub mod AllTasks

@@ -1,9 +1,5 @@
 -- A list that is made of what is taken from another one, item by item.
-use Rattle.mp_split.proofs.Basics.{arith, ◌≡◌, List, [], ◌∷◌, ◌++◌, map, length, All, sym, ap, subst, ◌∙◌, append_assoc, All-head, All-tail}
-use Rattle.std.proofs.Common.{append-nil}
-
-pub begun : {X Y : Type 0} (f : X → Y) (made : List Y) (rest all : List X) → made ≡ [] → rest ≡ all → made ++ map f rest ≡ map f all
-begun f made rest all none same = λ i. none i ++ map f (same i)
+use Rattle.mp_split.proofs.Basics.{arith, ◌≡◌, List, [], ◌∷◌, ◌++◌, map, length, sym, ap, ◌∙◌, append_assoc, append-nil}
 
 pub one_taken : {X Y : Type 0} (f : X → Y) (made more whole : List Y) (before rest : List X) (x : X)
     → before ≡ x ∷ rest → more ≡ made ++ f x ∷ [] → made ++ map f before ≡ whole → more ++ map f rest ≡ whole
@@ -13,9 +9,3 @@ one_taken f made more whole before rest x taken pushed h =
 pub all_taken : {X Y : Type 0} (f : X → Y) (made whole : List Y) (rest : List X) → length rest ≡ 0 → made ++ map f rest ≡ whole → made ≡ whole
 all_taken f made whole [] end h = sym (append-nil made) ∙ h
 all_taken f made whole (x ∷ rest) end h = absurd (omega arith)
-
-pub taken_head : {X : Type 0} (P : X → Type 0) (before rest : List X) (x : X) → before ≡ x ∷ rest → All P before → P x
-taken_head P before rest x taken h = All-head P x rest (subst (All P) taken h)
-
-pub taken_tail : {X : Type 0} (P : X → Type 0) (before rest : List X) (x : X) → before ≡ x ∷ rest → All P before → All P rest
-taken_tail P before rest x taken h = All-tail P x rest (subst (All P) taken h)

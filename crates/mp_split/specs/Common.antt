@@ -1,8 +1,8 @@
 -- The task of an agent from the table of the team's public facts and from what its tasks have in common, and what these
 -- have to fulfil.
-use Rattle.std.specs.Prelude.{◌≡◌, ℕ, ◌+◌, ◌<◌, ◌≤◌, ◌==◌, [], ◌∷◌, not, true, List, All, length, map, filter, slice_index_or}
+use Rattle.std.specs.Prelude.{◌≡◌, ℕ, ◌<◌, ◌≤◌, ◌==◌, not, true, List, All, length, map, filter, slice_index_or}
 use Rattle.std.specs.Cmp.Lexicographic.{slice_cmp}
-use Rattle.std.specs.List.{AllByRecursion, enumerate_from, flat_map}
+use Rattle.std.specs.List.{enumerate_from, flat_map}
 use Rattle.std.specs.List.Sorted.{IsStrictlyIncreasing, IsStrictlySortedBy}
 use Rattle.std.specs.Ordering.{nat_cmp}
 use Rattle.mp_typing.specs.Places.{numbers_where}
@@ -15,21 +15,10 @@ use Rattle.mp_views.specs.declared.view.Part.{Part}
 use Rattle.mp_views.specs.declared.view.View.{View}
 use Rattle.mp_ground.specs.declared.grounded.Ground.{Ground}
 use Rattle.mp_ground.specs.Limits.{KeepsLimits}
-use Rattle.mp_ground.specs.Places.{text_places_in}
 use Rattle.mp_split.specs.declared.common.Common.{Common}
-use Rattle.mp_split.specs.Closed.{texts_at}
-use Rattle.mp_split.specs.TaskOf.{is_true, is_goal}
+use Rattle.mp_split.specs.TaskOf.{act_in, far_in, is_goal, is_true}
 
--- the public part of an agent's action, by the places of its texts in a table
-abbrev pub far_in : List Text → ℕ → Part → Far
-far_in table agent part = record {
-  by = agent;
-  pre = text_places_in table part.pre;
-  add = text_places_in table part.add;
-  del = text_places_in table part.del;
-  cost = part.cost;
-}
-
+-- the public parts of an agent's actions, by the places of their texts in a table
 abbrev pub parts_in : List Text → ℕ × View → List Far
 parts_in table (agent, view) = map (far_in table agent) view.acts
 
@@ -40,14 +29,6 @@ common_of table init views = record {
   goals = numbers_where 0 (is_goal views) table;
   met = map (λ v. v.met) views;
   parts = flat_map (parts_in table) (enumerate_from 1 views);
-}
-
--- an own action, by the places of its public texts in the table
-abbrev pub act_in : List Text → List Text → Act → Act
-act_in table own act = record act {
-  pre_pub = text_places_in table (texts_at own act.pre_pub);
-  add_pub = text_places_in table (texts_at own act.add_pub);
-  del_pub = text_places_in table (texts_at own act.del_pub);
 }
 
 -- the parts of other agents' actions
@@ -89,7 +70,7 @@ task_with table common g =
 -- texts that a table has, in the order of their bytes, each once
 pub record AreOf (table texts : List Text) : Type 0 where
   pub rise : IsStrictlySortedBy (slice_cmp nat_cmp) texts
-  pub there : AllByRecursion (λ t. is_listed t table ≡ true) texts
+  pub there : All (λ t. is_listed t table ≡ true) texts
 
 -- the public part of an action has texts of a table, and costs at most 16,000,000
 pub record PartFits (table : List Text) (part : Part) : Type 0 where
@@ -98,28 +79,31 @@ pub record PartFits (table : List Text) (part : Part) : Type 0 where
   pub del : AreOf table part.del
   pub cost : part.cost ≤ 16000000
 
+-- what the agents of a team show fits their table of public facts, and keeps the limits of the program
+pub record ShowsFit (table : List Text) (views : List View) : Type 0 where
+  pub agents : length views ≤ 16
+  pub few : length table ≤ 1048560
+  pub rise : IsStrictlySortedBy (slice_cmp nat_cmp) table
+  pub parts : All (λ v. All (PartFits table) v.acts) views
+
 -- the numbers of an action's public facts rise
 pub record ActRises (act : Act) : Type 0 where
   pub pre : IsStrictlyIncreasing act.pre_pub
   pub add : IsStrictlyIncreasing act.add_pub
   pub del : IsStrictlyIncreasing act.del_pub
 
--- a grounded factor has its public facts in the order of their texts, and its numbers are those of facts that it has
-pub record IsReady (g : Ground) : Type 0 where
+-- the grounded factor of an agent of a team of so many has its public facts in the order of their texts, and its numbers are
+-- those of facts that it has
+pub record IsReady (agents : ℕ) (g : Ground) : Type 0 where
+  pub from_1 : 1 ≤ g.me
+  pub in_team : g.me ≤ agents
   pub rise : IsStrictlySortedBy (slice_cmp nat_cmp) g.publics
-  pub acts : AllByRecursion ActRises g.acts
+  pub acts : All ActRises g.acts
   pub limits : KeepsLimits g
-
--- these are ready, and are those of agents numbered from this one on
-abbrev pub AreReadyFrom : ℕ → List Ground → Type 0
-AreReadyFrom number [] = Unit {0}
-AreReadyFrom number (g ∷ grounds) = (g.me ≡ number) × IsReady g × AreReadyFrom (number + 1) grounds
 
 -- these are the table and what is in common of a team to which the agent of this grounded factor belongs
 pub record IsOfTeam (table : List Text) (common : Common) (g : Ground) : Type 0 where
   pub agents : length common.met ≤ 16
-  pub from_1 : 1 ≤ g.me
-  pub in_team : g.me ≤ length common.met
   pub few : length table ≤ 1048560
   pub rise : IsStrictlySortedBy (slice_cmp nat_cmp) table
   pub start : AllLess (length table) common.start
@@ -127,4 +111,4 @@ pub record IsOfTeam (table : List Text) (common : Common) (g : Ground) : Type 0 
   pub parts : All (FarFits (length common.met) (length table)) common.parts
   pub number_of_others : length (of_others g.me common.parts) ≤ 3000000
   pub publics : AreOf table g.publics
-  pub ready : IsReady g
+  pub ready : IsReady (length common.met) g

@@ -43,23 +43,31 @@ is_true init text =
 abbrev pub is_goal : List View → Text → Bool
 is_goal views text = list_any (λ v. is_listed text v.goals) views
 
--- an own action with the team's numbers for its public facts
-abbrev pub numbered_act : Shown → List Text → Act → Act
-numbered_act shown own act = record act {
-  pre_pub = numbers shown (texts_at own act.pre_pub);
-  add_pub = numbers shown (texts_at own act.add_pub);
-  del_pub = numbers shown (texts_at own act.del_pub);
+-- an own action, by the places of its public texts in a table
+abbrev pub act_in : List Text → List Text → Act → Act
+act_in table own act = record act {
+  pre_pub = text_places_in table (texts_at own act.pre_pub);
+  add_pub = text_places_in table (texts_at own act.add_pub);
+  del_pub = text_places_in table (texts_at own act.del_pub);
 }
 
--- the public part of an agent's action
-abbrev pub far_part : Shown → ℕ → Part → Far
-far_part shown agent part = record {
+-- with the team's numbers for its public facts
+abbrev pub numbered_act : Shown → List Text → Act → Act
+numbered_act shown own act = act_in (table shown) own act
+
+-- the public part of an agent's action, by the places of its texts in a table
+abbrev pub far_in : List Text → ℕ → Part → Far
+far_in table agent part = record {
   by = agent;
-  pre = numbers shown part.pre;
-  add = numbers shown part.add;
-  del = numbers shown part.del;
+  pre = text_places_in table part.pre;
+  add = text_places_in table part.add;
+  del = text_places_in table part.del;
   cost = part.cost;
 }
+
+-- with the team's numbers
+abbrev pub far_part : Shown → ℕ → Part → Far
+far_part shown agent part = far_in (table shown) agent part
 
 -- what another agent shows of its actions; an agent knows its own ones
 abbrev pub parts_for : Shown → ℕ → ℕ × View → List Far

@@ -41,12 +41,7 @@ fn texts_at(alloc: Global, table: &[Name], places: &[u32]) -> Result<FactTexts, 
 fn is_one_of(number: u32, numbers: &[u32]) -> bool
     ensures { result ≡ is_number_in numbers.now number }
 {
-    for other in numbers {
-        if *other == number {
-            return true;
-        }
-    }
-    false
+    numbers.iter().any(|other| *other == number)
 }
 
 /// Adds the text of a delete, where it is no add.

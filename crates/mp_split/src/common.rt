@@ -8,10 +8,10 @@ ghost use Rattle.std.specs.Ordering.{nat_cmp};
 ghost use Rattle.mp_joint.specs.Fact.{is_listed};
 ghost use Rattle.mp_typing.specs.Places.{numbers_where};
 ghost use Rattle.mp_views.specs.Sorted.{sorted_once as once_sorted};
-ghost use Rattle.mp_split.specs.TaskOf.{is_complement as is_complement_text, is_true as is_true_text, is_goal};
-ghost use Rattle.mp_split.specs.Common.{PartFits, far_in, parts_in, common_of as common_of_team};
+ghost use Rattle.mp_split.specs.TaskOf.{far_in, is_complement as is_complement_text, is_true as is_true_text};
+ghost use Rattle.mp_split.specs.Common.{PartFits, ShowsFit, parts_in, common_of as common_of_team};
 
-use crate::numbers::{marked, numbers_of};
+use crate::numbers::{add_place, numbers_of};
 use mp_lifted::FactTexts;
 use mp_list::{Copied, List, OutOfMemory};
 use mp_sets::{Agent, FactList};
@@ -43,22 +43,14 @@ fn add_copies(out: &mut Vec<Name>, texts: &[Name]) -> Result<(), OutOfMemory>
     Ok(())
 }
 
-/// The facts and complements that agents show, one agent after another.
-fn all_facts(alloc: Global, views: &[View]) -> Result<Vec<Name>, OutOfMemory>
-    ensures { IfOk result (λ out. out.items ≡ flat_map (λ v. v.facts) views.now) }
-{
-    let mut out = Vec::new(alloc);
-    for view in views {
-        add_copies(&mut out, view.facts.as_slice())?;
-    }
-    Ok(out)
-}
-
 /// The public facts and complements of all agents, in the order of their bytes, each once.
 pub(crate) fn table_of(alloc: Global, views: &[View]) -> Result<FactTexts, OutOfMemory>
     ensures { IfOk result (λ table. table ≡ once_sorted (flat_map (λ v. v.facts) views.now)) }
 {
-    let facts = all_facts(alloc, views)?;
+    let mut facts = Vec::new(alloc);
+    for view in views {
+        add_copies(&mut facts, view.facts.as_slice())?;
+    }
     sorted_once(alloc, facts)
 }
 
@@ -108,27 +100,6 @@ fn is_true(init: &NameTable<'_>, text: &Name) -> bool
     }
 }
 
-/// For each fact and complement, whether it is true at the start.
-fn true_marks(alloc: Global, init: &NameTable<'_>, table: &[Name]) -> Result<Vec<bool>, OutOfMemory>
-    ensures { IfOk result (λ marks. marks.items ≡ map (is_true_text init.now) table.now) }
-{
-    let mut marks = Vec::with_capacity(alloc, table.len())?;
-    for text in table {
-        marks.push(is_true(init, text))?;
-    }
-    Ok(marks)
-}
-
-/// The facts and complements that are true at the start.
-fn start_of(alloc: Global, init: &[Name], table: &[Name]) -> Result<FactList, OutOfMemory>
-    requires { length table.now ≤ 1048560 }
-    ensures { IfOk result (λ start. start ≡ numbers_where 0 (is_true_text init.now) table.now) }
-{
-    let names = NameTable::of(alloc, init)?;
-    let marks = true_marks(alloc, &names, table)?;
-    marked(alloc, marks.as_slice())
-}
-
 /// The goals that agents show, one agent after another.
 fn all_goals<'a>(alloc: Global, views: &'a [View]) -> Result<NameTable<'a>, OutOfMemory>
     ensures { IfOk result (λ names. names ≡ flat_map (λ v. v.goals) views.now) }
@@ -140,29 +111,26 @@ fn all_goals<'a>(alloc: Global, views: &'a [View]) -> Result<NameTable<'a>, OutO
     Ok(names)
 }
 
-/// For each fact and complement, whether it is one of these.
-fn listed_marks(
+/// The facts and complements that are true at the start, and those that are goals.
+fn start_and_goals(
     alloc: Global,
-    names: &NameTable<'_>,
+    init: &NameTable<'_>,
+    goals: &NameTable<'_>,
     table: &[Name],
-) -> Result<Vec<bool>, OutOfMemory>
-    ensures { IfOk result (λ marks. marks.items ≡ map (λ text. is_listed text names.now) table.now) }
-{
-    let mut marks = Vec::with_capacity(alloc, table.len())?;
-    for text in table {
-        marks.push(names.contains(text))?;
-    }
-    Ok(marks)
-}
-
-/// The facts and complements that are goals of an agent.
-fn goals_of(alloc: Global, views: &[View], table: &[Name]) -> Result<FactList, OutOfMemory>
+) -> Result<(FactList, FactList), OutOfMemory>
     requires { length table.now ≤ 1048560 }
-    ensures { IfOk result (λ goals. goals ≡ numbers_where 0 (is_goal views.now) table.now) }
+    ensures start { IfOk result (λ r. r.0 ≡ numbers_where 0 (is_true_text init.now) table.now) }
+    ensures goals { IfOk result (λ r. r.1 ≡ numbers_where 0 (λ text. is_listed text goals.now) table.now) }
 {
-    let names = all_goals(alloc, views)?;
-    let marks = listed_marks(alloc, &names, table)?;
-    marked(alloc, marks.as_slice())
+    let mut start = FactList::new(alloc);
+    let mut wanted = FactList::new(alloc);
+    let mut place = 0;
+    for text in table {
+        add_place(&mut start, place, is_true(init, text))?;
+        add_place(&mut wanted, place, goals.contains(text))?;
+        place += 1;
+    }
+    Ok((start, wanted))
 }
 
 /// For each agent, whether its private goals hold at the start.
@@ -176,22 +144,16 @@ fn flags_of(alloc: Global, views: &[View]) -> Result<Flags, OutOfMemory>
     Ok(met)
 }
 
-/// The public part of an agent's action, with the team's numbers. What `scratch` has is lost.
-fn far_of(
-    alloc: Global,
-    scratch: &mut Vec<u32>,
-    table: &NameTable<'_>,
-    by: Agent,
-    part: &Part,
-) -> Result<Far, OutOfMemory>
+/// The public part of an agent's action, with the team's numbers.
+fn far_of(alloc: Global, table: &NameTable<'_>, by: Agent, part: &Part) -> Result<Far, OutOfMemory>
     requires few { length table.now ≤ 1048560 }
     requires rise { IsStrictlySortedBy (slice_cmp nat_cmp) table.now }
     requires part { PartFits table.now part.now }
     ensures { IfOk result (λ far. far ≡ far_in table.now by part.now) }
 {
-    let pre = numbers_of(alloc, scratch, table, part.pre.as_slice())?;
-    let add = numbers_of(alloc, scratch, table, part.add.as_slice())?;
-    let del = numbers_of(alloc, scratch, table, part.del.as_slice())?;
+    let pre = numbers_of(alloc, table, part.pre.as_slice())?;
+    let add = numbers_of(alloc, table, part.add.as_slice())?;
+    let del = numbers_of(alloc, table, part.del.as_slice())?;
     Ok(Far {
         by,
         pre,
@@ -204,7 +166,6 @@ fn far_of(
 /// Adds the public parts of an agent's actions.
 fn add_parts(
     alloc: Global,
-    scratch: &mut Vec<u32>,
     out: &mut FarList,
     table: &NameTable<'_>,
     by: Agent,
@@ -216,7 +177,7 @@ fn add_parts(
     ensures { OnOk result (out.new ≡ out.old ++ map (far_in table.now by) parts.now) }
 {
     for part in parts {
-        out.push(far_of(alloc, scratch, table, by, part)?)?;
+        out.push(far_of(alloc, table, by, part)?)?;
     }
     Ok(())
 }
@@ -224,7 +185,6 @@ fn add_parts(
 /// Adds the public parts of the actions of agents, of which the first has this number.
 fn add_all_parts(
     alloc: Global,
-    scratch: &mut Vec<u32>,
     out: &mut FarList,
     table: &NameTable<'_>,
     number: u16,
@@ -244,24 +204,10 @@ fn add_all_parts(
             let Some(by) = Agent::new(number) else {
                 return Ok(());
             };
-            add_parts(alloc, scratch, out, table, by, view.acts.as_slice())?;
-            add_all_parts(alloc, scratch, out, table, number + 1, others)
+            add_parts(alloc, out, table, by, view.acts.as_slice())?;
+            add_all_parts(alloc, out, table, number + 1, others)
         }
     }
-}
-
-/// The public parts of the actions of all agents, by rising agent.
-fn all_parts(alloc: Global, table: &NameTable<'_>, views: &[View]) -> Result<FarList, OutOfMemory>
-    requires agents { length views.now ≤ 16 }
-    requires few { length table.now ≤ 1048560 }
-    requires rise { IsStrictlySortedBy (slice_cmp nat_cmp) table.now }
-    requires parts { All (λ v. All (PartFits table.now) v.acts) views.now }
-    ensures { IfOk result (λ parts. parts ≡ flat_map (parts_in table.now) (enumerate_from 1 views.now)) }
-{
-    let mut scratch = Vec::new(alloc);
-    let mut parts = List::new(alloc);
-    add_all_parts(alloc, &mut scratch, &mut parts, table, 1, views)?;
-    Ok(parts)
 }
 
 /// What the tasks of a team have in common, from what its agents show and the table of their public facts.
@@ -273,16 +219,18 @@ pub(crate) fn common_of(
     views: &[View],
 ) -> Result<Common, OutOfMemory>
     requires names { names.now ≡ table.now }
-    requires agents { length views.now ≤ 16 }
-    requires few { length table.now ≤ 1048560 }
-    requires rise { IsStrictlySortedBy (slice_cmp nat_cmp) table.now }
-    requires parts { All (λ v. All (PartFits table.now) v.acts) views.now }
+    requires fit { ShowsFit table.now views.now }
     ensures { IfOk result (λ common. common ≡ common_of_team table.now init.now views.now) }
 {
-    let start = start_of(alloc, init, table)?;
-    let goals = goals_of(alloc, views, table)?;
+    let (start, goals) = start_and_goals(
+        alloc,
+        &NameTable::of(alloc, init)?,
+        &all_goals(alloc, views)?,
+        table,
+    )?;
     let met = flags_of(alloc, views)?;
-    let parts = all_parts(alloc, names, views)?;
+    let mut parts = List::new(alloc);
+    add_all_parts(alloc, &mut parts, names, 1, views)?;
     Ok(Common {
         start,
         goals,

@@ -1,35 +1,34 @@
 //! The tasks of a team from its grounded factors and from what the tasks have in common.
 
 ghost use Rattle.std.specs.Prelude.{◌≡◌, ◌++◌, ◌∷◌, ◌≤◌, [], true, not, length, map, All, IfOk, OnOk};
+ghost use Rattle.std.specs.Cmp.Lexicographic.{slice_cmp};
+ghost use Rattle.std.specs.List.Sorted.{IsStrictlySortedBy};
+ghost use Rattle.std.specs.Ordering.{nat_cmp};
 ghost use Rattle.mp_task.specs.Limits.{ActFits, IsWithinLimits};
-ghost use Rattle.mp_split.specs.Common.{ArePlaces, IsOfTeam, act_at, of_others, task_from, task_with};
+ghost use Rattle.mp_split.specs.Common.{ActRises, AreOf, ArePlaces, IsOfTeam, act_at, of_others, task_from, task_with};
+ghost use Rattle.mp_split.specs.TaskOf.{act_in};
 
 use crate::common::Common;
 use crate::numbers::{numbers_at, numbers_of};
-use crate::team::{StepsList, Tasks, Views};
+use crate::team::{Tasks, Views};
 use mp_ground::Ground;
+use mp_lifted::FactTexts;
 use mp_list::{Copied, List, OutOfMemory};
 use mp_sets::{Agent, FactList};
 use mp_sexp::NameTable;
-use mp_task::{Act, ActList, Far, FarList, Task, TaskList};
+use mp_task::{Act, ActList, Far, FarList, Task};
 use std::alloc::Global;
 use std::mem;
 
-/// An own action, with the numbers at its places for its public facts. What `scratch` has is lost.
-fn act_of(
-    alloc: Global,
-    scratch: &mut Vec<u32>,
-    numbers: &FactList,
-    privates: u32,
-    act: Act,
-) -> Result<Act, OutOfMemory>
+/// An own action, with the numbers at its places for its public facts.
+fn act_of(alloc: Global, numbers: &FactList, privates: u32, act: Act) -> Result<Act, OutOfMemory>
     requires { ActFits (length numbers.now) privates act }
     ensures { IfOk result (λ made. made ≡ act_at numbers.now act) }
 {
     let mut made = act;
-    made.pre_pub = numbers_at(alloc, scratch, numbers, &made.pre_pub)?;
-    made.add_pub = numbers_at(alloc, scratch, numbers, &made.add_pub)?;
-    made.del_pub = numbers_at(alloc, scratch, numbers, &made.del_pub)?;
+    made.pre_pub = numbers_at(alloc, numbers, &made.pre_pub)?;
+    made.add_pub = numbers_at(alloc, numbers, &made.add_pub)?;
+    made.del_pub = numbers_at(alloc, numbers, &made.del_pub)?;
     Ok(made)
 }
 
@@ -47,10 +46,9 @@ fn are_places(numbers: &[u32]) -> bool
     true
 }
 
-/// Own actions, with the numbers at their places for their public facts. What `scratch` has is lost.
+/// Own actions, with the numbers at their places for their public facts.
 fn renumbered(
     alloc: Global,
-    scratch: &mut Vec<u32>,
     numbers: &FactList,
     privates: u32,
     acts: ActList,
@@ -60,27 +58,32 @@ fn renumbered(
 {
     let mut made = List::with_capacity(alloc, acts.len())?;
     for act in acts.into_items() {
-        made.push(act_of(alloc, scratch, numbers, privates, act)?)?;
+        made.push(act_of(alloc, numbers, privates, act)?)?;
     }
     Ok(made)
 }
 
-/// Own actions, with the numbers at their places for their public facts: as they are, where each number is its place, as
-/// for a team whose agents all have the same public facts. What `scratch` has is lost.
-fn acts_of(
+/// Own actions of an agent that has these public facts, with the team's numbers for them: as they are, where each number is
+/// its place, as for a team whose agents all have the same public facts.
+fn own_acts(
     alloc: Global,
-    scratch: &mut Vec<u32>,
-    numbers: &FactList,
+    table: &NameTable<'_>,
+    publics: &FactTexts,
     privates: u32,
     acts: ActList,
 ) -> Result<ActList, OutOfMemory>
-    requires { All (ActFits (length numbers.now) privates) acts }
-    ensures { IfOk result (λ made. made ≡ map (act_at numbers.now) acts) }
+    requires few { length table.now ≤ 1048560 }
+    requires rise { IsStrictlySortedBy (slice_cmp nat_cmp) table.now }
+    requires publics { AreOf table.now publics.now }
+    requires rises { All ActRises acts }
+    requires fits { All (ActFits (length publics.now) privates) acts }
+    ensures { IfOk result (λ made. made ≡ map (act_in table.now publics.now) acts) }
 {
+    let numbers = numbers_of(alloc, table, publics.as_slice())?;
     if are_places(numbers.as_slice()) {
         return Ok(acts);
     }
-    renumbered(alloc, scratch, numbers, privates, acts)
+    renumbered(alloc, &numbers, privates, acts)
 }
 
 /// Adds a copy of a part, where it is another agent's.
@@ -143,9 +146,7 @@ fn task_of(
     requires { IsOfTeam table.now common.now (record ground.now { acts = acts }) }
     ensures { IfOk result (λ task. task ≡ task_with table.now common.now (record ground.now { acts = acts })) }
 {
-    let mut scratch = Vec::new(alloc);
-    let numbers = numbers_of(alloc, &mut scratch, table, ground.publics.as_slice())?;
-    let acts = acts_of(alloc, &mut scratch, &numbers, ground.privates, acts)?;
+    let acts = own_acts(alloc, table, &ground.publics, ground.privates, acts)?;
     let far = others_of(alloc, ground.me, common.parts.as_slice())?;
     task_from_parts(table.len() as u32, common, ground, acts, far)
 }
@@ -156,16 +157,17 @@ fn add_task(
     table: &NameTable<'_>,
     common: &Common,
     mut ground: Ground,
-    tasks: &mut TaskList,
-    steps: &mut StepsList,
+    out: &mut Tasks,
 ) -> Result<(), OutOfMemory>
     requires { IsOfTeam table.now common.now ground }
-    ensures task { OnOk result (tasks.new ≡ tasks.old ++ task_with table.now common.now ground ∷ []) }
-    ensures steps { OnOk result (steps.new ≡ steps.old ++ ground.steps ∷ []) }
+    ensures task { OnOk result (out.new.tasks ≡ out.old.tasks ++ task_with table.now common.now ground ∷ []) }
+    ensures steps { OnOk result (out.new.steps ≡ out.old.steps ++ ground.steps ∷ []) }
+    ensures views { OnOk result (out.new.views ≡ out.old.views) }
 {
     let acts = mem::replace(&mut ground.acts, List::new(alloc));
-    tasks.push(task_of(alloc, table, common, &ground, acts)?)?;
-    steps.push(ground.into_steps())?;
+    out.tasks
+        .push(task_of(alloc, table, common, &ground, acts)?)?;
+    out.steps.push(ground.into_steps())?;
     Ok(())
 }
 
@@ -182,14 +184,13 @@ pub(crate) fn tasks_of(
     ensures steps { IfOk result (λ t. t.steps ≡ map (λ g. g.steps) grounds.items) }
     ensures views { IfOk result (λ t. t.views ≡ views) }
 {
-    let mut tasks = List::with_capacity(alloc, grounds.len())?;
-    let mut steps = List::with_capacity(alloc, grounds.len())?;
-    for ground in grounds {
-        add_task(alloc, table, common, ground, &mut tasks, &mut steps)?;
-    }
-    Ok(Tasks {
-        tasks,
-        steps,
+    let mut out = Tasks {
+        tasks: List::with_capacity(alloc, grounds.len())?,
+        steps: List::with_capacity(alloc, grounds.len())?,
         views,
-    })
+    };
+    for ground in grounds {
+        add_task(alloc, table, common, ground, &mut out)?;
+    }
+    Ok(out)
 }

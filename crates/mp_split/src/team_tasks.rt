@@ -8,7 +8,7 @@ ghost use Rattle.mp_views.specs.Opened.{open_view as open_view_of};
 ghost use Rattle.mp_ground.specs.Limits.{IsWithin, KeepsLimits};
 ghost use Rattle.mp_split.specs.Begun.{AreBegun};
 ghost use Rattle.mp_split.specs.Closed.{closed_view as closed_view_of};
-ghost use Rattle.mp_split.specs.Common.{AreReadyFrom};
+ghost use Rattle.mp_split.specs.Common.{IsReady};
 ghost use Rattle.mp_split.specs.TaskOf.{task_of as task_of_team};
 ghost use Rattle.mp_split.specs.Team.{AreTasksOf, IsFirstRefusal, known_at, open_views as open_views_of};
 
@@ -129,15 +129,6 @@ fn add_bytes(
     }
 }
 
-/// The bytes of what each agent shows, before grounding and after it.
-fn bytes_of(alloc: Global, before: &[OpenView], after: &[View]) -> Result<Views, OutOfMemory>
-    ensures { IfOk result (λ views. views ≡ zip2 view_text before.now after.now) }
-{
-    let mut views = List::new(alloc);
-    add_bytes(alloc, &mut views, before, after)?;
-    Ok(views)
-}
-
 /// The tasks of a team whose agents show this, in these bytes.
 fn tasks_shown(
     alloc: Global,
@@ -147,22 +138,18 @@ fn tasks_shown(
     bytes: Views,
 ) -> Result<Tasks, OutOfMemory>
     requires agents { length grounds.items ≤ 16 }
-    requires ready { AreReadyFrom 1 grounds.items }
+    requires ready { All (IsReady (length grounds.items)) grounds.items }
     requires views { views.items ≡ map closed_view_of grounds.items }
     ensures tasks { IfOk result (λ t. t.tasks
         ≡ map (task_of_team (record { init = init; views = map closed_view_of grounds.items })) grounds.items) }
     ensures steps { IfOk result (λ t. t.steps ≡ map (λ g. g.steps) grounds.items) }
     ensures views { IfOk result (λ t. t.views ≡ bytes) }
 {
-    let table = table_of(alloc, views.as_slice())?;
-    let names = NameTable::of(alloc, table.as_slice())?;
-    let common = common_of(
-        alloc,
-        table.as_slice(),
-        &names,
-        init.as_slice(),
-        views.as_slice(),
-    )?;
+    let shown = views.as_slice();
+    let table = table_of(alloc, shown)?;
+    let texts = table.as_slice();
+    let names = NameTable::of(alloc, texts)?;
+    let common = common_of(alloc, texts, &names, init.as_slice(), shown)?;
     drop(views);
     tasks_of(alloc, &names, &common, grounds, bytes)
 }
@@ -175,7 +162,7 @@ fn split(
     grounds: Vec<Ground>,
 ) -> Result<Tasks, OutOfMemory>
     requires agents { length grounds.items ≤ 16 }
-    requires ready { AreReadyFrom 1 grounds.items }
+    requires ready { All (IsReady (length grounds.items)) grounds.items }
     ensures tasks { IfOk result (λ t. t.tasks
         ≡ map (task_of_team (record { init = init; views = map closed_view_of grounds.items })) grounds.items) }
     ensures steps { IfOk result (λ t. t.steps ≡ map (λ g. g.steps) grounds.items) }
@@ -183,7 +170,8 @@ fn split(
         ≡ zip2 view_text before.items (map closed_view_of grounds.items)) }
 {
     let views = closed_views(alloc, grounds.as_slice())?;
-    let bytes = bytes_of(alloc, before.as_slice(), views.as_slice())?;
+    let mut bytes = List::new(alloc);
+    add_bytes(alloc, &mut bytes, before.as_slice(), views.as_slice())?;
     drop(before);
     tasks_shown(alloc, init, views, grounds, bytes)
 }

@@ -1,6 +1,7 @@
 -- The types that are found along the declarations are the tops and all types under them.
 use Rattle.mp_typing.proofs.Basics.{◌≡◌, ℕ, zero, suc, ◌+◌, ◌<◌, ◌≤◌, true, false, List, [], ◌∷◌, ◌++◌, length, get_or, take, Option, Some, None, ◌⊎◌, refl, sym, ap, subst, ◌∙◌, arith, inl, inr, append_assoc, Contains, slice_get, if◌then◌else◌, Decides, cases_Bool, or_cases, or_left, or_right}
 use Rattle.mp_typing.proofs.Basics.{append-nil, length-append, take_more, list_any-append, Contains-append_left, Contains-push, Contains-push_cases, bytes_eq, contains_cases, contains_head, contains_one, contains_tail, no_member, Typed, is_among, DeclaredUnder, IsA, IsUnderOne, same, step, through_object, object_name}
+use Rattle.std.proofs.Common.{◌-◌}
 use Rattle.mp_typing.proofs.Basics.{directly_under, found_after, lies_under, lower, with_lower, with_type, with_types}
 use Rattle.mp_typing.proofs.ByTypeLemmas.{has_under, is_under}
 use Rattle.mp_typing.proofs.Lists.{among_from_contains, contains_from_among}
@@ -248,6 +249,29 @@ looked_on declared tops now n is = let next : suc n ≡ n + 1 = omega arith in i
 pub none_looked_at : (declared : List Typed) (tops : List (List ℕ)) → with_types [] tops ≡ found_after declared tops 0
 unfolding found_after
 none_looked_at declared tops = refl
+
+get_beyond : (xs : List (List ℕ)) (i : ℕ) → length xs ≤ i → slice_get xs i ≡ None
+get_beyond [] i le = refl
+get_beyond (x ∷ xs) zero le = absurd (omega (arith, le))
+get_beyond (x ∷ xs) (suc i) le = get_beyond xs i (omega (arith, le))
+
+-- once each that is found was looked at, no more are found
+no_more : (declared : List Typed) (tops : List (List ℕ)) (n more : ℕ) → length (found_after declared tops n) ≤ n → found_after declared tops (more + n) ≡ found_after declared tops n
+unfolding found_after
+no_more declared tops n zero all = let same : 0 + n ≡ n = omega arith in ap (found_after declared tops) same
+no_more declared tops n (suc more) all =
+    let rest = no_more declared tops n more all in
+    let none : slice_get (found_after declared tops n) (more + n) ≡ None = get_beyond (found_after declared tops n) (more + n) (omega (arith, all)) in
+    let next : suc more + n ≡ suc (more + n) = omega arith in
+    ap (found_after declared tops) next
+    ∙ ap (λ (ns : List (List ℕ)). with_lower declared ns (slice_get ns (more + n))) rest
+    ∙ ap (with_lower declared (found_after declared tops n)) none
+
+pub all_looked_at : (declared : List Typed) (tops : List (List ℕ)) (n : ℕ) → n ≤ length tops + length declared → length (found_after declared tops n) ≤ n → found_after declared tops n ≡ lower declared tops
+all_looked_at declared tops n within all =
+    let left : ℕ = length tops + length declared - n in
+    let whole : left + n ≡ length tops + length declared = omega (arith, within) in
+    sym (no_more declared tops n left all) ∙ ap (found_after declared tops) whole
 
 -- ---- all that is found
 

@@ -57,6 +57,10 @@ pub fn lower_types(
     let mut found = IndexSet::new(alloc);
     add_types(&mut found, asked.as_slice())?;
     for place in 0..asked.as_slice().len() + types.as_slice().len() {
+        // Each type that is found was looked at, so no more are found.
+        if place >= found.len() {
+            return Ok(found);
+        }
         add_lower(&mut found, under, place)?;
     }
     Ok(found)

@@ -1,6 +1,6 @@
 -- What the proofs of this crate cite of the standard library, of the crates below, and of the definitions here, under one name.
 pub use Rattle.std.proofs.Common.{Bool, Equal, Greater, IfOk, Less, List, Ordering, [], ap, cond, drop, false, length, map, not, refl, reverse, subst, sym, take, true}
-pub use Rattle.std.proofs.Common.{vec_len, ◌&&◌, ◌++◌, ◌||◌, ◌∙◌, ◌∷◌, ◌≡◌}
+pub use Rattle.std.proofs.Common.{vec_len, ◌&&◌, ◌++◌, ◌∙◌, ◌∷◌, ◌≡◌}
 pub use Rattle.std.proofs.lemmas.Bool.{false≢true}
 pub use Rattle.std.proofs.lemmas.Cmp.{tied_itself}
 pub use Rattle.std.proofs.lemmas.List.{append-nil, reverse-append}

@@ -1,5 +1,5 @@
 -- Parts with their lines, in the order of their lines.
-use Rattle.mp_views.proofs.Basics.{◌≡◌, List, [], ◌∷◌, ◌++◌, map, reverse, refl, sym, ap, ◌∙◌, Ordering, Less, Equal, Greater, IsTotalOrder, slice_cmp, nat_list_cmp_total, texts_ties, eq_by_cmp, match_ordering, nat_cmp, insert_key, IsSorted}
+use Rattle.mp_views.proofs.Basics.{◌≡◌, List, [], ◌∷◌, ◌++◌, map, reverse, refl, sym, ap, ◌∙◌, Ordering, Less, Equal, Greater, IsTotalOrder, slice_cmp, nat_list_cmp_total, texts_ties, match_ordering, nat_cmp, insert_key, IsSorted}
 use Rattle.mp_views.proofs.Basics.{IsStable, bytes_eq, reverse-append, dedup_is, Part, part_line, sorted_by}
 use Rattle.std.specs.Cmp.{on_total}
 use Rattle.std.specs.Ordering.{on}
@@ -7,7 +7,7 @@ use Rattle.std.specs.List.Retain.{IsFiltered, DiffersFromLast}
 use Rattle.std.proofs.lemmas.List.{map-append}
 use Rattle.mp_views.specs.declared.parts.LinedPart.{LinedPart}
 use Rattle.mp_views.specs.Parts.{part_cmp, sorted_parts}
-use Rattle.mp_views.proofs.SortedLemmas.{with_all, all_sorted}
+use Rattle.mp_views.proofs.SortedLemmas.{sorted_none, sorted_one_more}
 use Rattle.mp_views.proofs.TiedLemmas.{each_once, first_tied, tied_stable}
 
 -- a part with its line
@@ -32,26 +32,18 @@ lined_key (x ∷ ks) k =
       | Greater ↦ ap (λ (zs : List LinedPart). lined x ∷ zs) (lined_key ks k)
     ]
 
-lined_all : (parts : List Part) → with_all lined_cmp (map lined parts) [] ≡ map lined (with_all part_cmp parts [])
-lined_all [] = refl
-lined_all (p ∷ parts) = ap (λ (zs : List LinedPart). insert_key lined_cmp zs (lined p)) (lined_all parts) ∙ lined_key (with_all part_cmp parts []) p
+lined_total : IsTotalOrder lined_cmp
+lined_total = on_total (λ (p : LinedPart). p.line) nat_list_cmp_total
+
+lined_sorted : (parts : List Part) → sorted_by lined_cmp (map lined parts) ≡ map lined (sorted_parts parts)
+lined_sorted [] = sorted_none lined_cmp ∙ ap (map lined) (sym (sorted_none part_cmp))
+lined_sorted (p ∷ parts) =
+    sorted_one_more lined_total (lined p) (map lined parts) ∙ ap (λ (zs : List LinedPart). insert_key lined_cmp zs (lined p)) (lined_sorted parts)
+    ∙ lined_key (sorted_parts parts) p ∙ ap (map lined) (sym (sorted_one_more part_total p parts))
 
 back : (parts : List Part) → map part_of (map lined parts) ≡ parts
 back [] = refl
 back (p ∷ parts) = ap (λ (zs : List Part). p ∷ zs) (back parts)
-
--- the parts of a set to which all of a list are added with their lines
-pub parts_sorted : (parts : List Part) → map part_of (with_all lined_cmp (map lined parts) []) ≡ sorted_parts parts
-parts_sorted parts = ap (map part_of) (lined_all parts) ∙ back (with_all part_cmp parts []) ∙ all_sorted part_total parts
-
-lined_total : IsTotalOrder lined_cmp
-lined_total = on_total (λ (p : LinedPart). p.line) nat_list_cmp_total
-
-lined_ties : (x y : LinedPart) → bytes_eq x.line y.line ≡ eq_by_cmp lined_cmp x y
-lined_ties x y = texts_ties x.line y.line
-
-lined_sorted : (parts : List Part) → map part_of (sorted_by lined_cmp (map lined parts)) ≡ sorted_parts parts
-lined_sorted parts = ap (map part_of) (sym (all_sorted lined_total (map lined parts))) ∙ parts_sorted parts
 
 lined_back : (parts : List Part) → map lined (reverse parts) ≡ reverse (map lined parts)
 lined_back [] = refl
@@ -65,5 +57,6 @@ pub parts_are : (parts : List Part) (made sorted kept : List LinedPart) → made
 parts_are parts made sorted kept are stable up left =
     ap (map part_of)
     (dedup_is _ _ _ left
-    ∙ each_once lined_total lined_ties (map lined parts) sorted up (λ q. tied_stable lined_total made sorted stable q ∙ ap (first_tied lined_cmp q) (are ∙ lined_back parts)))
-    ∙ lined_sorted parts
+    ∙ each_once lined_total (λ x y. texts_ties x.line y.line) (map lined parts) sorted up (λ q. tied_stable lined_total made sorted stable q ∙ ap (first_tied lined_cmp q) (are ∙ lined_back parts))
+    ∙ lined_sorted parts)
+    ∙ back (sorted_parts parts)

@@ -5,7 +5,7 @@ use Rattle.std.proofs.Common.{is_some}
 use Rattle.std.specs.Prelude.{T}
 use Rattle.std.specs.FinMap.{entries_sorted, get-from_entries, contains_key-keys}
 use Rattle.std.specs.FinMap.Entries.{below_all, is_some-find, is_sorted}
-use Rattle.mp_views.proofs.SortedLemmas.{key, with_all, all_sorted}
+use Rattle.mp_views.proofs.SortedLemmas.{key, sorted_none, sorted_one_more}
 
 first : (a b : Bool) → T (a && b) → T a
 first true b p = tt
@@ -43,11 +43,6 @@ module _ {K : Type 0} (R : K → K → Ordering) where
   below_first x [] h = refl
   below_first x (y ∷ ys) h = λ i. match_ordering (h.0 i) (x ∷ y ∷ ys) (y ∷ ys) (y ∷ insert_key R ys x)
 
-  all_added : (xs : List K) → IsStrictlySortedBy R xs → with_all R xs [] ≡ xs
-  unfolding IsStrictlySortedBy
-  all_added [] h = refl
-  all_added (x ∷ xs) h = ap (λ (ks : List K). insert_key R ks x) (all_added xs h.1) ∙ below_first x xs h.0
-
 module _ {K : Type 0} {R : K → K → Ordering} (o : IsTotalOrder R) where
   -- they are those of the list
   pub same_members : (xs : List K) (q : K) → list_any (eq_by_cmp R q) (sorted_by R xs) ≡ list_any (eq_by_cmp R q) xs
@@ -59,7 +54,9 @@ module _ {K : Type 0} {R : K → K → Ordering} (o : IsTotalOrder R) where
 
   -- what rises already stays
   pub unchanged : (xs : List K) → IsStrictlySortedBy R xs → sorted_by R xs ≡ xs
-  unchanged xs h = sym (all_sorted o xs) ∙ all_added R xs h
+  unfolding IsStrictlySortedBy
+  unchanged [] h = sorted_none R
+  unchanged (x ∷ xs) h = sorted_one_more o x xs ∙ ap (λ (ks : List K). insert_key R ks x) (unchanged xs h.1) ∙ below_first R x xs h.0
 
 -- the same of texts
 pub tied : (q : Text) (xs : List Text) → is_listed q xs ≡ list_any (eq_by_cmp (slice_cmp nat_cmp) q) xs

@@ -1,6 +1,6 @@
 -- The items of a list in an order, added one by one.
-use Rattle.mp_views.proofs.Basics.{◌≡◌, List, [], ◌∷◌, ◌++◌, map, length, refl, sym, ap, ◌∙◌, Ordering, Less, Equal, Greater, tied_itself, IsTotalOrder, slice_cmp, nat_list_cmp_total, entries, from_entries, match_ordering, nat_cmp, insert_key, Text}
-use Rattle.mp_views.proofs.Basics.{sorted_by, sorted_once, with_nothing}
+use Rattle.mp_views.proofs.Basics.{◌≡◌, List, [], ◌∷◌, ◌++◌, map, length, refl, sym, ap, ◌∙◌, Ordering, Less, Equal, Greater, tied_itself, IsTotalOrder, entries, from_entries, match_ordering, insert_key}
+use Rattle.mp_views.proofs.Basics.{sorted_by, with_nothing}
 use Rattle.std.proofs.Common.{arith}
 use Rattle.std.specs.FinMap.{empty, entries-insert, len-empty, len-entries}
 use Rattle.std.specs.FinMap.Entries.{put, by_order}
@@ -64,7 +64,3 @@ module _ {K : Type 0} {R : K → K → Ordering} (o : IsTotalOrder R) where
   sorted_twice (y ∷ front) x rest =
       sorted_one_more y (front ++ x ∷ x ∷ rest) ∙ ap (λ (ks : List K). insert_key R ks y) (sorted_twice front x rest)
       ∙ sym (sorted_one_more y (front ++ x ∷ rest))
-
--- the same of texts
-pub texts_sorted : (texts : List Text) → with_all (slice_cmp nat_cmp) texts [] ≡ sorted_once texts
-texts_sorted texts = all_sorted nat_list_cmp_total texts

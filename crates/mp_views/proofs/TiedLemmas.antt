@@ -1,41 +1,30 @@
 -- The first item of a list that ties with a given one: it tells lists that rise apart, so that sorting by any way that
 -- keeps it gives one list.
-use Rattle.mp_views.proofs.Basics.{◌≡◌, Bool, true, false, cond, not, ◌&&◌, ◌||◌, List, [], ◌∷◌, ◌++◌, reverse, refl, sym, ap, ◌∙◌, Ordering, Less, Equal, Greater, false≢true, tied_itself, reverse-append, IsTotalOrder, AllByRecursion, list_any}
+use Rattle.mp_views.proofs.Basics.{◌≡◌, Bool, true, false, cond, not, ◌&&◌, List, [], ◌∷◌, reverse, refl, sym, ap, ◌∙◌, Ordering, Less, Equal, Greater, false≢true, tied_itself, reverse-append, IsTotalOrder, AllByRecursion}
 use Rattle.mp_views.proofs.Basics.{IsSorted, IsStable, IsStrictlySortedBy, eq_by_cmp, is_lt, match_ordering, insert_key, sorted_by}
 use Rattle.std.proofs.Common.{inl, inr, Option, None, Some}
 use Rattle.std.proofs.lemmas.Bool.{cases_Bool}
 use Rattle.std.proofs.lemmas.Cmp.{alike_right}
 use Rattle.std.proofs.lemmas.List.Kept.{IsStrictlySortedBy-dedup}
 use Rattle.std.proofs.lemmas.List.Sorted.{IsPermutation-reverse, list_any-IsPermutation}
-use Rattle.std.specs.FinMap.{IsAntisymmetric}
-use Rattle.std.specs.List.{dedup, dedup_from, filter}
+use Rattle.std.proofs.lemmas.List.Folds.{find-append}
+use Rattle.std.proofs.lemmas.Map.Made.{find_same}
+use Rattle.std.specs.List.{dedup, dedup_from, filter, find}
+use Rattle.std.specs.Option.{option_or}
+use Rattle.std.specs.Prelude.{Decides}
 use Rattle.std.specs.List.Sorted.{IsPermutation, ties}
 use Rattle.std.specs.Ordering.{is_eq, ordering_reverse}
 use Rattle.mp_views.proofs.SortedLemmas.{sorted_none, sorted_one_more}
 use Rattle.mp_views.proofs.SortedLaws.{rises}
 
--- the first of two that is there
-abbrev pub or_else : {K : Type 0} → Option K → Option K → Option K
-or_else None p = p
-or_else (Some x) p = Some x
-
-or_none : {K : Type 0} (p : Option K) → or_else p None ≡ p
+or_none : {K : Type 0} (p : Option K) → option_or p None ≡ p
 or_none None = refl
 or_none (Some x) = refl
 
 module _ {K : Type 0} (R : K → K → Ordering) where
   -- the first item that ties with q
   abbrev pub first_tied : K → List K → Option K
-  first_tied q [] = None
-  first_tied q (x ∷ xs) = cond (eq_by_cmp R q x) (Some x) (first_tied q xs)
-
-  pub tied_append : (q : K) (xs ys : List K) → first_tied q (xs ++ ys) ≡ or_else (first_tied q xs) (first_tied q ys)
-  tied_append q [] ys = refl
-  tied_append q (x ∷ xs) ys =
-      elim (cases_Bool (eq_by_cmp R q x)) [
-        | inl same ↦ rw same
-        | inr other ↦ rw other (tied_append q xs ys)
-      ]
+  first_tied q xs = find (eq_by_cmp R q) xs
 
   none_below : (q : K) (ys : List K) → AllByRecursion (λ y. R q y ≡ Less) ys → first_tied q ys ≡ None
   none_below q [] h = refl
@@ -95,13 +84,13 @@ module _ {K : Type 0} {R : K → K → Ordering} (o : IsTotalOrder R) where
           let others : xs ≡ ys = rest (λ q. same_later x y xs ys here up.0 rising.0 q (same q)) in
           cc
 
-  tied_insert : (q : K) (ks : List K) (x : K) → IsStrictlySortedBy R ks → first_tied R q (insert_key R ks x) ≡ or_else (first_tied R q ks) (cond (eq_by_cmp R q x) (Some x) None)
+  tied_insert : (q : K) (ks : List K) (x : K) → IsStrictlySortedBy R ks → first_tied R q (insert_key R ks x) ≡ option_or (first_tied R q ks) (cond (eq_by_cmp R q x) (Some x) None)
   unfolding IsStrictlySortedBy
   tied_insert q [] x up = refl
   tied_insert q (y ∷ ks) x up = by (R x y) refl (tied_insert q ks x up.1)
     where
-      by : (r : Ordering) → R x y ≡ r → first_tied R q (insert_key R ks x) ≡ or_else (first_tied R q ks) (cond (eq_by_cmp R q x) (Some x) None)
-          → first_tied R q (match_ordering r (x ∷ y ∷ ks) (y ∷ ks) (y ∷ insert_key R ks x)) ≡ or_else (first_tied R q (y ∷ ks)) (cond (eq_by_cmp R q x) (Some x) None)
+      by : (r : Ordering) → R x y ≡ r → first_tied R q (insert_key R ks x) ≡ option_or (first_tied R q ks) (cond (eq_by_cmp R q x) (Some x) None)
+          → first_tied R q (match_ordering r (x ∷ y ∷ ks) (y ∷ ks) (y ∷ insert_key R ks x)) ≡ option_or (first_tied R q (y ∷ ks)) (cond (eq_by_cmp R q x) (Some x) None)
       by Less less later =
           elim (cases_Bool (eq_by_cmp R q x)) [
             | inl tied ↦
@@ -127,8 +116,8 @@ module _ {K : Type 0} {R : K → K → Ordering} (o : IsTotalOrder R) where
   tied_sorted [] q = ap (first_tied R q) (sorted_none R)
   tied_sorted (x ∷ xs) q =
       ap (first_tied R q) (sorted_one_more o x xs) ∙ tied_insert q (sorted_by R xs) x (rises R xs)
-      ∙ ap (λ (p : Option K). or_else p (first_tied R q (x ∷ []))) (tied_sorted xs q)
-      ∙ sym (tied_append R q (reverse xs) (x ∷ [])) ∙ ap (first_tied R q) (sym (reverse-append (x ∷ []) xs))
+      ∙ ap (λ (p : Option K). option_or p (first_tied R q (x ∷ []))) (tied_sorted xs q)
+      ∙ sym (find-append (eq_by_cmp R q) (reverse xs) (x ∷ [])) ∙ ap (first_tied R q) (sym (reverse-append (x ∷ []) xs))
 
 module _ {K : Type 0} {R : K → K → Ordering} (o : IsTotalOrder R) {E : K → K → Bool} (ties_are : (x y : K) → E x y ≡ eq_by_cmp R x y) where
   tied_from : (k : K) (xs : List K) (q : K) → first_tied R q (dedup_from E k xs) ≡ first_tied R q (k ∷ xs)
@@ -156,9 +145,8 @@ module _ {K : Type 0} {R : K → K → Ordering} (o : IsTotalOrder R) {E : K →
       (λ q. tied_dedup ys q ∙ same q ∙ sym (tied_sorted o xs q))
 
 -- the first item of a list
-first_item : {K : Type 0} → List K → Option K
-first_item [] = None
-first_item (x ∷ xs) = Some x
+abbrev first_item : {K : Type 0} → List K → Option K
+first_item xs = find (λ x. true) xs
 
 module _ {K : Type 0} {R : K → K → Ordering} (o : IsTotalOrder R) where
   tie_test : (q x : K) → ties (λ a b. is_lt (R a b)) q x ≡ eq_by_cmp R q x
@@ -170,7 +158,6 @@ module _ {K : Type 0} {R : K → K → Ordering} (o : IsTotalOrder R) where
       by Greater = refl
 
   first_kept : (q : K) (xs : List K) → first_tied R q xs ≡ first_item (filter (ties (λ a b. is_lt (R a b)) q) xs)
-  unfolding first_item
   first_kept q [] = refl
   first_kept q (x ∷ xs) =
       elim (cases_Bool (eq_by_cmp R q x)) [
@@ -182,21 +169,11 @@ module _ {K : Type 0} {R : K → K → Ordering} (o : IsTotalOrder R) where
   pub tied_stable : (xs ys : List K) → IsStable R xs ys → (q : K) → first_tied R q ys ≡ first_tied R q xs
   tied_stable xs ys stable q = first_kept q ys ∙ ap first_item (stable q) ∙ sym (first_kept q xs)
 
-module _ {K : Type 0} {R : K → K → Ordering} (one : IsAntisymmetric R) where
-  only_tied : (q : K) (xs : List K) → first_tied R q xs ≡ cond (list_any (eq_by_cmp R q) xs) (Some q) None
-  only_tied q [] = refl
-  only_tied q (x ∷ xs) = by (R q x) refl (only_tied q xs)
-    where
-      by : (r : Ordering) → R q x ≡ r → first_tied R q xs ≡ cond (list_any (eq_by_cmp R q) xs) (Some q) None
-          → cond (is_eq r) (Some x) (first_tied R q xs) ≡ cond (is_eq r || list_any (eq_by_cmp R q) xs) (Some q) None
-      by Less e later = later
-      by Equal e later = ap Some (sym (one q x e))
-      by Greater e later = later
-
-  -- where items that tie are one, any order of a list has the first items that the list has
-  pub tied_moved : (xs ys : List K) → IsPermutation xs ys → (q : K) → first_tied R q ys ≡ first_tied R q (reverse xs)
-  tied_moved xs ys moved q =
-      let p = eq_by_cmp R q in
-      only_tied q ys
-      ∙ ap (λ (b : Bool). cond b (Some q) None) (sym (list_any-IsPermutation p xs ys moved) ∙ list_any-IsPermutation p xs (reverse xs) (IsPermutation-reverse xs))
-      ∙ sym (only_tied q (reverse xs))
+-- where items that tie are one, any order of a list has the first items that the list has
+pub tied_moved : {K : Type 0} (R : K → K → Ordering) → ((x y : K) → Decides (eq_by_cmp R x y) (x ≡ y)) → (xs ys : List K) → IsPermutation xs ys
+    → (q : K) → first_tied R q ys ≡ first_tied R q (reverse xs)
+tied_moved R same xs ys moved q =
+    let p = eq_by_cmp R q in
+    find_same same q ys
+    ∙ ap (λ (b : Bool). cond b (Some q) None) (sym (list_any-IsPermutation p xs ys moved) ∙ list_any-IsPermutation p xs (reverse xs) (IsPermutation-reverse xs))
+    ∙ sym (find_same same q (reverse xs))

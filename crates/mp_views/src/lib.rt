@@ -17,4 +17,5 @@ pub use lines::view_bytes;
 pub use open::{join, open_view};
 pub use parts::sorted_parts;
 pub use sorted::sorted_once;
+pub use spelling::push_name;
 pub use view::{Part, PartList, View};

@@ -1,6 +1,6 @@
 //! Views as texts.
 
-ghost use Rattle.std.specs.Prelude.{◌≡◌, ◌++◌, ◌∷◌, [], map, decimal, IfOk, OnOk};
+ghost use Rattle.std.specs.Prelude.{◌≡◌, ◌++◌, ◌∷◌, [], map, IfOk, OnOk};
 ghost use Rattle.mp_views.specs.Lines.{labelled, spaced, part_line, met_line, open_lines, closed_lines, text_of_lines, view_text};
 
 use crate::view::{Part, View};
@@ -11,28 +11,13 @@ use mp_messages::Bytes;
 use mp_sexp::Name;
 use std::alloc::Global;
 
-/// Appends bytes.
-fn push_bytes(text: &mut Bytes, bytes: &[u8]) -> Result<(), OutOfMemory>
-    ensures { OnOk result (text.new ≡ text.old ++ bytes.now) }
-{
-    text.extend_from_slice(bytes)
-}
-
-/// Appends a number in decimal.
-fn push_number(text: &mut Bytes, number: u64) -> Result<(), OutOfMemory>
-    ensures { OnOk result (text.new ≡ text.old ++ decimal number) }
-{
-    let mut buffer = Buffer::new();
-    push_bytes(text, buffer.format(number).as_bytes())
-}
-
 /// Appends a line for each text, with a word before it.
 fn push_labelled(text: &mut Bytes, label: &[u8], names: &[Name]) -> Result<(), OutOfMemory>
     ensures { OnOk result (text.new ≡ text.old ++ text_of_lines (labelled label.now names.now)) }
 {
     for name in names {
-        push_bytes(text, label)?;
-        push_bytes(text, name.as_slice())?;
+        text.extend_from_slice(label)?;
+        text.extend_from_slice(name.as_slice())?;
         text.push(b'\n')?;
     }
     Ok(())
@@ -42,10 +27,10 @@ fn push_labelled(text: &mut Bytes, label: &[u8], names: &[Name]) -> Result<(), O
 fn push_spaced(text: &mut Bytes, label: &[u8], names: &[Name]) -> Result<(), OutOfMemory>
     ensures { OnOk result (text.new ≡ text.old ++ (label.now ++ spaced names.now)) }
 {
-    push_bytes(text, label)?;
+    text.extend_from_slice(label)?;
     for name in names {
         text.push(b' ')?;
-        push_bytes(text, name.as_slice())?;
+        text.extend_from_slice(name.as_slice())?;
     }
     Ok(())
 }
@@ -54,8 +39,9 @@ fn push_spaced(text: &mut Bytes, label: &[u8], names: &[Name]) -> Result<(), Out
 pub(crate) fn push_part(text: &mut Bytes, part: &Part) -> Result<(), OutOfMemory>
     ensures { OnOk result (text.new ≡ text.old ++ part_line part.now) }
 {
-    push_bytes(text, b"act ")?;
-    push_number(text, part.cost)?;
+    let mut cost = Buffer::new();
+    text.extend_from_slice(b"act ")?;
+    text.extend_from_slice(cost.format(part.cost).as_bytes())?;
     push_spaced(text, b" pre", part.pre.as_slice())?;
     push_spaced(text, b" add", part.add.as_slice())?;
     push_spaced(text, b" del", part.del.as_slice())
@@ -77,9 +63,9 @@ fn push_met(text: &mut Bytes, met: bool) -> Result<(), OutOfMemory>
     ensures { OnOk result (text.new ≡ text.old ++ text_of_lines (met_line met ∷ [])) }
 {
     if met {
-        push_bytes(text, b"met yes\n")
+        text.extend_from_slice(b"met yes\n")
     } else {
-        push_bytes(text, b"met no\n")
+        text.extend_from_slice(b"met no\n")
     }
 }
 

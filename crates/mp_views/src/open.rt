@@ -4,7 +4,6 @@ ghost use Rattle.std.specs.Prelude.{◌≡◌, ◌++◌, ◌∷◌, [], not, map
 ghost use Rattle.std.specs.List.{flat_map};
 ghost use Rattle.std.specs.Option.{is_none};
 ghost use Rattle.mp_joint.specs.Fact.{is_listed};
-ghost use Rattle.mp_joint.specs.FactorContribution.{privates_of};
 ghost use Rattle.mp_joint.specs.Grounding.{negated_atoms, fact_of};
 ghost use Rattle.mp_lifted.specs.Texts.{fact_text};
 ghost use Rattle.mp_lifted.specs.Views.{predicates_of, changed_predicates, negated_predicates};
@@ -15,9 +14,9 @@ use crate::privates::is_public;
 use crate::sorted::sorted_once;
 use crate::spelling::atom_text;
 use mp_forms::{Atom, AtomList, Factor, LiteralList, Schema, SchemaList};
-use mp_lifted::{FactTexts, OpenView, PrivateNames, private_names};
+use mp_lifted::{OpenView, PrivateNames, private_names};
 use mp_list::{Copied, List, OutOfMemory};
-use mp_sexp::{Name, NameList, NameTable};
+use mp_sexp::{Name, NameTable};
 use mp_typing::CheckedFactor;
 use std::alloc::Global;
 
@@ -160,64 +159,49 @@ fn public_facts(
     Ok(out)
 }
 
-/// What an agent shows as changed, where these names are private.
-fn changed_names(
-    alloc: Global,
-    privates: &PrivateNames<'_>,
-    factor: &Factor,
-) -> Result<NameList, OutOfMemory>
-    ensures { IfOk result (λ names. names ≡ once_sorted
-        (filter (λ n. not (is_listed n privates.now.predicates)) (changed_predicates factor.now))) }
-{
-    let names = public_changed(alloc, &privates.predicates, &factor.domain.schemas)?;
-    sorted_once(alloc, names)
+/// What is shown before grounding, in any order.
+#[derive(Drop)]
+struct Shown {
+    changed: Vec<Name>,
+    negated: Vec<Name>,
+    init: Vec<Name>,
 }
 
-/// What an agent shows as standing under `not`, where these names are private.
-fn negated_names(
-    alloc: Global,
-    privates: &PrivateNames<'_>,
-    factor: &Factor,
-) -> Result<NameList, OutOfMemory>
-    ensures { IfOk result (λ names. names ≡ once_sorted
-        (filter (λ n. not (is_listed n privates.now.predicates)) (negated_predicates factor.now))) }
+/// What is shown, in the order of its bytes, each once.
+fn in_order(alloc: Global, shown: Shown) -> Result<OpenView, OutOfMemory>
+    ensures { IfOk result (λ view. view ≡ record {
+      changed = once_sorted shown.changed.items;
+      negated = once_sorted shown.negated.items;
+      init = once_sorted shown.init.items;
+    }) }
 {
-    let schemas = &factor.domain.schemas;
-    let names = public_negated(alloc, &privates.predicates, schemas, &factor.problem.goals)?;
-    sorted_once(alloc, names)
-}
-
-/// What an agent shows as true at the start, where these names are private.
-fn initial_facts(
-    alloc: Global,
-    privates: &PrivateNames<'_>,
-    factor: &Factor,
-) -> Result<FactTexts, OutOfMemory>
-    ensures { IfOk result (λ facts. facts ≡ once_sorted (map fact_text (filter (λ f. is_none f.owner)
-        (map (fact_of 1 (record { predicates = privates.now.predicates; objects = privates.now.objects })
-        [] []) factor.now.problem.init)))) }
-{
-    let facts = public_facts(alloc, privates, &factor.problem.init)?;
-    sorted_once(alloc, facts)
-}
-
-/// What an agent shows of its factor before grounding, which has these private names.
-fn open_with(
-    alloc: Global,
-    privates: &PrivateNames<'_>,
-    factor: &Factor,
-) -> Result<OpenView, OutOfMemory>
-    requires predicates { privates.now.predicates ≡ (privates_of factor.now).predicates }
-    requires objects { privates.now.objects ≡ (privates_of factor.now).objects }
-    ensures { IfOk result (λ view. view ≡ view_of factor.now) }
-{
-    let changed = changed_names(alloc, privates, factor)?;
-    let negated = negated_names(alloc, privates, factor)?;
-    let init = initial_facts(alloc, privates, factor)?;
     Ok(OpenView {
-        changed,
-        negated,
-        init,
+        changed: sorted_once(alloc, shown.changed)?,
+        negated: sorted_once(alloc, shown.negated)?,
+        init: sorted_once(alloc, shown.init)?,
+    })
+}
+
+/// What a factor with these private names shows.
+fn shown_by(
+    alloc: Global,
+    privates: &PrivateNames<'_>,
+    factor: &Factor,
+) -> Result<Shown, OutOfMemory>
+    ensures changed { IfOk result (λ shown. shown.changed.items
+        ≡ filter (λ n. not (is_listed n privates.now.predicates)) (changed_predicates factor.now)) }
+    ensures negated { IfOk result (λ shown. shown.negated.items
+        ≡ filter (λ n. not (is_listed n privates.now.predicates)) (negated_predicates factor.now)) }
+    ensures init { IfOk result (λ shown. shown.init.items ≡ map fact_text (filter (λ f. is_none f.owner)
+        (map (fact_of 1 (record { predicates = privates.now.predicates; objects = privates.now.objects })
+        [] []) factor.now.problem.init))) }
+{
+    let predicates = &privates.predicates;
+    let schemas = &factor.domain.schemas;
+    Ok(Shown {
+        changed: public_changed(alloc, predicates, schemas)?,
+        negated: public_negated(alloc, predicates, schemas, &factor.problem.goals)?,
+        init: public_facts(alloc, privates, &factor.problem.init)?,
     })
 }
 
@@ -228,7 +212,8 @@ pub fn open_view(alloc: Global, factor: &CheckedFactor) -> Result<OpenView, OutO
 {
     let whole = factor.factor();
     let privates = private_names(alloc, whole)?;
-    let view = open_with(alloc, &privates, whole)?;
+    let shown = shown_by(alloc, &privates, whole)?;
+    let view = in_order(alloc, shown)?;
     Ok(view)
 }
 
@@ -242,46 +227,32 @@ fn add_copies(out: &mut Vec<Name>, names: &List<Name>) -> Result<(), OutOfMemory
     Ok(())
 }
 
-/// The predicates that some agent shows as changed.
-fn all_changed(alloc: Global, views: &[OpenView]) -> Result<Vec<Name>, OutOfMemory>
-    ensures { IfOk result (λ out. out.items ≡ flat_map (λ v. v.changed) views.now) }
+/// What some agent shows.
+fn shown_in(alloc: Global, views: &[OpenView]) -> Result<Shown, OutOfMemory>
+    ensures changed { IfOk result (λ shown. shown.changed.items ≡ flat_map (λ v. v.changed) views.now) }
+    ensures negated { IfOk result (λ shown. shown.negated.items ≡ flat_map (λ v. v.negated) views.now) }
+    ensures init { IfOk result (λ shown. shown.init.items ≡ flat_map (λ v. v.init) views.now) }
 {
-    let mut out = Vec::new(alloc);
+    let mut changed = Vec::new(alloc);
+    let mut negated = Vec::new(alloc);
+    let mut init = Vec::new(alloc);
     for view in views {
-        add_copies(&mut out, &view.changed)?;
+        add_copies(&mut changed, &view.changed)?;
+        add_copies(&mut negated, &view.negated)?;
+        add_copies(&mut init, &view.init)?;
     }
-    Ok(out)
-}
-
-/// The predicates that some agent shows as standing under `not`.
-fn all_negated(alloc: Global, views: &[OpenView]) -> Result<Vec<Name>, OutOfMemory>
-    ensures { IfOk result (λ out. out.items ≡ flat_map (λ v. v.negated) views.now) }
-{
-    let mut out = Vec::new(alloc);
-    for view in views {
-        add_copies(&mut out, &view.negated)?;
-    }
-    Ok(out)
-}
-
-/// The facts that some agent shows as true at the start.
-fn all_initial(alloc: Global, views: &[OpenView]) -> Result<Vec<Name>, OutOfMemory>
-    ensures { IfOk result (λ out. out.items ≡ flat_map (λ v. v.init) views.now) }
-{
-    let mut out = Vec::new(alloc);
-    for view in views {
-        add_copies(&mut out, &view.init)?;
-    }
-    Ok(out)
+    Ok(Shown {
+        changed,
+        negated,
+        init,
+    })
 }
 
 /// What several agents show together before grounding. Refuses only for want of memory.
 pub fn join(alloc: Global, views: &[OpenView]) -> Result<OpenView, OutOfMemory>
     ensures { IfOk result (λ view. view ≡ joined views.now) }
 {
-    Ok(OpenView {
-        changed: sorted_once(alloc, all_changed(alloc, views)?)?,
-        negated: sorted_once(alloc, all_negated(alloc, views)?)?,
-        init: sorted_once(alloc, all_initial(alloc, views)?)?,
-    })
+    let shown = shown_in(alloc, views)?;
+    let view = in_order(alloc, shown)?;
+    Ok(view)
 }

@@ -11,19 +11,12 @@ use mp_list::OutOfMemory;
 use mp_sexp::Name;
 use std::alloc::Global;
 
-/// The bytes of a name, in which no letter is to be folded.
-fn bytes_of(name: &Name) -> &[u8]
-    ensures { folded result.now ≡ name.now }
-{
-    name.as_slice()
-}
-
 /// Appends a name.
-#[tactic(auto, using(crate::proofs::FoldedLemmas::fact_steps))]
-fn push_name(text: &mut Vec<u8>, name: &Name) -> Result<(), OutOfMemory>
+#[tactic(auto, using(crate::proofs::FoldedLemmas::fact_steps, crate::proofs::FoldedLemmas::folded_same))]
+pub fn push_name(text: &mut Vec<u8>, name: &Name) -> Result<(), OutOfMemory>
     ensures { OnOk result (folded text.new.items ≡ folded text.old.items ++ name.now) }
 {
-    text.extend_from_slice(bytes_of(name))?;
+    text.extend_from_slice(name.as_slice())?;
     Ok(())
 }
 

@@ -11,22 +11,19 @@ loop-fact-preserved c =
     let whole = numbers_where 0 test facts in
     let rest = numbers_where (l.number + 1) test (drop (l.fact-index + 1) facts) in
     let tested : c.is_initial.result ≡ test c.fact-item.result = c.is_initial.ensures ∙ ap (λ (factor : LiftedFactor). is_initial factor c.fact-item.result) c.in_ok-start.ensures in
-    elim c.if-is_initial.branch [
-      | then-is_initial+in_ok-push w ↦
-          let all = placed test l.out whole l.number l.fact-index facts c.fact-item.result c.loop-fact-test.true c.fact-item.is
-          (sym tested ∙ w.if-is_initial.true) l.invariant.left in
-          record {
-            counted = ap (λ (n : ℕ). n + 1) l.invariant.counted;
-            left = ap (λ (ns : List ℕ). ns ++ rest) (w.out-is ∙ w.in_ok-push.ensures.ok) ∙ all;
-          }
-      | else-is_initial w ↦
-          let all = skipped test l.out whole l.number l.fact-index facts c.fact-item.result c.loop-fact-test.true c.fact-item.is
-          (sym tested ∙ w.if-is_initial.false) l.invariant.left in
-          record {
-            counted = ap (λ (n : ℕ). n + 1) l.invariant.counted;
-            left = ap (λ (ns : List ℕ). ns ++ rest) w.out-is ∙ all;
-          }
-    ]
+    record {
+      counted = ap (λ (n : ℕ). n + 1) l.invariant.counted;
+      left = elim c.if-is_initial.branch [
+        | then-is_initial+in_ok-push w ↦
+            ap (λ (ns : List ℕ). ns ++ rest) (w.out-is ∙ w.in_ok-push.ensures.ok)
+            ∙ placed test l.out whole l.number l.fact-index facts c.fact-item.result c.loop-fact-test.true c.fact-item.is
+            (sym tested ∙ w.if-is_initial.true) l.invariant.left
+        | else-is_initial w ↦
+            ap (λ (ns : List ℕ). ns ++ rest) w.out-is
+            ∙ skipped test l.out whole l.number l.fact-index facts c.fact-item.result c.loop-fact-test.true c.fact-item.is
+            (sym tested ∙ w.if-is_initial.false) l.invariant.left
+      ];
+    }
 
 pub returns : goal.returns
 returns c =

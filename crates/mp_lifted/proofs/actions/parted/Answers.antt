@@ -8,11 +8,11 @@ use Rattle.mp_lifted.proofs.actions.parted.Goals as goal
 pub loop-literal-preserved : goal.loop-literal-preserved
 loop-literal-preserved c =
     let l = c.loop-literal in
-    let pre = c.args.pre.now in
+    let pre = c.args.schema.now.pre in
     let s = c.args.shown.now in
-    let p = λ (t : Literal). has_sign c.args.positive t
-    && (if c.args.changed then is_of s.privates s.own s.shown t.atom.word.name else not (is_of s.privates s.own s.shown t.atom.word.name)) in
-    let f = λ (t : Literal). lifted_atom c.args.vocabulary.now c.args.params.now t.atom in
+    let p = λ (t : Literal). has_sign c.args.part.positive t
+    && (if c.args.part.changed then is_of s.privates s.own s.shown t.atom.word.name else not (is_of s.privates s.own s.shown t.atom.word.name)) in
+    let f = λ (t : Literal). lifted_atom c.args.vocabulary.now c.args.schema.now.params t.atom in
     let x = c.literal-item.result in
     let lt = subst (λ (xs : List Literal). l.literal-index < length xs) c.as_slice-literal-items.ensures c.loop-literal-test.true in
     let is = subst (λ (xs : List Literal). x ≡ get_or xs l.literal-index x) c.as_slice-literal-items.ensures c.literal-item.is in
@@ -26,11 +26,11 @@ loop-literal-preserved c =
 
 pub returns : goal.returns
 returns c =
-    let pre = c.args.pre.now in
+    let pre = c.args.schema.now.pre in
     let s = c.args.shown.now in
-    let test = λ (name : Text). if c.args.changed then is_of s.privates s.own s.shown name else not (is_of s.privates s.own s.shown name) in
-    let p = λ (t : Literal). has_sign c.args.positive t && test t.atom.word.name in
-    let f = λ (t : Literal). lifted_atom c.args.vocabulary.now c.args.params.now t.atom in
+    let test = λ (name : Text). if c.args.part.changed then is_of s.privates s.own s.shown name else not (is_of s.privates s.own s.shown name) in
+    let p = λ (t : Literal). has_sign c.args.part.positive t && test t.atom.word.name in
+    let f = λ (t : Literal). lifted_atom c.args.vocabulary.now c.args.schema.now.params t.atom in
     let past = subst (λ (xs : List Literal). length xs ≤ c.loop-literal.literal-index) c.as_slice-literal-items.ensures c.loop-literal-test.false in
     c.loop-literal.invariant ∙ ap (λ (xs : List Literal). map f (filter p xs)) (take_all c.loop-literal.literal-index pre past)
-    ∙ part_is c.args.vocabulary.now test c.args.params.now c.args.positive pre
+    ∙ part_is c.args.vocabulary.now test c.args.schema.now.params c.args.part.positive pre

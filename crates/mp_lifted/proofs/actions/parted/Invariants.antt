@@ -4,9 +4,9 @@ use Rattle.mp_lifted.proofs.actions.parted.Given as goal
 
 abbrev pub invariant-loop-literal : goal.invariant-loop-literal
 invariant-loop-literal l =
-    l.made ≡ map (λ (t : Literal). lifted_atom l.vocabulary l.params t.atom)
+    l.made ≡ map (λ (t : Literal). lifted_atom l.vocabulary l.schema.params t.atom)
     (filter
-    (λ (t : Literal). has_sign l.positive t
-    && (if l.changed then is_of l.shown.privates l.shown.own l.shown.shown t.atom.word.name
+    (λ (t : Literal). has_sign l.part.positive t
+    && (if l.part.changed then is_of l.shown.privates l.shown.own l.shown.shown t.atom.word.name
     else not (is_of l.shown.privates l.shown.own l.shown.shown t.atom.word.name)))
-    (take l.literal-index l.pre))
+    (take l.literal-index l.schema.pre))

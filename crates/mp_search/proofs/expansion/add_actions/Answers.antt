@@ -9,21 +9,21 @@ add_found-requires-clause-found g c =
 
 pub loop-number-preserved : goal.loop-number-preserved
 loop-number-preserved g c =
-    let t = c.args.task.now in
+    let t = c.args.context.now.task in
     record {
       inside = omega (arith, c.in-Some.ensures.next.0, c.requires.found.size);
       applied =
           found_applied t (g.H.Heuristic.value t) (parent_of c.args.parent.now) c.loop-number.from c.in-Some.number
-          c.args.out.now c.loop-number.out c.add_found.new.out
-          c.args.states.now c.loop-number.states c.add_found.new.states c.args.found.now c.requires.found
-          c.in-Some.ensures.some c.loop-number.invariant.applied c.in_ok-add_found.ensures.sent;
-      heuristic = c.in_ok-add_found.ensures.heuristic;
-      sizes = c.in_ok-add_found.ensures.sizes;
-      tags = c.in_ok-add_found.ensures.tags;
+          c.loop-number.out c.add_sending.new.out
+          c.args.progress.now.states c.loop-number.progress.states c.add_found.new.progress.states c.args.found.now c.in_ok-sending.sending c.requires.found
+          c.in-Some.ensures.some c.loop-number.invariant.applied c.in_ok-sending.ensures.sent c.in_ok-add_sending.ensures;
+      heuristic = c.in_ok-sending.ensures.heuristic;
+      sizes = c.in_ok-sending.ensures.sizes;
+      tags = c.in_ok-sending.ensures.tags;
     }
 
 pub returns-clause-sent : goal.returns-clause-sent
 returns-clause-sent g c =
-    let t = c.args.task.now in
-    last_applied t (g.H.Heuristic.value t) (parent_of c.args.parent.now) c.loop-number.from c.args.out.now c.loop-number.out
-    c.args.states.now c.loop-number.states c.args.found.now c.requires.found c.loop-number.invariant.inside c.in_default.ensures.none c.loop-number.invariant.applied
+    let t = c.args.context.now.task in
+    last_applied t (g.H.Heuristic.value t) (parent_of c.args.parent.now) c.loop-number.from c.loop-number.out
+    c.args.progress.now.states c.loop-number.progress.states c.args.found.now c.requires.found c.loop-number.invariant.inside c.in_default.ensures.none c.loop-number.invariant.applied

@@ -6,12 +6,12 @@ use Rattle.mp_search.proofs.expansion.add_actions.Given as goal
 
 abbrev pub invariant-loop-number : goal.invariant-loop-number
 invariant-loop-number g l = record {
-  inside : l.from ≤ length l.task.acts;
-  applied : AreApplied l.task (g.H.Heuristic.value l.task) (parent_of l.parent) l.from l.fn.out l.out l.fn.states l.states;
-  heuristic : g.H.Heuristic.is_for l.heuristic l.task;
-  sizes : HasSizes l.task.publics l.task.privates l.reached;
+  inside : l.from ≤ length l.context.task.acts;
+  applied : AreApplied l.context.task (g.H.Heuristic.value l.context.task) (parent_of l.parent) l.from l.out l.fn.progress.states l.progress.states;
+  heuristic : g.H.Heuristic.is_for l.progress.heuristic l.context.task;
+  sizes : HasSizes l.context.task.publics l.context.task.privates l.reached;
   tags : l.reached.key.tags ≡ l.parent.state.key.tags;
 }
 
 abbrev pub decreases-loop-number : goal.decreases-loop-number
-decreases-loop-number g l = length l.task.acts - l.from
+decreases-loop-number g l = length l.context.task.acts - l.from

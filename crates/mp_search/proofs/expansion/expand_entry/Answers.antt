@@ -1,5 +1,6 @@
-use Rattle.std.proofs.Common.{◌≡◌, ◌<◌, ◌++◌, ℕ, Option, length, sym, ap, subst, ◌∙◌}
+use Rattle.std.proofs.Common.{◌≡◌, ◌<◌, ℕ, Option, length, sym, ap, subst, ◌∙◌}
 use Rattle.std.specs.Prelude.{slice_get, IsSomeAnd}
+use Rattle.std.proofs.lemmas.Result.{IfOk-weaker}
 use Rattle.mp_store.specs.declared.entry.Entry.{Entry}
 use Rattle.mp_search.specs.AgentState.{AgentState}
 use Rattle.mp_search.specs.Expansion.{Parent, with_actions}
@@ -10,7 +11,7 @@ use Rattle.mp_search.proofs.expansion.expand_entry.Goals as goal
 pub add_actions-requires-clause-parent : goal.add_actions-requires-clause-parent
 add_actions-requires-clause-parent g c =
     let n = c.args.number in
-    let entries = c.args.states.now.kept.entries in
+    let entries = c.args.progress.now.states.kept.entries in
     let told =
     entry_told (λ (e : Entry AgentState). parent_of c.set_parent.new.parent ≡ record { number = n; state = e.key; g = e.g })
     (slice_get entries n) c.in_ok-set_parent.ensures.entry
@@ -26,18 +27,16 @@ add_actions-requires-clause-parent g c =
 
 pub returns-clause-sent : goal.returns-clause-sent
 returns-clause-sent g c =
-    let t = c.args.task.now in
+    let t = c.args.context.now.task in
     let value = g.H.Heuristic.value t in
     let n = c.args.number in
-    let r = c.args.states.now.kept in
+    let r = c.args.progress.now.states.kept in
     let told =
     entry_told (λ (e : Entry AgentState). parent_of c.set_parent.new.parent ≡ record { number = n; state = e.key; g = e.g })
     (slice_get r.entries n) c.in_ok-set_parent.ensures.entry
     in
-    subst (λ (o : Option (Entry AgentState)). IsSomeAnd o (λ e.
-    (c.add_actions.new.out, c.add_actions.new.states.kept) ≡ with_actions t value (record { number = n; state = e.key; g = e.g }) 0 t.acts r))
-    (sym told.1)
-    (λ j. (
-      (c.in_ok-add_actions.ensures.sent.out ∙ (λ i. c.new-out.ensures i ++ (with_actions t value (told.2 i) 0 t.acts r).0)) j,
-      (c.in_ok-add_actions.ensures.sent.kept ∙ (λ i. (with_actions t value (told.2 i) 0 t.acts r).1)) j,
-    ))
+    IfOk-weaker c.add_actions.result _ _
+    (λ out done. subst (λ (o : Option (Entry AgentState)). IsSomeAnd o (λ e.
+    (out, c.add_actions.new.progress.states.kept) ≡ with_actions t value (record { number = n; state = e.key; g = e.g }) 0 t.acts r))
+    (sym told.1) (done ∙ (λ j. with_actions t value (told.2 j) 0 t.acts r)))
+    c.add_actions.ensures.sent

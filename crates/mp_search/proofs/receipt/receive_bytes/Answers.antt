@@ -18,7 +18,7 @@ returns-in_default-clause-receipt g c = λ expansions enough.
     (subst
     (λ (n : Option StateNumbers). IsStateReading c.task.inside.agents c.args.state.now.key.publics.size c.args.bytes.now
     (option_map (λ x. parts x c.decode_state_into.new.facts.members c.decode_state_into.new.tags) n)) c.in_default.is c.in_ok-numbers.ensures.read) in
-    nothing_read t (g.H.Heuristic.value t) c.args.from c.args.bytes.now (record { kept = c.args.states.now.kept; expansions = expansions }) read
+    nothing_read t (g.H.Heuristic.value t) c.args.from c.args.bytes.now (record { kept = c.args.progress.now.states.kept; expansions = expansions }) read
 
 pub returns-in-Ok-clause-receipt : goal.returns-in-Ok-clause-receipt
 returns-in-Ok-clause-receipt g c = λ expansions enough.
@@ -29,12 +29,12 @@ returns-in-Ok-clause-receipt g c = λ expansions enough.
     (subst
     (λ (n : Option StateNumbers). IsStateReading c.task.inside.agents c.args.state.now.key.publics.size c.args.bytes.now
     (option_map (λ x. parts x c.decode_state_into.new.facts.members c.decode_state_into.new.tags) n)) c.in-Some.is c.in_ok-numbers.ensures.read) in
-    let new : SearchRecord = record { kept = c.receive_read.new.states.kept; expansions = expansions } in
+    let new : SearchRecord = record { kept = c.receive_read.new.progress.states.kept; expansions = expansions } in
     let sums : ◌≡◌ {A = Result (Option (Received × ℕ)) ReceiveRefusal × SearchRecord}
     (Ok (Some (c.in-Ok.answer, c.in-Some.numbers.g + c.in-Some.numbers.h)), new) (Ok (Some (c.in-Ok.answer, read.0.g + read.0.h)), new) =
     λ j. (Ok (Some (c.in-Ok.answer, (read.2 j).g + (read.2 j).h)), new) in
     sums
-    ∙ read_received t (g.H.Heuristic.value t) c.args.from c.args.bytes.now (record { kept = c.args.states.now.kept; expansions = expansions }) read.0
+    ∙ read_received t (g.H.Heuristic.value t) c.args.from c.args.bytes.now (record { kept = c.args.progress.now.states.kept; expansions = expansions }) read.0
     few read.1 c.in-Ok.answer new (c.in-Ok.ensures.receipt read.0 read.2 expansions refl)
 
 pub returns-in-Err-clause-receipt : goal.returns-in-Err-clause-receipt
@@ -46,8 +46,8 @@ returns-in-Err-clause-receipt g c = λ expansions enough.
     (subst
     (λ (n : Option StateNumbers). IsStateReading c.task.inside.agents c.args.state.now.key.publics.size c.args.bytes.now
     (option_map (λ x. parts x c.decode_state_into.new.facts.members c.decode_state_into.new.tags) n)) c.in-Some.is c.in_ok-numbers.ensures.read) in
-    read_refused t (g.H.Heuristic.value t) c.args.from c.args.bytes.now (record { kept = c.args.states.now.kept; expansions = expansions }) read.0
-    few read.1 c.in-Err.refusal (record { kept = c.receive_read.new.states.kept; expansions = expansions })
+    read_refused t (g.H.Heuristic.value t) c.args.from c.args.bytes.now (record { kept = c.args.progress.now.states.kept; expansions = expansions }) read.0
+    few read.1 c.in-Err.refusal (record { kept = c.receive_read.new.progress.states.kept; expansions = expansions })
     (c.in-Err.ensures.receipt read.0 read.2 expansions (lacks_alike Received (Option (Received × ℕ)) c.in-Err.refusal ∙ enough))
 
 pub returns-in-Err-clause-states : goal.returns-in-Err-clause-states

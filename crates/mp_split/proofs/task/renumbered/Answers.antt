@@ -1,5 +1,6 @@
 use Rattle.mp_split.proofs.Basics.{arith, [], ◌∷◌, ◌++◌, length, ap, ◌∙◌, into_iter_items, Act, ActFits, act_at}
-use Rattle.mp_split.proofs.Taking.{one_taken, taken_tail}
+use Rattle.std.proofs.lemmas.List.Elements.{All-rest}
+use Rattle.mp_split.proofs.Taking.{one_taken}
 use Rattle.mp_split.proofs.task.renumbered.Goals as goal
 
 pub loop-act-preserved : goal.loop-act-preserved
@@ -14,5 +15,5 @@ loop-act-preserved c =
       count = let a = l.invariant.count in let b = step.1 in let d = ap length step.0 in omega arith;
       made = one_taken (act_at numbers) l.made c.push.new.self _ before rest act step.0
           (c.in_ok-push.ensures.ok ∙ ap (λ (x : Act). l.made ++ x ∷ []) c.in_ok-act_of.ensures) l.invariant.made;
-      fits = taken_tail (ActFits (length numbers) c.args.privates) before rest act step.0 l.invariant.fits;
+      fits = All-rest (ActFits (length numbers) c.args.privates) act rest before step.0 l.invariant.fits;
     }

@@ -36,7 +36,7 @@ returns-in-Ok g c =
     let old = c.args.self.now in
     let works : old.failed ≡ false = sym (ap (λ (x : AgentSearch). x.failed) c.self.view_is) ∙ c.if-self.false in
     let some : c.is_open_below.result ≡ true = cc in
-    let new : SearchRecord = record { kept = c.expand_least.new.states.kept; expansions = c.self.inside.expansions + 1 } in
+    let new : SearchRecord = record { kept = c.expand_least.new.progress.states.kept; expansions = c.self.inside.expansions + 1 } in
     record {
       task = ap (λ (x : AgentSearch). x.task) c.self.view_is;
       limit = ap (λ (x : AgentSearch). x.limit) c.self.view_is;

@@ -6,7 +6,7 @@ use Rattle.mp_store.specs.declared.key.Key.{Key}
 use Rattle.mp_store.specs.Keys.{same_key}
 use Rattle.mp_store.specs.Named.{named, named_entry}
 use Rattle.mp_store.specs.Record.{new_entry, offered}
-use Rattle.mp_search.specs.StateKeys.{IsKeyOf, KeptStates, reached_state, state_of_key}
+use Rattle.mp_search.specs.StateKeys.{IsKeyOf, KeptStates, entry_of, reached_state, state_of_key}
 use Rattle.mp_search.proofs.KeyedStates.{all_get, best_has, best_inside, entry_told, named_at}
 use Rattle.mp_search.proofs.OfferedStates.{keyed_offered, seen_offered}
 use Rattle.mp_search.proofs.SentSets.{SentInside, offer_sets}
@@ -23,21 +23,21 @@ pub invariant_of-self : goal.invariant_of-self
 invariant_of-self c =
     let s = c.self.inside in
     let told =
-    entry_told (λ (e : Entry Key). IfOk c.offer_again.result (λ answer. (answer, c.offer_again.new.self) ≡ offered same_key (new_entry e.key c.args.g c.args.h c.args.origin c.args.goal) s.store))
+    entry_told (λ (e : Entry Key). IfOk c.offer_again.result (λ answer. (answer, c.offer_again.new.self) ≡ offered same_key (new_entry e.key c.args.arrival.g c.args.arrival.h c.args.arrival.origin c.args.goal) s.store))
     (slice_get s.store.entries c.args.entry) c.offer_again.ensures.offered
     in
     let of_key = all_get (λ (e : Entry Key). IsKeyOf s.publics (length s.tokens.sets) e.key) s.store.entries c.args.entry told.0 c.self.invariant.keyed told.1 in
     record {
       different = c.self.invariant.different;
       keyed = keyed_offered s.publics s.tokens.sets c.self.invariant.different s.store c.self.invariant.keyed
-          told.0.key of_key c.args.g c.args.h c.args.origin c.args.goal c.offer_again.result c.offer_again.new.self told.2 c.offer_again.ensures.err;
+          told.0.key of_key c.args.arrival.g c.args.arrival.h c.args.arrival.origin c.args.goal c.offer_again.result c.offer_again.new.self told.2 c.offer_again.ensures.err;
     }
 
 pub returns-clause-offered : goal.returns-clause-offered
 returns-clause-offered c =
     let s = c.self.inside in
     let told =
-    entry_told (λ (e : Entry Key). IfOk c.offer_again.result (λ answer. (answer, c.offer_again.new.self) ≡ offered same_key (new_entry e.key c.args.g c.args.h c.args.origin c.args.goal) s.store))
+    entry_told (λ (e : Entry Key). IfOk c.offer_again.result (λ answer. (answer, c.offer_again.new.self) ≡ offered same_key (new_entry e.key c.args.arrival.g c.args.arrival.h c.args.arrival.origin c.args.goal) s.store))
     (slice_get s.store.entries c.args.entry) c.offer_again.ensures.offered
     in
     let of_key = all_get (λ (e : Entry Key). IsKeyOf s.publics (length s.tokens.sets) e.key) s.store.entries c.args.entry told.0 c.self.invariant.keyed told.1 in
@@ -47,7 +47,7 @@ returns-clause-offered c =
     (named_at s.tokens.sets s.store c.args.self.now.kept seen c.args.entry told.0 told.1)
     in
     seen_offered s.publics s.tokens.sets c.self.invariant.different s.store c.self.invariant.keyed
-    told.0.key of_key c.args.g c.args.h c.args.origin c.args.goal c.offer_again.result c.offer_again.new.self
+    told.0.key of_key c.args.arrival.g c.args.arrival.h c.args.arrival.origin c.args.goal c.offer_again.result c.offer_again.new.self
     (reached_state c.args.state.now) state c.args.self.now.kept seen told.2
 
 pub returns-clause-sets : goal.returns-clause-sets
@@ -56,5 +56,5 @@ returns-clause-sets c =
     let inside : SentInside (named (state_of_key s.tokens.sets) s.store) =
     subst (λ (m : ℕ). All (λ n. n < m) s.store.sent) (sym (length-map s.store.entries (named_entry (state_of_key s.tokens.sets)))) c.count.ensures.sound.sent
     in
-    offer_sets c.offer_again.result (new_entry (reached_state c.args.state.now) c.args.g c.args.h c.args.origin c.args.goal) _ c.args.self.now.kept
+    offer_sets c.offer_again.result (entry_of (reached_state c.args.state.now) c.args.arrival c.args.goal) _ c.args.self.now.kept
     (subst (λ (x : KeptStates). SentInside x.kept) c.self.view_is inside) (returns-clause-offered c)

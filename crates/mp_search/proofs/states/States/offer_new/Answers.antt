@@ -4,13 +4,12 @@ use Rattle.mp_store.proofs.Naming.{best-named}
 use Rattle.mp_search.specs.AgentState.{same_state}
 use Rattle.mp_search.proofs.KeyedStates.{apart}
 use Rattle.mp_store.specs.Named.{named, named_entry}
-use Rattle.mp_store.specs.Record.{new_entry}
 use Rattle.std.proofs.lemmas.List.{length-map}
 use Rattle.mp_search.proofs.SentSets.{SentInside, offer_sets}
 use Rattle.std.proofs.Common.{ℕ, All, ◌<◌, subst, ◌≡◌, length, sym, ap, ◌∙◌}
 use Rattle.mp_tokens.specs.Table.{TokenTable}
 use Rattle.mp_sets.specs.Numbers.{SizedSet}
-use Rattle.mp_search.specs.StateKeys.{IsKeyOf, KeptStates, reached_state, state_of_key}
+use Rattle.mp_search.specs.StateKeys.{IsKeyOf, KeptStates, entry_of, reached_state, state_of_key}
 use Rattle.mp_search.proofs.OfferedStates.{different_grown, keyed_grown, keyed_offered, named_grown, seen_offered}
 use Rattle.mp_search.proofs.states.States.offer_new.Goals as goal
 
@@ -28,7 +27,7 @@ invariant_of-self-2 c =
       keyed = keyed_offered s.publics c.give_index.new.tokens.sets
           (different_grown s.publics s.tokens.sets c.give_index.new.tokens.sets c.args.state.now.mine.members c.self.invariant.different grown s.store c.self.invariant.keyed)
           s.store (keyed_grown s.publics s.tokens.sets c.give_index.new.tokens.sets c.args.state.now.mine.members c.self.invariant.different grown s.store c.self.invariant.keyed)
-          key of_key c.args.g c.args.h c.args.origin c.args.goal c.keep_new.result c.keep_new.new.self c.keep_new.ensures.offered c.keep_new.ensures.err;
+          key of_key c.args.arrival.g c.args.arrival.h c.args.arrival.origin c.args.goal c.keep_new.result c.keep_new.new.self c.keep_new.ensures.offered c.keep_new.ensures.err;
     }
 
 pub keep_new-requires-clause-new : goal.keep_new-requires-clause-new
@@ -73,7 +72,7 @@ returns-clause-offered c =
     seen_offered s.publics c.give_index.new.tokens.sets
     (different_grown s.publics s.tokens.sets c.give_index.new.tokens.sets c.args.state.now.mine.members c.self.invariant.different grown s.store c.self.invariant.keyed)
     s.store (keyed_grown s.publics s.tokens.sets c.give_index.new.tokens.sets c.args.state.now.mine.members c.self.invariant.different grown s.store c.self.invariant.keyed)
-    key of_key c.args.g c.args.h c.args.origin c.args.goal c.keep_new.result c.keep_new.new.self
+    key of_key c.args.arrival.g c.args.arrival.h c.args.arrival.origin c.args.goal c.keep_new.result c.keep_new.new.self
     (reached_state c.args.state.now) state c.args.self.now.kept
     (named_grown s.publics s.tokens.sets c.give_index.new.tokens.sets c.args.state.now.mine.members c.self.invariant.different grown s.store c.self.invariant.keyed ∙ ap (λ (x : KeptStates). x.kept) c.self.view_is)
     c.keep_new.ensures.offered
@@ -84,5 +83,5 @@ returns-clause-sets c =
     let inside : SentInside (named (state_of_key s.tokens.sets) s.store) =
     subst (λ (m : ℕ). All (λ n. n < m) s.store.sent) (sym (length-map s.store.entries (named_entry (state_of_key s.tokens.sets)))) c.count.ensures.sound.sent
     in
-    offer_sets c.keep_new.result (new_entry (reached_state c.args.state.now) c.args.g c.args.h c.args.origin c.args.goal) _ c.args.self.now.kept
+    offer_sets c.keep_new.result (entry_of (reached_state c.args.state.now) c.args.arrival c.args.goal) _ c.args.self.now.kept
     (subst (λ (x : KeptStates). SentInside x.kept) c.self.view_is inside) (returns-clause-offered c)

@@ -1,5 +1,0 @@
-use Rattle.mp_split.proofs.Basics.{◌≡◌, take, flat_map}
-use Rattle.mp_split.proofs.common.all_facts.Given as goal
-
-abbrev pub invariant-loop-view : goal.invariant-loop-view
-invariant-loop-view l = l.out.items ≡ flat_map (λ v. v.facts) (take l.view-index l.views)

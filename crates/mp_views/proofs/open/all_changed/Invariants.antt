@@ -1,5 +1,0 @@
-use Rattle.mp_views.proofs.Basics.{◌≡◌, take, flat_map, OpenView}
-use Rattle.mp_views.proofs.open.all_changed.Given as goal
-
-abbrev pub invariant-loop-view : goal.invariant-loop-view
-invariant-loop-view l = l.out.items ≡ flat_map (λ (v : OpenView). v.changed) (take l.view-index l.views)
