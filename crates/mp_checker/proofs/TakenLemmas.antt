@@ -30,7 +30,7 @@ use Rattle.mp_checker.specs.AgentView.{AgentView, Covers, AreKnown, names_of, ag
 use Rattle.mp_checker.specs.At.{fact_at, is_true, is_one_of, named_state}
 use Rattle.mp_checker.specs.Costs.{HasValues, cost_at}
 use Rattle.mp_checker.specs.Numbering.{object_number, member_flags, numbered_action}
-use Rattle.mp_checker.specs.Private.{private_in}
+use Rattle.mp_lifted.specs.Privates.{private_in}
 use Rattle.mp_checker.specs.Standing.{are_flagged, numbers_at}
 use Rattle.mp_checker.specs.Taken.{IsBound, IsFailing, IsDone, failing}
 use Rattle.mp_checker.specs.Words.{names_of_schema, names_of_value, names_of_factor}

@@ -7,7 +7,7 @@ use Rattle.mp_checker.specs.declared.factor.AgentFactor.TheInside.{Inside}
 use Rattle.mp_checker.specs.AgentView.{AgentView, Covers}
 use Rattle.mp_checker.specs.Costs.{HasValues}
 use Rattle.mp_checker.specs.Numbering.{object_number, numbered_action}
-use Rattle.mp_checker.specs.Private.{private_in}
+use Rattle.mp_lifted.specs.Privates.{private_in}
 use Rattle.mp_checker.specs.Words.{names_of_factor}
 
 abbrev pub agent_view : Inside → AgentView

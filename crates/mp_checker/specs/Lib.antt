@@ -1,7 +1,6 @@
 pub mod Mixed
 pub mod Keys
 pub mod Words
-pub mod Private
 pub mod Numbering
 pub mod At
 pub mod Costs

@@ -2,7 +2,7 @@
 
 ghost use Rattle.std.specs.Prelude.{◌≡◌, map, IfOk};
 ghost use Rattle.mp_checker.specs.Numbering.{parameter_in, object_number as object_of, term_number as term_of, numbered_atom as atom_of, numbered_literal as literal_of};
-ghost use Rattle.mp_checker.specs.Private.{private_in};
+ghost use Rattle.mp_lifted.specs.Privates.{private_in};
 
 use crate::numbered::{NumberedAtom, NumberedLiteral, ObjectNumber, TermNumber};
 use mp_forms::{Atom, AtomList, Literal, LiteralList, Term, TermList, TypedList};

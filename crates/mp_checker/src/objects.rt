@@ -2,7 +2,7 @@
 
 ghost use Rattle.std.specs.Prelude.{◌≡◌, map, IfOk};
 ghost use Rattle.mp_checker.specs.Numbering.{object_number as object_of};
-ghost use Rattle.mp_checker.specs.Private.{private_in};
+ghost use Rattle.mp_lifted.specs.Privates.{private_in};
 
 use crate::atoms::object_number;
 use crate::numbered::ObjectNumber;

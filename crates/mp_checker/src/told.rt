@@ -4,7 +4,7 @@ ghost use Rattle.std.specs.Prelude.{◌≡◌, IfOk};
 ghost use Rattle.std.specs.List.{list_any};
 ghost use Rattle.mp_joint.specs.Fact.{named as named_of, is_listed};
 ghost use Rattle.mp_joint.specs.Grounding.{standing_for as object_for, object_of as object_in, objects_of as objects_in, fact_of};
-ghost use Rattle.mp_checker.specs.Private.{private_in};
+ghost use Rattle.mp_lifted.specs.Privates.{private_in};
 
 use mp_forms::{Literal, Term, TermList, Typed, TypedList};
 use mp_joint::{NamedFact, SignedFact};

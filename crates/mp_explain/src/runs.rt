@@ -3,7 +3,7 @@
 use crate::answer::{Answer, made_of, plain, telling};
 use crate::ending::Ending;
 use crate::reading::{AGENTS, accepted_team};
-use mp_ground::GroundRefusal;
+use mp_grounder::GroundRefusal;
 use mp_list::OutOfMemory;
 use mp_outside::{Sink, Source};
 use mp_run_hints::run_team;

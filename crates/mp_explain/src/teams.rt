@@ -4,7 +4,7 @@ use crate::answer::{Answer, made_of, no_command, telling};
 use crate::ending::Ending;
 use crate::naming::names_in;
 use crate::reading::accepted_team;
-use mp_ground::GroundRefusal;
+use mp_grounder::GroundRefusal;
 use mp_hint_lines::FileNames;
 use mp_list::{List, OutOfMemory};
 use mp_outside::Source;

@@ -4,7 +4,7 @@ ghost use Rattle.std.specs.Prelude.{◌≡◌, ◌&&◌, ◌<◌, ◌≤◌, ◌
 ghost use Rattle.std.specs.List.{position};
 ghost use Rattle.mp_sexp.specs.Node.{node_of, nodes_in};
 ghost use Rattle.mp_forms.specs.Reading.{besides, each, keyword, said};
-ghost use Rattle.mp_factor.specs.Found.{found_in, both_found, more_found, said_found, second_found};
+ghost use Rattle.mp_factor.specs.Found.{found_in, both_found, more_found, said_found};
 ghost use Rattle.mp_factor.specs.FoundForms.{items_found, group_found, ends, group_size, AreBehindItems};
 ghost use Rattle.mp_forms.specs.Rules.Words.{name_rule};
 ghost use Rattle.mp_forms.specs.Rules.Typed.{Listing as ListingOf, is_dash, typed_from, type_first, typed_rule, block_rule, type_rule, typed_of, with_type, is_no_word as no_word_test, plain, with_blocks};

@@ -14,7 +14,7 @@ use Rattle.mp_sexp.specs.Node.{Node}
 use Rattle.mp_sexp.specs.Spelling.{HasTree}
 use Rattle.mp_sexp.specs.declared.refusal.ReadRefusal.{ReadRefusal}
 use Rattle.mp_typing.specs.CheckFaults.{check_faults}
-use Rattle.mp_typing.specs.FirstFault.{IsFirst as IsFirstCheck}
+use Rattle.mp_typing.specs.Faults.{IsFirst as IsFirstCheck}
 use Rattle.mp_typing.specs.declared.fault.Fault.{Fault as CheckFault}
 use Rattle.mp_files.specs.File.{Checks, Fetches, HasShape, Parts, SaysDomain, SaysProblem, Spells, check_refusal, file_of, longest_file, shape_refusal, text_refusal}
 use Rattle.mp_files.specs.Reading.{Each, Reading}

@@ -20,7 +20,7 @@ use Rattle.mp_sexp.specs.Spelling.{HasTree}
 use Rattle.mp_sexp.specs.declared.refusal.ReadRefusal.{ReadRefusal}
 use Rattle.mp_sexp.specs.declared.refusal.ReadRefusal.TheVariants as text
 use Rattle.mp_typing.specs.CheckFaults.{check_faults}
-use Rattle.mp_typing.specs.FirstFault.{IsFirst as IsFirstCheck}
+use Rattle.mp_typing.specs.Faults.{IsFirst as IsFirstCheck}
 use Rattle.mp_typing.specs.declared.fault.Fault.{Fault as CheckFault}
 use Rattle.mp_typing.specs.declared.fault.FaultKind.{FaultKind as CheckKind}
 use Rattle.mp_typing.specs.declared.fault.FaultKind.TheVariants as checks

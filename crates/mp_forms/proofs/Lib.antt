@@ -11,3 +11,5 @@ pub mod ValueLaws
 pub mod EffectLaws
 pub mod FileLaws
 pub mod TakenFiles
+-- two faults compared
+pub mod Fronts

@@ -50,17 +50,16 @@ fn is_initial(start: &StartFacts<'_>, fact: &GroundFact) -> bool
 /// The numbers of the facts and complements that are true at the start.
 pub fn start_numbers(
     alloc: Global,
-    factor: &LiftedFactor,
+    start: &StartFacts<'_>,
     facts: &[GroundFact],
 ) -> Result<List<u32>, OutOfMemory>
     requires { length facts.now ≤ 65535 }
-    ensures { IfOk result (λ out. out ≡ numbers_where 0 (is_initial_fact factor.now) facts.now) }
+    ensures { IfOk result (λ out. out ≡ numbers_where 0 (is_initial_fact start.now) facts.now) }
 {
-    let start = StartFacts::new(alloc, factor)?;
     let mut out = List::new(alloc);
     let mut number: u32 = 0;
     for fact in facts {
-        if is_initial(&start, fact) {
+        if is_initial(start, fact) {
             out.push(number)?;
         }
         number += 1;

@@ -1,68 +1,58 @@
 -- What the proofs of this crate cite of the standard library, of the crates below, and of the definitions here, under one name.
-pub use Rattle.std.proofs.Common.{All, Bool, List, None, Option, Some, [], ap, arith, cond, false, filter, get_or, if◌then◌else◌, inl, inr, is_none, length, map}
-pub use Rattle.std.proofs.Common.{not, refl, slice_get, subst, suc, sym, take, true, zero, ℕ, ◌&&◌, ◌++◌, ◌+◌, ◌-◌, ◌<◌, ◌==◌, ◌||◌, ◌∙◌, ◌∷◌, ◌≡◌, ◌≤◌}
-pub use Rattle.std.proofs.lemmas.Bool.{and_from, and_parts, cases_Bool, eq-eqb, eqb-true, or_left, or_right, true≢false}
-pub use Rattle.std.proofs.lemmas.List.{get_or-map, length-map, map-append, take_all}
-pub use Rattle.std.proofs.lemmas.List.Elements.{All-append, All-cons, All-head, All-map, All-nil, All-tail}
-pub use Rattle.std.proofs.lemmas.Option.{get_or_from_slice_get, slice_get-map}
+pub use Rattle.std.proofs.Common.{All, Bool, Greater, IfOk, Less, List, None, Option, Ordering, Some, [], ap, arith, cond, drop, false, filter, get_or, if◌then◌else◌}
+pub use Rattle.std.proofs.Common.{inl, inr, length, map, nat_lt, not, refl, slice_get, subst, suc, sym, take, true, zero, ℕ, ◌++◌, ◌+◌, ◌-◌, ◌<◌, ◌∙◌, ◌∷◌, ◌≡◌, ◌≤◌}
+pub use Rattle.std.proofs.lemmas.Bool.{cases_Bool, lt-ltb, ltb-true}
+pub use Rattle.std.proofs.lemmas.List.{length-drop, length-map}
+pub use Rattle.std.proofs.lemmas.List.Elements.{All-contains, Contains-append_left, Contains-append_right}
+pub use Rattle.std.proofs.lemmas.Map.Keys.{IsStrictlyIncreasing-dedup}
+pub use Rattle.std.proofs.lemmas.Option.{none-some, same_Some, slice_get-map, slice_get_within, unwrap_or-slice_get}
 pub use Rattle.std.proofs.lemmas.Slice.Eq.{bytes_eq-Decides}
-pub use Rattle.std.specs.List.{cons_option, enumerate_from, filter_map, find, flat_map, list_all, list_any}
-pub use Rattle.std.specs.Option.{option_map, option_map_or}
-pub use Rattle.std.specs.Prelude.{option_and_then}
+pub use Rattle.std.specs.Cmp.Lexicographic.{slice_cmp}
+pub use Rattle.std.specs.FinMap.{nat_cmp-IsAntisymmetric}
+pub use Rattle.std.specs.List.{AllByRecursion, flat_map, list_any}
+pub use Rattle.std.specs.List.Sorted.{IsStrictlyIncreasing}
+unfoldable pub use Rattle.std.specs.List.Sorted.{IsStrictlySortedBy}
+pub use Rattle.std.specs.Option.{option_map, option_map_or, unwrap_or}
+pub use Rattle.std.specs.Ordering.{eq_by_cmp, nat_cmp}
+pub use Rattle.std.specs.Prelude.{Contains, Decides}
 pub use Rattle.std.specs.Str.{bytes_eq}
-unfoldable pub use Rattle.mp_bindings.specs.Bindings.{product}
-pub use Rattle.mp_forms.specs.Limits.{name_of_term}
-pub use Rattle.mp_forms.specs.declared.atom_values.Atom.{Atom}
-pub use Rattle.mp_forms.specs.declared.atom_values.Term.{Term}
-pub use Rattle.mp_forms.specs.declared.atom_values.Term.TheVariants.{Object, Variable}
-pub use Rattle.mp_forms.specs.declared.effect_values.Increase.{Increase}
-pub use Rattle.mp_forms.specs.declared.effect_values.Increase.TheVariants.{Function, Number}
 pub use Rattle.mp_forms.specs.declared.factor.Factor.{Factor}
-pub use Rattle.mp_forms.specs.declared.files.File.{File}
-pub use Rattle.mp_forms.specs.declared.init_values.Value.{Value}
-pub use Rattle.mp_forms.specs.declared.literal.Literal.{Literal}
-pub use Rattle.mp_forms.specs.declared.schema_values.Schema.{Schema}
-pub use Rattle.mp_forms.specs.declared.signature_values.Signature.{Signature}
 pub use Rattle.mp_forms.specs.declared.typed_values.Typed.{Typed}
-pub use Rattle.mp_forms.specs.declared.word.Word.{Word}
-pub use Rattle.mp_ground_facts.specs.Facts.{complement, fact_cmp, has_complement, plain}
-pub use Rattle.mp_ground_facts.specs.Touched.{added, counted, deleted, goal_facts, needed, of_action, touched}
+pub use Rattle.mp_ground_facts.proofs.FactsOf.{facts_are_counted, facts_rise}
+pub use Rattle.mp_ground_facts.specs.Facts.{fact_cmp}
+pub use Rattle.mp_ground_facts.specs.Ground.{ground_action}
+unfoldable pub use Rattle.mp_ground_facts.specs.Ground.{facts_of}
 pub use Rattle.mp_ground_facts.specs.declared.fact.GroundFact.{GroundFact}
-pub use Rattle.mp_instances.specs.Costs.{cost_at}
-pub use Rattle.mp_instances.specs.Instances.{binding_of, instances, instances_of, suits}
+pub use Rattle.mp_ground_laws.proofs.Counted.{all_counted}
+pub use Rattle.mp_ground_laws.proofs.Grounding.{instances_stand}
+pub use Rattle.mp_ground_laws.proofs.Ordered.{counted_stand, different_signed}
+pub use Rattle.mp_ground_laws.proofs.Parts.{parts_of}
+pub use Rattle.mp_ground_laws.proofs.SmallCosts.{small_costs}
+pub use Rattle.mp_ground_laws.specs.Checked.{IsChecked}
+pub use Rattle.mp_ground_laws.specs.Numbered.{IsOfFactor, named_instance, signed_fact}
+pub use Rattle.mp_instances.specs.Costs.{HasSmallCosts}
+pub use Rattle.mp_instances.specs.Instances.{instances}
 pub use Rattle.mp_joint.specs.Fact.{Text}
-pub use Rattle.mp_joint.specs.FactorContribution.{facts_of, instance_with, privates_of}
-pub use Rattle.mp_joint.specs.Grounded.{suits_start}
-pub use Rattle.mp_joint.specs.Grounding.{asked_atoms, cost_of, fact_of, negated_atoms}
-pub use Rattle.mp_joint.specs.declared.fact.NamedFact.{NamedFact}
 pub use Rattle.mp_joint.specs.declared.fact.SignedFact.{SignedFact}
-pub use Rattle.mp_lifted.specs.Atoms.{atom_at, atoms_at, is_among, object_at, same_atom}
 pub use Rattle.mp_lifted.specs.Binding.{ActionBinding}
-pub use Rattle.mp_lifted.specs.Factors.{ground_atom, ground_value, known_atoms, lifted_factor}
-pub use Rattle.mp_lifted.specs.Lifting.{amounts_of, is_not, is_total_cost, lifted_amount, lifted_atom, lifted_term, lifted_where, members_of, parameter_in}
-pub use Rattle.mp_lifted.specs.Start.{is_private, is_so, is_true_at_start}
-pub use Rattle.mp_lifted.specs.Texts.{fact_text}
-pub use Rattle.mp_lifted.specs.Views.{is_changed, setting_of}
-pub use Rattle.mp_lifted.specs.Vocabulary.{vocabulary_of}
-pub use Rattle.mp_lifted.specs.declared.lifted.GroundAtom.{GroundAtom}
-pub use Rattle.mp_lifted.specs.declared.lifted.GroundValue.{GroundValue}
+pub use Rattle.mp_lifted.specs.Factors.{lifted_factor}
+pub use Rattle.mp_lifted.specs.Vocabulary.{declared_names}
 pub use Rattle.mp_lifted.specs.declared.lifted.LiftedAction.{LiftedAction}
-pub use Rattle.mp_lifted.specs.declared.lifted.LiftedAtom.{LiftedAtom}
 pub use Rattle.mp_lifted.specs.declared.lifted.LiftedFactor.{LiftedFactor}
 pub use Rattle.mp_lifted.specs.declared.view.OpenView.{OpenView}
-pub use Rattle.mp_lifted.specs.declared.vocabulary.Vocabulary.{Vocabulary}
 pub use Rattle.mp_list.proofs.Bools.{same_tests}
-pub use Rattle.mp_sexp.proofs.NamesAt.{name_at_number}
-pub use Rattle.mp_sexp.proofs.Places.{swapped}
-pub use Rattle.mp_sexp.specs.Numbers.{is_named, name_at}
+pub use Rattle.mp_list.proofs.Members.{any_from, contains_head, contains_tail, some_member}
+pub use Rattle.mp_sexp.specs.Bytes.{folded}
+pub use Rattle.mp_sexp.specs.Numbers.{name_at}
 unfoldable pub use Rattle.mp_sexp.specs.Numbers.{number_in}
-pub use Rattle.mp_typing.specs.Faults.{fault_at}
-pub use Rattle.mp_typing.specs.Lookups.{objects_of}
-unfoldable pub use Rattle.mp_typing.specs.ObjectList.{first_declared}
-unfoldable pub use Rattle.mp_typing.specs.Repeats.{repeated_faults}
-unfoldable pub use Rattle.mp_typing.specs.Uses.{is_declared}
-pub use Rattle.mp_grounder.specs.Checked.{IsChecked}
-pub use Rattle.mp_grounder.specs.Counted.{counted_facts, signed_cmp}
-pub use Rattle.mp_grounder.specs.Grounding.{members_by_name}
-pub use Rattle.mp_grounder.specs.Named.{named_objects}
-pub use Rattle.mp_grounder.specs.Numbered.{IsBinding, IsInRange, IsObject, IsOfFactor, named_fact, named_instance, numbered_action, signed_fact}
+pub use Rattle.mp_typing.proofs.Passing.{taken_from_passes, taken_passes}
+unfoldable pub use Rattle.mp_typing.specs.Places.{numbers_where}
+pub use Rattle.mp_views.proofs.SortedLaws.{same_texts, texts_rise}
+pub use Rattle.mp_views.specs.Sorted.{sorted_once}
+unfoldable pub use Rattle.mp_views.specs.Sorted.{sorted_by}
+pub use Rattle.mp_grounder.specs.Grounded.{IsGrounded, Known, counted}
+pub use Rattle.mp_grounder.specs.Limits.{IsRefusedBy, KeepsLimits}
+pub use Rattle.mp_grounder.specs.Numbered.{act_at, binding_at, count_private, fact_names, ground_at, private_numbers, public_numbers, rising, text_at}
+pub use Rattle.mp_grounder.specs.Places.{same_signed}
+pub use Rattle.mp_grounder.specs.Refusals.{IsRefusedAt}
+pub use Rattle.mp_grounder.specs.declared.refusal.GroundRefusal.{GroundRefusal}

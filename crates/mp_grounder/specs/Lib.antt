@@ -1,7 +1,10 @@
-pub mod Checked
-pub mod Named
-pub mod Grounding
-pub mod Counted
-pub mod Listing
-pub mod Tried
+-- facts by their places in lists
+pub mod Places
+-- the grounded factor of an agent
+pub mod Grounded
+-- which refusal is answered
+pub mod Refusals
+-- the counts that are limited
+pub mod Limits
+-- what a factor in numbers becomes
 pub mod Numbered

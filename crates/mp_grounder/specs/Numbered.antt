@@ -1,89 +1,102 @@
--- What stands in numbers, and the facts and instances by names that it stands for.
-use Rattle.std.specs.Prelude.{ℕ, ◌≡◌, ◌<◌, not, List, map, length, All, Some, slice_get, ◌↔◌, Contains}
-use Rattle.std.specs.List.Sorted.{IsStrictlySortedBy}
+-- What a factor that is grounded in numbers becomes. Its private facts, which come first, keep their numbers, and its public
+-- facts have the places of their texts.
+use Rattle.std.specs.Prelude.{ℕ, ◌-◌, nat_lt, not, List, map, filter, length, drop, None, slice_index_or}
+use Rattle.std.specs.Ordering.{nat_cmp}
 use Rattle.mp_forms.specs.declared.factor.Factor.{Factor}
-use Rattle.mp_forms.specs.declared.typed_values.Typed.{Typed}
-use Rattle.mp_forms.specs.declared.schema_values.Schema.{Schema}
-use Rattle.mp_sexp.specs.Numbers.{name_at}
-use Rattle.mp_joint.specs.declared.fact.NamedFact.{NamedFact}
-use Rattle.mp_joint.specs.declared.fact.SignedFact.{SignedFact}
-use Rattle.mp_joint.specs.Fact.{named}
-use Rattle.mp_joint.specs.FactorContribution.{privates_of}
-use Rattle.mp_lifted.specs.declared.lifted.GroundAtom.{GroundAtom}
-use Rattle.mp_lifted.specs.declared.lifted.LiftedAction.{LiftedAction}
-use Rattle.mp_lifted.specs.declared.lifted.LiftedFactor.{LiftedFactor}
-use Rattle.mp_lifted.specs.declared.view.OpenView.{OpenView}
-use Rattle.mp_lifted.specs.Factors.{lifted_factor}
-use Rattle.mp_lifted.specs.Lifting.{lifted_action}
-use Rattle.mp_lifted.specs.Views.{is_changed}
+use Rattle.mp_sexp.specs.Numbers.{name_at, number_in}
+use Rattle.mp_joint.specs.Fact.{Text}
+use Rattle.mp_task.specs.declared.act.Act.{Act}
+use Rattle.mp_lifted.specs.Texts.{signed_text}
 use Rattle.mp_lifted.specs.Vocabulary.{vocabulary_of}
 use Rattle.mp_lifted.specs.Binding.{ActionBinding}
-use Rattle.mp_lifted.specs.Start.{is_private}
-use Rattle.mp_instances.specs.Instances.{instances}
 use Rattle.mp_ground_facts.specs.declared.fact.GroundFact.{GroundFact}
-use Rattle.mp_ground_facts.specs.Facts.{atom_of, fact_cmp}
-use Rattle.mp_ground_facts.specs.Touched.{of_action, needed, added, deleted, counted}
-use Rattle.mp_grounder.specs.Grounding.{GroundedInstance}
-use Rattle.mp_grounder.specs.Named.{named_objects, step_of}
+use Rattle.mp_ground_facts.specs.Ground.{GroundAction, GroundFactor, ground_with}
+use Rattle.mp_views.specs.Sorted.{sorted_by, sorted_once}
+use Rattle.mp_grounder.specs.declared.grounded.Ground.{Ground}
+use Rattle.mp_grounder.specs.declared.names.FactNames.{FactNames}
+use Rattle.mp_grounder.specs.declared.places.Places.{Places}
+use Rattle.mp_grounder.specs.declared.turning.NumberedFactor.{NumberedFactor}
 
--- ---- what numbers stand for
+-- the names of the predicates and objects of a factor
+abbrev pub fact_names : Factor → FactNames
+fact_names factor =
+    record { predicates = (vocabulary_of factor).predicates; objects = (vocabulary_of factor).objects }
 
--- the fact of an agent that an atom stands for
-abbrev pub named_fact : ℕ → Factor → GroundAtom → NamedFact
-named_fact agent factor a =
-    named agent (privates_of factor) (name_at (vocabulary_of factor).predicates a.symbol) (named_objects factor a.args)
+-- the text of a fact or complement whose numbers stand for these names
+abbrev pub text_at : FactNames → GroundFact → Text
+text_at names f = signed_text (record {
+  positive = not f.is_complement;
+  fact = record {
+    owner = None;
+    predicate = name_at names.predicates f.predicate;
+    args = map (name_at names.objects) f.objects;
+  };
+})
 
--- a fact, or the complement of one
-abbrev pub signed_fact : ℕ → Factor → GroundFact → SignedFact
-signed_fact agent factor f =
-    record { positive = not f.is_complement; fact = named_fact agent factor (atom_of f) }
+-- how many of some facts are private
+abbrev pub count_private : List GroundFact → ℕ
+count_private facts = length (filter (λ f. not f.is_public) facts)
 
--- an instance
-abbrev pub named_instance : ℕ → Factor → LiftedFactor → ActionBinding → GroundedInstance
-named_instance agent factor lifted i =
+-- the texts of the facts behind the private ones
+abbrev pub public_texts_at : FactNames → List GroundFact → List Text
+public_texts_at names facts = map (text_at names) (drop (count_private facts) facts)
+
+-- the places of facts: for each public one that of its text
+abbrev pub places_of : FactNames → List GroundFact → Places
+places_of names facts =
     record {
-      step = step_of agent factor i;
-      cost = i.cost;
-      pre = map (signed_fact agent factor) (of_action lifted needed i);
-      add = map (signed_fact agent factor) (of_action lifted added i);
-      del = map (signed_fact agent factor) (of_action lifted deleted i);
+      privates = count_private facts;
+      publics = map (number_in (sorted_once (public_texts_at names facts))) (public_texts_at names facts);
     }
 
--- ---- numbers of a factor
+-- some numbers in rising order, each once
+abbrev pub rising : List ℕ → List ℕ
+rising numbers = sorted_by nat_cmp numbers
 
--- an object's number is below their count
-abbrev pub IsObject : Factor → ℕ → Type 0
-IsObject factor number = number < length (vocabulary_of factor).objects
+-- the numbers of the private ones of some facts
+abbrev pub private_numbers : Places → List ℕ → List ℕ
+private_numbers places numbers = filter (λ n. nat_lt n places.privates) numbers
 
--- the numbers of an atom are those of a predicate and of objects
-pub record IsInRange (factor : Factor) (a : GroundAtom) : Type 0 where
-  pub symbol : a.symbol < length (vocabulary_of factor).predicates
-  pub args : All (IsObject factor) a.args
+-- the place of a public fact
+abbrev pub place_at : Places → ℕ → ℕ
+place_at places n = slice_index_or places.publics (n - places.privates) 0
 
--- objects of the factor, one for each parameter
-pub record IsBinding (factor : Factor) (params : List Typed) (objects : List ℕ) : Type 0 where
-  pub long : length objects ≡ length params
-  pub range : All (IsObject factor) objects
+-- the places of the public ones of some facts
+abbrev pub public_numbers : Places → List ℕ → List ℕ
+public_numbers places numbers = map (place_at places) (filter (λ n. not (nat_lt n places.privates)) numbers)
 
--- an action of the factor, in numbers
-abbrev pub numbered_action : Factor → OpenView → Schema → LiftedAction
-numbered_action factor view schema =
-    lifted_action (vocabulary_of factor) (is_changed factor view) factor schema
+-- an action with what it needs, adds and deletes by their places
+abbrev pub act_with : Places → List ℕ → List ℕ → List ℕ → ℕ → Act
+act_with places pre add del cost = record {
+  pre_pub = rising (public_numbers places pre);
+  pre_priv = rising (private_numbers places pre);
+  add_pub = rising (public_numbers places add);
+  add_priv = rising (private_numbers places add);
+  del_pub = rising (public_numbers places del);
+  del_priv = rising (private_numbers places del);
+  cost = cost;
+}
 
--- an instance in numbers is an action of the factor at objects, one for each parameter
-pub record IsInstance (factor : Factor) (i : ActionBinding) : Type 0 where
-  pub schema : Schema
-  pub at : slice_get factor.domain.schemas i.action ≡ Some schema
-  pub objects : IsBinding factor schema.params i.objects
+abbrev pub act_at : Places → GroundAction → Act
+act_at places a = act_with places a.pre a.add a.del a.cost
 
--- a fact in numbers is in range, and it is public where the factor has nothing of it private
-pub record IsOfFactor (factor : Factor) (view : OpenView) (f : GroundFact) : Type 0 where
-  pub range : IsInRange factor (atom_of f)
-  pub public : f.is_public ≡ not (is_private (lifted_factor factor view) (atom_of f))
+-- what an action stands for
+abbrev pub binding_at : GroundAction → ActionBinding
+binding_at a = record { action = a.action; objects = a.objects; cost = a.cost }
 
--- facts in numbers that rise, and that are what some instance touches or a goal names
-pub record AreNumbered (factor : Factor) (view : OpenView) (facts : List GroundFact) : Type 0 where
-  pub rising : IsStrictlySortedBy fact_cmp facts
-  pub exact
-      : (f : GroundFact)
-      → Contains facts f ↔ Contains (counted (lifted_factor factor view) (instances (lifted_factor factor view))) f
+-- a factor that is grounded to the instances in numbers, with this start
+abbrev pub ground_factor_of : NumberedFactor → GroundFactor
+ground_factor_of n = record (ground_with n.factor.now n.facts.keys n.instances) { start = n.start }
+
+-- a factor of an agent, with its facts by their places
+abbrev pub ground_at : ℕ → FactNames → GroundFactor → Ground
+ground_at me names g = record {
+  me = me;
+  publics = sorted_once (public_texts_at names g.facts);
+  privates = count_private g.facts;
+  start = rising (private_numbers (places_of names g.facts) g.start);
+  goal_pub = rising (public_numbers (places_of names g.facts) g.goals);
+  goal_priv = rising (private_numbers (places_of names g.facts) g.goals);
+  acts = map (act_at (places_of names g.facts)) g.actions;
+  steps = map binding_at g.actions;
+}

@@ -1,5 +1,17 @@
-//! Grounding by numbers joined to grounding by names: what an agent's factor becomes once objects stand for all
-//! parameters (`specs/`).
+//! What an agent's factor becomes once objects stand for all parameters: its own facts and actions
+//! by numbers, and the texts of its public facts (`specs/`).
 #![tactic(auto)]
 
-pub mod laws;
+mod grounded;
+mod grounding;
+mod names;
+mod places;
+mod refusal;
+mod stepping;
+mod texts;
+mod turning;
+
+pub use grounded::Ground;
+pub use grounding::ground;
+pub use refusal::GroundRefusal;
+pub use stepping::StepNames;

@@ -1,14 +1,10 @@
 -- What the proofs of this crate cite of the standard library, of the crates below, and of the definitions here, under one name.
 pub use Rattle.std.proofs.Common.{All, Bool, Bor, IfOk, IfSome, List, None, Option, Some, [], ap, append-nil, append_assoc, arith, cond, drop, false, get_or, length}
-pub use Rattle.std.proofs.Common.{length-append, map, nat_eq, nat_lt, not, refl, subst, sym, take, true, unwrap_or, ℕ, ◌&&◌, ◌++◌, ◌+◌, ◌-◌, ◌<◌, ◌==◌, ◌||◌, ◌∙◌, ◌∷◌}
+pub use Rattle.std.proofs.Common.{length-append, map, nat_lt, not, refl, subst, sym, take, true, ℕ, ◌&&◌, ◌++◌, ◌+◌, ◌-◌, ◌<◌, ◌==◌, ◌||◌, ◌∙◌, ◌∷◌}
 pub use Rattle.std.proofs.Common.{◌≡◌, ◌≤◌}
 pub use Rattle.std.proofs.lemmas.Bool.{ltb-false, ltb-true}
 pub use Rattle.std.proofs.lemmas.Bool.Decides.{Decides-eqb}
-pub use Rattle.std.proofs.lemmas.List.{get_or_append_left, map-append, take_more}
-pub use Rattle.std.proofs.lemmas.List.Elements.{filter-append}
-pub use Rattle.std.proofs.lemmas.List.Folds.{list_any-append}
-pub use Rattle.std.proofs.lemmas.Slice.Eq.{slice_eq-Decides}
-pub use Rattle.std.specs.Cmp.Lexicographic.{pointwise}
+pub use Rattle.std.proofs.lemmas.List.{get_or_append_left, map-append}
 pub use Rattle.std.specs.List.{filter, flat_map, fold, list_all, list_any}
 pub use Rattle.std.specs.Map.{lookup}
 pub use Rattle.std.specs.Option.{is_some, option_map}
@@ -29,11 +25,7 @@ pub use Rattle.mp_list.proofs.Bools.{and_true}
 pub use Rattle.mp_instances.specs.Costs.{cost_at}
 pub use Rattle.mp_instances.specs.Gathering.{after}
 pub use Rattle.mp_instances.specs.Instances.{is_known_term, suits}
-pub use Rattle.mp_instances.specs.Links.{Narrows, is_linked, is_parameter, linked_to, links, object_in, others_in, others_of, with_object}
-pub use Rattle.mp_instances.specs.StartFacts.{HasFacts}
-pub use Rattle.mp_instances.specs.StartLinks.{AreLinks, HasLinks, same_pattern}
+pub use Rattle.mp_instances.specs.Links.{is_parameter}
 pub use Rattle.mp_instances.specs.Tables.{HasValues}
 pub use Rattle.mp_instances.specs.Turns.{fails_at_turn, has_turn, holds_at_turn, suits_at_turn}
 pub use Rattle.mp_instances.specs.declared.gathered.Gathered.{Gathered}
-pub use Rattle.mp_instances.specs.declared.links.AtomIndex.{AtomIndex}
-pub use Rattle.mp_instances.specs.declared.links.AtomLinks.{AtomLinks}

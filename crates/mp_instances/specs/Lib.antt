@@ -3,7 +3,5 @@ pub mod Instances
 pub mod Counts
 pub mod Turns
 pub mod Links
-pub mod StartFacts
-pub mod StartLinks
 pub mod Tables
 pub mod Gathering

@@ -4,12 +4,10 @@
 
 mod choices;
 mod costs;
-mod facts;
 mod gathered;
 mod grounding;
 mod links;
 mod refusal;
-mod start_links;
 mod turns;
 mod values;
 

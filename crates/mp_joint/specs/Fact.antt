@@ -31,11 +31,14 @@ pub record Privates : Type 0 where
 abbrev pub is_listed : Text → List Text → Bool
 is_listed name names = list_any (λ n. bytes_eq name n) names
 
--- The privacy rule: a fact belongs to its agent where its predicate or one of its arguments is private
--- in the agent's factor, and to nobody otherwise.
+-- The privacy rule: a fact is private where its predicate or one of its arguments is private in its agent's factor.
+abbrev pub is_private : Privates → Text → List Text → Bool
+is_private privates predicate args =
+    is_listed predicate privates.predicates || list_any (λ a. is_listed a privates.objects) args
+
+-- a private fact belongs to its agent, and a public one to nobody
 abbrev pub owner : ℕ → Privates → Text → List Text → Option ℕ
-owner agent privates predicate args =
-    if is_listed predicate privates.predicates || list_any (λ a. is_listed a privates.objects) args then Some agent else None
+owner agent privates predicate args = if is_private privates predicate args then Some agent else None
 
 -- the named fact of a predicate and arguments of an agent's factor
 abbrev pub named : ℕ → Privates → Text → List Text → NamedFact

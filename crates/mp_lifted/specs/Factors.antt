@@ -15,6 +15,7 @@ use Rattle.mp_lifted.specs.declared.lifted.GroundValue.{GroundValue}
 use Rattle.mp_lifted.specs.declared.lifted.LiftedFactor.{LiftedFactor}
 use Rattle.mp_lifted.specs.declared.view.OpenView.{OpenView}
 use Rattle.mp_lifted.specs.Lifting.{is_total_cost, lifted_action}
+use Rattle.mp_lifted.specs.Privates.{is_private_atom}
 use Rattle.mp_lifted.specs.Views.{is_changed, has_complements}
 use Rattle.mp_lifted.specs.declared.vocabulary.Vocabulary.{Vocabulary}
 use Rattle.mp_lifted.specs.Vocabulary.{vocabulary_of}
@@ -80,7 +81,7 @@ lifted_factor factor view =
       negated_predicates = map (has_complements factor view) vocabulary.predicates;
       private_objects = map (λ o. is_listed o privates.objects) vocabulary.objects;
       actions = map (lifted_action vocabulary (is_changed factor view) factor) factor.domain.schemas;
-      init = map (ground_atom vocabulary) factor.problem.init;
+      init = map (ground_atom vocabulary) (filter (is_private_atom privates) factor.problem.init);
       known = known_atoms vocabulary view.init;
       goals = map (ground_atom vocabulary) (asked_atoms factor.problem.goals);
       avoided = map (ground_atom vocabulary) (negated_atoms factor.problem.goals);

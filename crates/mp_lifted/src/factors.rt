@@ -2,16 +2,16 @@
 
 ghost use Rattle.std.specs.Prelude.{◌≡◌, not, map, filter, IfOk, if◌then◌else◌};
 ghost use Rattle.mp_joint.specs.Fact.{is_listed};
-ghost use Rattle.mp_joint.specs.FactorContribution.{privates_of};
 ghost use Rattle.mp_joint.specs.Grounding.{asked_atoms, negated_atoms};
 ghost use Rattle.mp_lifted.specs.Lifting.{lifted_action as action_of, is_total_cost as is_cost};
 ghost use Rattle.mp_lifted.specs.Factors.{ground_atom as atom_of, ground_value as value_of, known_atoms as known_of, lifted_factor};
+ghost use Rattle.mp_lifted.specs.Privates.{private_in, is_private_atom};
 ghost use Rattle.mp_lifted.specs.Views.{is_of, has_complements};
 
 use crate::actions::lifted_action;
 use crate::lifted::{GroundAtom, GroundValue, LiftedAction, LiftedFactor};
 use crate::lifted_atoms::{ground_with, has_sign, is_total_cost};
-use crate::privates::private_names;
+use crate::privates::{PrivateNames, private_names};
 use crate::shown::{Shown, changed, negated};
 use crate::texts::known_atoms;
 use crate::view::OpenView;
@@ -71,17 +71,21 @@ fn lifted_actions(
     Ok(made)
 }
 
-/// Initial facts in numbers.
-fn ground_atoms(
+/// Those initial facts that are private, in numbers.
+fn private_atoms(
     alloc: Global,
     vocabulary: &Vocabulary<'_>,
+    privates: &PrivateNames<'_>,
     atoms: &AtomList,
 ) -> Result<List<GroundAtom>, OutOfMemory>
-    ensures { IfOk result (λ made. made ≡ map (atom_of vocabulary.now) atoms.now) }
+    ensures { IfOk result (λ made. made ≡ map (atom_of vocabulary.now)
+        (filter (is_private_atom (private_in privates.now)) atoms.now)) }
 {
-    let mut made = List::with_capacity(alloc, atoms.len())?;
+    let mut made = List::new(alloc);
     for atom in atoms.as_slice() {
-        made.push(ground_with(alloc, &vocabulary.predicates, vocabulary, atom)?)?;
+        if privates.has(atom) {
+            made.push(ground_with(alloc, &vocabulary.predicates, vocabulary, atom)?)?;
+        }
     }
     Ok(made)
 }
@@ -141,15 +145,15 @@ fn marks_of(
     factor: &Factor,
     view: &OpenView,
     names: &Vocabulary<'_>,
+    privates: &PrivateNames<'_>,
 ) -> Result<Marks, OutOfMemory>
     ensures private_predicates { IfOk result (λ made. made.private_predicates
-        ≡ map (λ p. is_listed p (privates_of factor.now).predicates) names.now.predicates) }
+        ≡ map (λ p. is_listed p privates.now.predicates) names.now.predicates) }
     ensures negated_predicates { IfOk result (λ made. made.negated_predicates
         ≡ map (λ s. has_complements factor.now view.now s.word.name) factor.now.domain.predicates) }
     ensures private_objects { IfOk result (λ made. made.private_objects
-        ≡ map (λ o. is_listed o (privates_of factor.now).objects) names.now.objects) }
+        ≡ map (λ o. is_listed o privates.now.objects) names.now.objects) }
 {
-    let privates = private_names(alloc, factor)?;
     let complements = negated(alloc, factor, view)?;
     Ok(Marks {
         private_predicates: flags_in(alloc, &names.predicates, &privates.predicates)?,
@@ -158,7 +162,7 @@ fn marks_of(
     })
 }
 
-/// The facts of a problem and those that agents show, and values.
+/// The private facts of a problem and those that agents show, goals and values.
 #[derive(Drop)]
 struct Facts {
     init: List<GroundAtom>,
@@ -168,15 +172,16 @@ struct Facts {
     values: List<GroundValue>,
 }
 
-/// The facts of a problem in numbers, and those that agents show.
+/// The private facts of a problem in numbers, those that agents show, goals and values.
 fn facts_of(
     alloc: Global,
     problem: &Problem,
     view: &OpenView,
     names: &Vocabulary<'_>,
+    privates: &PrivateNames<'_>,
 ) -> Result<Facts, OutOfMemory>
     ensures { IfOk result (λ made. made ≡ record {
-      init = map (atom_of names.now) problem.now.init;
+      init = map (atom_of names.now) (filter (is_private_atom (private_in privates.now)) problem.now.init);
       known = known_of names.now view.now.init;
       goals = map (atom_of names.now) (asked_atoms problem.now.goals);
       avoided = map (atom_of names.now) (negated_atoms problem.now.goals);
@@ -184,7 +189,7 @@ fn facts_of(
     }) }
 {
     Ok(Facts {
-        init: ground_atoms(alloc, names, &problem.init)?,
+        init: private_atoms(alloc, names, privates, &problem.init)?,
         known: known_atoms(alloc, names, &view.init)?,
         goals: goal_atoms(alloc, names, &problem.goals, true)?,
         avoided: goal_atoms(alloc, names, &problem.goals, false)?,
@@ -202,10 +207,11 @@ pub fn lift(
 {
     let whole = factor.factor();
     let names = make_vocabulary(alloc, whole)?;
-    let marks = marks_of(alloc, whole, view, &names)?;
+    let privates = private_names(alloc, whole)?;
+    let marks = marks_of(alloc, whole, view, &names, &privates)?;
     let changes = changed(alloc, whole, view)?;
     let actions = lifted_actions(alloc, &names, &changes, factor, &whole.domain.schemas)?;
-    let facts = facts_of(alloc, &whole.problem, view, &names)?;
+    let facts = facts_of(alloc, &whole.problem, view, &names, &privates)?;
     Ok(LiftedFactor {
         private_predicates: marks.private_predicates,
         negated_predicates: marks.negated_predicates,

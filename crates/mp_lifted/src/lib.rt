@@ -26,7 +26,7 @@ pub use factors::lift;
 pub use lifted::{
     Amount, GroundAtom, GroundValue, LiftedAction, LiftedAtom, LiftedFactor, LiftedTerm,
 };
-pub use privates::{PrivateNames, private_names};
+pub use privates::{PrivateNames, private_names, term_name};
 pub use start::StartFacts;
 pub use view::{FactTexts, OpenView};
 pub use vocabulary::object_names;

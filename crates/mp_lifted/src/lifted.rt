@@ -82,7 +82,7 @@ pub struct LiftedFactor {
     /// For each object whether it is private.
     pub private_objects: List<bool>,
     pub actions: List<LiftedAction>,
-    /// The initial facts of the factor.
+    /// The private initial facts of the factor.
     pub init: List<GroundAtom>,
     /// The public facts that are true at the start, of all agents, as far as this factor can name them.
     pub known: List<GroundAtom>,

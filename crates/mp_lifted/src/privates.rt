@@ -1,11 +1,15 @@
-//! The names that a factor keeps to itself.
+//! The names that a factor keeps to itself, and which atoms are private.
 
-ghost use Rattle.std.specs.Prelude.{◌≡◌, ◌++◌, map, filter, IfOk, OnOk};
+ghost use Rattle.std.specs.Prelude.{◌≡◌, ◌++◌, [], map, filter, IfOk, OnOk};
+ghost use Rattle.std.specs.List.{list_any};
+ghost use Rattle.mp_joint.specs.Fact.{is_listed};
 ghost use Rattle.mp_joint.specs.FactorContribution.{privates_of};
+ghost use Rattle.mp_joint.specs.Grounding.{object_of, objects_of};
+ghost use Rattle.mp_lifted.specs.Privates.{private_in, is_private_atom};
 
-use mp_forms::{Factor, SignatureList, TypedList};
+use mp_forms::{Atom, Factor, SignatureList, Term, TypedList};
 use mp_list::OutOfMemory;
-use mp_sexp::NameTable;
+use mp_sexp::{Name, NameTable};
 use std::alloc::Global;
 
 /// The predicates and the objects that are private in a factor.
@@ -13,6 +17,38 @@ use std::alloc::Global;
 pub struct PrivateNames<'a> {
     pub predicates: NameTable<'a>,
     pub objects: NameTable<'a>,
+}
+
+impl<'a> PrivateNames<'a> {
+    /// Whether an atom without variables is private. It takes no memory.
+    pub fn has(&self, atom: &Atom) -> bool
+        ensures { result ≡ is_private_atom (private_in self.now) atom.now }
+    {
+        self.predicates.contains(&atom.word.name)
+            || is_one_among(atom.terms.as_slice(), &self.objects)
+    }
+}
+
+/// The name that a term is.
+pub fn term_name(term: &Term) -> &Name
+    ensures { result.now ≡ object_of [] [] term.now }
+{
+    match term {
+        Term::Variable(word) => &word.name,
+        Term::Object(word) => &word.name,
+    }
+}
+
+/// Whether the name of one of some terms is among these.
+fn is_one_among(terms: &[Term], names: &NameTable<'_>) -> bool
+    ensures { result ≡ list_any (λ o. is_listed o names.now) (objects_of [] [] terms.now) }
+{
+    for term in terms {
+        if names.contains(term_name(term)) {
+            return true;
+        }
+    }
+    false
 }
 
 /// The names of those predicates that are private.

@@ -4,7 +4,7 @@ use Rattle.mp_audit.specs.Failures.{verdict_on}
 use Rattle.mp_audit.specs.declared.certificate.Certificate.{Certificate}
 use Rattle.mp_certificates.specs.Accepted.{IsTextOf}
 use Rattle.mp_forms.specs.declared.factor.Factor.{Factor}
-use Rattle.mp_grounder.specs.Checked.{IsChecked}
+use Rattle.mp_ground_laws.specs.Checked.{IsChecked}
 use Rattle.mp_plan_verdict.specs.Verdict.{verdict}
 use Rattle.mp_plans.specs.Plan.{plan_in}
 use Rattle.mp_plans.specs.declared.plan.PlanText.{PlanText}

@@ -8,7 +8,7 @@ use Rattle.mp_audit.specs.declared.verdict.AuditVerdict.TheVariants.{Holds}
 use Rattle.mp_certificates.specs.Accepted.{IsTextOf}
 use Rattle.mp_certify.specs.Certified.{IsCertificateOf, solved_cost}
 use Rattle.mp_forms.specs.declared.factor.Factor.{Factor}
-use Rattle.mp_grounder.specs.Checked.{IsChecked}
+use Rattle.mp_ground_laws.specs.Checked.{IsChecked}
 use Rattle.mp_messages.specs.History.{schedule as schedule_of}
 use Rattle.mp_outcome.specs.Names.{names_of}
 use Rattle.mp_schedule.specs.TeamRun.{TeamRun}

@@ -8,7 +8,7 @@ use Rattle.mp_audit.specs.declared.certificate.Certificate.{Certificate}
 use Rattle.mp_audit.specs.declared.verdict.AuditVerdict.{AuditVerdict}
 use Rattle.mp_audit.specs.declared.verdict.AuditVerdict.TheVariants.{Holds, Double, Start, Goal, Step}
 use Rattle.mp_forms.specs.declared.factor.Factor.{Factor}
-use Rattle.mp_grounder.specs.Checked.{IsChecked}
+use Rattle.mp_ground_laws.specs.Checked.{IsChecked}
 use Rattle.mp_joint.specs.FactorContribution.{team_of}
 use Rattle.mp_joint.specs.Plan.{Solves, cost as cost_of}
 use Rattle.mp_joint.specs.declared.plan.PlanStep.{PlanStep}

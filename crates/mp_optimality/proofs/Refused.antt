@@ -3,7 +3,7 @@ use Rattle.std.proofs.Common.{◌≡◌, ◌≤◌, ℕ, List, length, All, subs
 use Rattle.mp_audit.specs.declared.certificate.Certificate.{Certificate}
 use Rattle.mp_certificates.specs.Accepted.{IsRefusedLine, IsTextOf}
 use Rattle.mp_forms.specs.declared.factor.Factor.{Factor}
-use Rattle.mp_grounder.specs.Checked.{IsChecked}
+use Rattle.mp_ground_laws.specs.Checked.{IsChecked}
 use Rattle.mp_split.specs.Team.{AreTasksOf}
 use Rattle.mp_split.specs.declared.team.Tasks.{Tasks}
 use Rattle.mp_task.specs.AgentTask.{AgentTask}

@@ -1,7 +1,7 @@
 -- There is a task for each agent of a team, and they keep the limits.
 use Rattle.std.proofs.Common.{◌≡◌, ◌≤◌, List, length, All}
 use Rattle.mp_forms.specs.declared.factor.Factor.{Factor}
-use Rattle.mp_grounder.specs.Checked.{IsChecked}
+use Rattle.mp_ground_laws.specs.Checked.{IsChecked}
 use Rattle.mp_solve.specs.Refused.{AreWithin}
 use Rattle.mp_split.specs.Team.{AreTasksOf}
 use Rattle.mp_split.specs.declared.team.Tasks.{Tasks}

@@ -1,7 +1,7 @@
 -- Why the text of a certificate or of a plan was not read.
 use Rattle.std.specs.Prelude.{◌≡◌, ℕ, List, Err}
 use Rattle.mp_certificates.specs.Accepted.{IsRefusedLine}
-use Rattle.mp_ground.specs.declared.refusal.GroundRefusal.TheVariants.{OutOfMemory}
+use Rattle.mp_grounder.specs.declared.refusal.GroundRefusal.TheVariants.{OutOfMemory}
 use Rattle.mp_plans.specs.Plan.{plan_in}
 use Rattle.mp_task.specs.AgentTask.{AgentTask}
 use Rattle.mp_text.specs.Lines.{Text}

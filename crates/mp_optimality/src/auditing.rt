@@ -18,7 +18,7 @@ use mp_audit::{
     AuditVerdict, FlatCertificate, audit_flat, failures_are_what_is_wrong, no_plan_is_cheaper,
 };
 use mp_checker::{CheckVerdict, check};
-use mp_grounder::laws::checked_factors_are_checked;
+use mp_ground_laws::laws::checked_factors_are_checked;
 use mp_list::OutOfMemory;
 use mp_messages::Bytes;
 use mp_plan_verdict::verdicts_are_right;

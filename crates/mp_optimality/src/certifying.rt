@@ -10,8 +10,8 @@ ghost use Rattle.mp_optimality.specs.Certified.{IsCertified, TellsAnswer, TellsS
 
 use mp_certificates::certificate_text;
 use mp_certify::certificate;
-use mp_ground::GroundRefusal;
-use mp_grounder::laws::checked_factors_are_checked;
+use mp_ground_laws::laws::checked_factors_are_checked;
+use mp_grounder::GroundRefusal;
 use mp_list::{List, OutOfMemory};
 use mp_messages::Bytes;
 use mp_schedule::World;

@@ -3,7 +3,7 @@
 
 ghost use Rattle.std.specs.Prelude.{◌≡◌, ℕ, All, List};
 ghost use Rattle.mp_forms.specs.declared.factor.Factor.{Factor};
-ghost use Rattle.mp_grounder.specs.Checked.{IsChecked};
+ghost use Rattle.mp_ground_laws.specs.Checked.{IsChecked};
 ghost use Rattle.mp_text.specs.Lines.{Text};
 ghost use Rattle.mp_optimality.specs.Audits.{HasCertificate, IsCertificateRefused};
 

@@ -9,7 +9,7 @@ ghost use Rattle.mp_optimality.specs.Reading.{IsCertificateUnread, IsPlanUnread}
 use crate::refusal::AuditRefusal;
 use mp_audit::FlatCertificate;
 use mp_certificates::{CertificateRefusal, read_flat};
-use mp_ground::GroundRefusal;
+use mp_grounder::GroundRefusal;
 use mp_plans::{PlanText, read_plan};
 use mp_task::Task;
 use mp_text::LineRefusal;

@@ -1,6 +1,6 @@
 //! Why a certificate and a plan are not audited.
 
-use mp_ground::GroundRefusal;
+use mp_grounder::GroundRefusal;
 use mp_list::OutOfMemory;
 use thiserror::Error;
 
@@ -22,7 +22,7 @@ pub enum AuditRefusal {
 
 impl From<OutOfMemory> for AuditRefusal {
     ghost use Rattle.std.specs.Prelude.{◌≡◌};
-    ghost use Rattle.mp_ground.specs.declared.refusal.GroundRefusal.TheVariants as sizes;
+    ghost use Rattle.mp_grounder.specs.declared.refusal.GroundRefusal.TheVariants as sizes;
     ghost use Rattle.mp_optimality.specs.declared.refusal.AuditRefusal.TheVariants as refusals;
 
     ghost from_gives = { λ _ e. e ≡ refusals.Sizes sizes.OutOfMemory };

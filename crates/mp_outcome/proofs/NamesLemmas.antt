@@ -3,7 +3,7 @@ use Rattle.std.proofs.Common.{◌≡◌, ℕ, zero, suc, ◌+◌, List, [], ◌�
 use Rattle.std.specs.Prelude.{slice_get}
 use Rattle.mp_forms.specs.declared.factor.Factor.{Factor}
 use Rattle.mp_lifted.specs.Binding.{ActionBinding}
-use Rattle.mp_grounder.specs.Named.{step_of}
+use Rattle.mp_ground_laws.specs.Named.{step_of}
 use Rattle.mp_text.specs.Outcome.{names_at}
 use Rattle.mp_outcome.specs.Names.{names_from}
 

@@ -7,7 +7,7 @@ use Rattle.std.proofs.lemmas.List.{length-append}
 use Rattle.std.proofs.lemmas.List.Elements.{All-push, All-weaker, filter_map-append}
 use Rattle.mp_joint.specs.declared.plan.PlanStep.{PlanStep}
 use Rattle.mp_trail.specs.declared.steps.Timed.{Timed}
-use Rattle.mp_grounder.proofs.Lists.{given_same}
+use Rattle.mp_ground_laws.proofs.Lists.{given_same}
 use Rattle.mp_text.specs.Outcome.{step_line, timed_line, share_lines}
 use Rattle.mp_outcome.specs.Renumbered.{IsNamed, IsRenumbered}
 use Rattle.mp_outcome.proofs.Pushed.{get_before, at_end}

@@ -3,7 +3,7 @@ use Rattle.std.specs.Prelude.{ℕ, ◌+◌, List, [], ◌∷◌, map}
 use Rattle.mp_forms.specs.declared.factor.Factor.{Factor}
 use Rattle.mp_joint.specs.declared.plan.PlanStep.{PlanStep}
 use Rattle.mp_lifted.specs.Binding.{ActionBinding}
-use Rattle.mp_grounder.specs.Named.{step_of}
+use Rattle.mp_ground_laws.specs.Named.{step_of}
 
 -- by names, the steps that are given by numbers, agent by agent; the first agent has this number
 abbrev pub names_from : ℕ → List Factor → List (List ActionBinding) → List (List PlanStep)

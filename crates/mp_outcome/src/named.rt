@@ -1,11 +1,11 @@
 //! The steps of a plan by names, and its shares with numbers that stand for these.
 
 ghost use Rattle.std.specs.Prelude.{◌≡◌, ◌++◌, ◌∷◌, [], List as ListOf, map, IfOk, OnOk};
-ghost use Rattle.mp_grounder.specs.Named.{step_of};
+ghost use Rattle.mp_ground_laws.specs.Named.{step_of};
 ghost use Rattle.mp_outcome.specs.Renumbered.{IsRenumbered};
 ghost use Rattle.mp_trail.specs.declared.steps.Timed.{Timed as TimedOf};
 
-use mp_ground::StepNames;
+use mp_grounder::StepNames;
 use mp_joint::Names;
 use mp_lifted::ActionBindingList;
 use mp_list::{List, OutOfMemory, to_u32};

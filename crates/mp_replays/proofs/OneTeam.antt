@@ -1,7 +1,7 @@
 -- What follows from the law of renaming for the files of one team.
 use Rattle.std.proofs.Common.{◌≡◌, List, All}
 use Rattle.mp_forms.specs.declared.factor.Factor.{Factor}
-use Rattle.mp_grounder.specs.Checked.{IsChecked}
+use Rattle.mp_ground_laws.specs.Checked.{IsChecked}
 use Rattle.mp_outcome.specs.Names.{names_of}
 use Rattle.mp_split.specs.Team.{AreTasksOf}
 use Rattle.mp_split.specs.declared.team.Tasks.{Tasks}

@@ -2,7 +2,7 @@
 use Rattle.std.proofs.Common.{◌≡◌, ◌≤◌, ℕ, List, length, map, All, sym, ap, subst, ◌∙◌}
 use Rattle.std.specs.Prelude.{Ok}
 use Rattle.mp_forms.specs.declared.factor.Factor.{Factor}
-use Rattle.mp_grounder.specs.Checked.{IsChecked}
+use Rattle.mp_ground_laws.specs.Checked.{IsChecked}
 use Rattle.mp_joint.specs.Fact.{Text}
 use Rattle.mp_messages.specs.declared.history.Event.{Event}
 use Rattle.mp_world.specs.Team.{team_with}

@@ -1,7 +1,7 @@
 -- The tasks of a team's files are numbered, one for each agent.
 use Rattle.std.proofs.Common.{◌≡◌, List, All, length}
 use Rattle.mp_forms.specs.declared.factor.Factor.{Factor}
-use Rattle.mp_grounder.specs.Checked.{IsChecked}
+use Rattle.mp_ground_laws.specs.Checked.{IsChecked}
 use Rattle.mp_world.specs.World.{AreNumbered}
 use Rattle.mp_world.proofs.Agents.{agree_numbered}
 use Rattle.mp_split.specs.Team.{AreTasksOf}

@@ -1,7 +1,7 @@
 -- What renaming leaves as it is, in one record.
 use Rattle.std.specs.Prelude.{◌≡◌, ℕ, List, All}
 use Rattle.mp_forms.specs.declared.factor.Factor.{Factor}
-use Rattle.mp_grounder.specs.Checked.{IsChecked}
+use Rattle.mp_ground_laws.specs.Checked.{IsChecked}
 use Rattle.mp_split.specs.Team.{AreTasksOf}
 use Rattle.mp_split.specs.declared.team.Tasks.{Tasks}
 use Rattle.mp_stands.specs.Renaming.{Renaming}

@@ -2,7 +2,7 @@
 
 ghost use Rattle.std.specs.Prelude.{◌≡◌, ◌≤◌, ℕ, List, All, length};
 ghost use Rattle.mp_forms.specs.declared.factor.Factor.{Factor};
-ghost use Rattle.mp_grounder.specs.Checked.{IsChecked};
+ghost use Rattle.mp_ground_laws.specs.Checked.{IsChecked};
 ghost use Rattle.mp_joint.specs.Fact.{Text};
 ghost use Rattle.mp_messages.specs.declared.history.Event.{Event};
 ghost use Rattle.mp_solutions.specs.Solution.{IsFound, IsFoundInTurn, IsRefusedLine, IsReplayed};

@@ -1,7 +1,7 @@
 -- What teams have answered is right for their files.
 use Rattle.std.proofs.Common.{◌≡◌, ◌≤◌, ℕ, true, List, length, map, All, sym, subst}
 use Rattle.mp_forms.specs.declared.factor.Factor.{Factor}
-use Rattle.mp_grounder.specs.Checked.{IsChecked}
+use Rattle.mp_ground_laws.specs.Checked.{IsChecked}
 use Rattle.mp_machine.specs.Machine.{AgentMachine}
 use Rattle.mp_task.specs.Limits.{IsWithinLimits}
 use Rattle.mp_world.specs.Answers.{answer_of}

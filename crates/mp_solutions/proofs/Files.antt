@@ -17,7 +17,7 @@ use Rattle.mp_world.specs.World.{World}
 use Rattle.mp_world.specs.declared.answer.Answer.TheVariants.{Undecided}
 use Rattle.mp_world.proofs.Runs.{run_of_team}
 use Rattle.mp_world.proofs.Stepping.{team_size}
-use Rattle.mp_grounder.specs.Checked.{IsChecked}
+use Rattle.mp_ground_laws.specs.Checked.{IsChecked}
 use Rattle.mp_split.specs.Team.{AreTasksOf}
 use Rattle.mp_split.specs.declared.team.Tasks.{Tasks}
 use Rattle.mp_stands.proofs.Files.{files_stand}

@@ -6,8 +6,8 @@ use Rattle.mp_forms.specs.declared.factor.Factor.{Factor}
 use Rattle.mp_joint.specs.declared.plan.PlanStep.{PlanStep}
 use Rattle.mp_stands.specs.Numbering.{Numbering, steps_of}
 use Rattle.mp_list.proofs.Members.{from_map}
-use Rattle.mp_grounder.specs.Named.{step_of}
-use Rattle.mp_ground.specs.declared.grounded.Ground.{Ground}
+use Rattle.mp_ground_laws.specs.Named.{step_of}
+use Rattle.mp_grounder.specs.declared.grounded.Ground.{Ground}
 use Rattle.mp_split.specs.Team.{AreTasksOf}
 use Rattle.mp_split.specs.declared.team.Tasks.{Tasks}
 use Rattle.mp_stands.specs.Numbered.{IsNumberingOf}

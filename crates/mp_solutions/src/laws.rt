@@ -2,7 +2,7 @@
 
 ghost use Rattle.std.specs.Prelude.{◌≡◌, ◌≤◌, ℕ, true, length, List, Some, All};
 ghost use Rattle.mp_forms.specs.declared.factor.Factor.{Factor};
-ghost use Rattle.mp_grounder.specs.Checked.{IsChecked};
+ghost use Rattle.mp_ground_laws.specs.Checked.{IsChecked};
 ghost use Rattle.mp_joint.specs.declared.plan.PlanStep.{PlanStep};
 ghost use Rattle.mp_messages.specs.declared.history.Entry.{Entry};
 ghost use Rattle.mp_messages.specs.declared.history.Event.{Event};

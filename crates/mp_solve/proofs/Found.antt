@@ -4,7 +4,7 @@ use Rattle.std.proofs.Common.{sym, ap, subst, ◌∙◌}
 use Rattle.mp_forms.specs.declared.factor.Factor.{Factor}
 use Rattle.mp_joint.specs.declared.plan.PlanStep.{PlanStep}
 use Rattle.mp_task.specs.Limits.{IsWithinLimits}
-use Rattle.mp_grounder.specs.Checked.{IsChecked}
+use Rattle.mp_ground_laws.specs.Checked.{IsChecked}
 use Rattle.mp_machine.specs.AgentRecord.{AgentRecord}
 use Rattle.mp_messages.specs.declared.history.Entry.{Entry}
 use Rattle.mp_messages.specs.declared.history.Event.{Event}

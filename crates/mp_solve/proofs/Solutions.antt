@@ -3,7 +3,7 @@ use Rattle.std.proofs.Common.{◌≡◌, ◌≤◌, ℕ, List, length, All, Some
 use Rattle.std.proofs.Common.{sym, ap, subst, ◌∙◌}
 use Rattle.std.specs.Prelude.{IfOk, Result, Ok, Err}
 use Rattle.mp_forms.specs.declared.factor.Factor.{Factor}
-use Rattle.mp_grounder.specs.Checked.{IsChecked}
+use Rattle.mp_ground_laws.specs.Checked.{IsChecked}
 use Rattle.mp_messages.specs.declared.history.Event.{Event}
 use Rattle.mp_messages.specs.History.{schedule as schedule_of}
 use Rattle.mp_world.specs.Answers.{answer_of, outcome_of}

@@ -1,8 +1,8 @@
 -- Why a schedule is not replayed.
 use Rattle.std.specs.Prelude.{◌≡◌, ℕ, false, List, Some, Err, slice_get}
 use Rattle.mp_forms.specs.declared.factor.Factor.{Factor}
-use Rattle.mp_ground.specs.Limits.{IsWithin}
-use Rattle.mp_ground.specs.declared.refusal.GroundRefusal.TheVariants.{OutOfMemory}
+use Rattle.mp_grounder.specs.Limits.{IsWithin}
+use Rattle.mp_grounder.specs.declared.refusal.GroundRefusal.TheVariants.{OutOfMemory}
 use Rattle.mp_joint.specs.Fact.{Text}
 use Rattle.mp_solutions.specs.Solution.{IsRefusedLine, StopsAt}
 use Rattle.mp_split.specs.Team.{IsFirstRefusal, known_at}

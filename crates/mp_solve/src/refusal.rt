@@ -1,6 +1,6 @@
 //! Why a schedule is not replayed.
 
-use mp_ground::GroundRefusal;
+use mp_grounder::GroundRefusal;
 use mp_list::OutOfMemory;
 use thiserror::Error;
 
@@ -18,7 +18,7 @@ pub enum ReplayRefusal {
 
 impl From<OutOfMemory> for ReplayRefusal {
     ghost use Rattle.std.specs.Prelude.{◌≡◌};
-    ghost use Rattle.mp_ground.specs.declared.refusal.GroundRefusal.TheVariants as sizes;
+    ghost use Rattle.mp_grounder.specs.declared.refusal.GroundRefusal.TheVariants as sizes;
     ghost use Rattle.mp_solve.specs.declared.refusal.ReplayRefusal.TheVariants as refusals;
 
     ghost from_gives = { λ _ e. e ≡ refusals.Sizes sizes.OutOfMemory };

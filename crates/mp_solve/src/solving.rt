@@ -2,15 +2,15 @@
 
 ghost use Rattle.std.specs.Prelude.{◌≡◌, ◌≤◌, ℕ, length, Some, slice_get, IfOk, IfErr, OnOk};
 ghost use Rattle.mp_forms.specs.declared.factor.Factor.{Factor};
-ghost use Rattle.mp_ground.specs.Limits.{IsWithin};
+ghost use Rattle.mp_grounder.specs.Limits.{IsWithin};
 ghost use Rattle.mp_solutions.specs.Solution.{IsSolution};
 ghost use Rattle.mp_split.specs.Team.{AreTasksOf, IsFirstRefusal, known_at};
 ghost use Rattle.mp_world.specs.Team.{most_expansions};
 
 use crate::machines::ended;
 use crate::telling::solution_of;
-use mp_ground::GroundRefusal;
-use mp_grounder::laws::checked_factors_are_checked;
+use mp_ground_laws::laws::checked_factors_are_checked;
+use mp_grounder::GroundRefusal;
 use mp_list::OutOfMemory;
 use mp_solutions::{Solution, answers_are_right_for_files};
 use mp_split::{Tasks, tasks};

@@ -18,10 +18,10 @@ pub use Rattle.std.specs.Simd.Lanes.{zip2}
 pub use Rattle.std.specs.Str.{bytes_eq}
 pub use Rattle.std.specs.Vec.Iter.{into_iter_items, into_iter_len}
 pub use Rattle.mp_forms.specs.declared.factor.Factor.{Factor}
-pub use Rattle.mp_ground.specs.Grounded.{IsGrounded, Known}
-pub use Rattle.mp_ground.specs.Limits.{IsRefusedBy, IsWithin, KeepsLimits}
-pub use Rattle.mp_ground.specs.Places.{text_places_in}
-pub use Rattle.mp_ground.specs.declared.grounded.Ground.{Ground}
+pub use Rattle.mp_grounder.specs.Grounded.{IsGrounded, Known}
+pub use Rattle.mp_grounder.specs.Limits.{IsRefusedBy, IsWithin, KeepsLimits}
+pub use Rattle.mp_grounder.specs.Places.{text_places_in}
+pub use Rattle.mp_grounder.specs.declared.grounded.Ground.{Ground}
 pub use Rattle.mp_joint.specs.Fact.{Text, is_listed}
 pub use Rattle.mp_lifted.specs.declared.view.OpenView.{OpenView}
 pub use Rattle.mp_sexp.proofs.Places.{has_place}

@@ -5,8 +5,8 @@ use Rattle.std.proofs.lemmas.List.Elements.{All-map}
 use Rattle.std.proofs.lemmas.Option.{slice_get-get_or, slice_get_within}
 use Rattle.std.proofs.lemmas.Simd.{length-zip2}
 use Rattle.mp_task.specs.Limits.{IsWithinLimits}
-use Rattle.mp_ground.specs.declared.refusal.GroundRefusal.{GroundRefusal}
-use Rattle.mp_ground.specs.declared.refusal.GroundRefusal.TheVariants.{OutOfMemory}
+use Rattle.mp_grounder.specs.declared.refusal.GroundRefusal.{GroundRefusal}
+use Rattle.mp_grounder.specs.declared.refusal.GroundRefusal.TheVariants.{OutOfMemory}
 use Rattle.mp_split.specs.Begun.{IsBegun}
 use Rattle.mp_split.specs.Team.{AreGrounded, AreTasksOf, known_at, shown_by}
 use Rattle.mp_split.proofs.OneTask.{within_limits}

@@ -2,7 +2,7 @@
 use Rattle.mp_split.proofs.Basics.{◌≡◌, ℕ, ◌<◌, List, map, length, All, sym, ◌∙◌, slice_index_or, Act, ActFits, AllLess, ArePlaces, act_at}
 use Rattle.std.proofs.lemmas.List.{map-id}
 use Rattle.std.proofs.lemmas.List.Elements.{All-contains}
-use Rattle.mp_ground.proofs.Members.{map_on}
+use Rattle.mp_grounder.proofs.Members.{map_on}
 
 module _ (numbers : List ℕ) (places : ArePlaces numbers) (privates : ℕ) where
   act_stays : (act : Act) → ActFits (length numbers) privates act → act_at numbers act ≡ act

@@ -16,8 +16,8 @@ use Rattle.mp_sexp.proofs.NamesAt.{name_at_number, number_below}
 use Rattle.mp_sexp.proofs.Places.{equal}
 use Rattle.mp_typing.proofs.Placing.{place_passes, placed, skipped}
 use Rattle.mp_views.proofs.SortedLaws.{unchanged}
-use Rattle.mp_ground.proofs.Members.{map_on}
-use Rattle.mp_ground.proofs.Rising.{sorted_places}
+use Rattle.mp_grounder.proofs.Members.{map_on}
+use Rattle.mp_grounder.proofs.Rising.{sorted_places}
 
 -- a list of texts in the order of their bytes, each once
 abbrev pub Rises : List Text → Type 0

@@ -4,7 +4,7 @@ use Rattle.mp_split.proofs.Basics.{IsOfTeam, act_at, act_in, of_others, task_fro
 use Rattle.std.proofs.lemmas.List.Elements.{All-contains, All-filter, All-map, All-weaker}
 use Rattle.mp_task.specs.declared.act.Far.{Far}
 use Rattle.mp_task.specs.Limits.{IsWithinLimits}
-use Rattle.mp_ground.proofs.Members.{map_on}
+use Rattle.mp_grounder.proofs.Members.{map_on}
 use Rattle.mp_split.proofs.Numbering.{Rises, numbered, places_less, renumbered}
 
 module _ (table own : List Text) (numbers : List ℕ) (rises : Rises table) (own_is : AreOf table own) (are : numbers ≡ text_places_in table own) where

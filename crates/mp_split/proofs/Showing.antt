@@ -8,9 +8,9 @@ use Rattle.mp_joint.specs.declared.fact.SignedFact.{SignedFact}
 use Rattle.mp_lifted.specs.Texts.{signed_text}
 use Rattle.mp_typing.proofs.Placing.{places_rise}
 use Rattle.mp_views.specs.Public.{is_public as is_public_fact}
-use Rattle.mp_grounder.specs.Grounding.{GroundedInstance}
-use Rattle.mp_ground.specs.Grounded.{act_of, counted, instances_by_name, setting}
-use Rattle.mp_ground.specs.Places.{public_places_in}
+use Rattle.mp_ground_laws.specs.Grounding.{GroundedInstance}
+use Rattle.mp_grounder.specs.Grounded.{act_of, counted, instances_by_name, setting}
+use Rattle.mp_grounder.specs.Places.{public_places_in}
 use Rattle.mp_split.proofs.InOrder.{each_in_order, in_order_short}
 use Rattle.mp_split.proofs.Numbering.{AreIn, Rises, each_text_at, texts_at_rise}
 

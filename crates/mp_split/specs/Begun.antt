@@ -1,9 +1,9 @@
 -- The grounded factors of the first agents of a team.
 use Rattle.std.specs.Prelude.{◌≡◌, ℕ, List, Some, slice_get}
 use Rattle.mp_forms.specs.declared.factor.Factor.{Factor}
-use Rattle.mp_ground.specs.declared.grounded.Ground.{Ground}
-use Rattle.mp_ground.specs.Grounded.{IsGrounded, Known}
-use Rattle.mp_ground.specs.Limits.{IsWithin, KeepsLimits}
+use Rattle.mp_grounder.specs.declared.grounded.Ground.{Ground}
+use Rattle.mp_grounder.specs.Grounded.{IsGrounded, Known}
+use Rattle.mp_grounder.specs.Limits.{IsWithin, KeepsLimits}
 use Rattle.mp_split.specs.Team.{known_at}
 
 -- this is the grounded factor of what an agent knows, and no count passes its limit

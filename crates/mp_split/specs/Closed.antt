@@ -7,7 +7,7 @@ use Rattle.mp_joint.specs.Fact.{Text}
 use Rattle.mp_views.specs.declared.view.Part.{Part}
 use Rattle.mp_views.specs.declared.view.View.{View}
 use Rattle.mp_views.specs.Parts.{sorted_parts}
-use Rattle.mp_ground.specs.declared.grounded.Ground.{Ground}
+use Rattle.mp_grounder.specs.declared.grounded.Ground.{Ground}
 
 -- the texts at some places of a list
 abbrev pub texts_at : List Text → List ℕ → List Text

@@ -13,8 +13,8 @@ use Rattle.mp_task.specs.AgentTask.{AgentTask}
 use Rattle.mp_task.specs.Limits.{AllLess, FarFits}
 use Rattle.mp_views.specs.declared.view.Part.{Part}
 use Rattle.mp_views.specs.declared.view.View.{View}
-use Rattle.mp_ground.specs.declared.grounded.Ground.{Ground}
-use Rattle.mp_ground.specs.Limits.{KeepsLimits}
+use Rattle.mp_grounder.specs.declared.grounded.Ground.{Ground}
+use Rattle.mp_grounder.specs.Limits.{KeepsLimits}
 use Rattle.mp_split.specs.declared.common.Common.{Common}
 use Rattle.mp_split.specs.TaskOf.{act_in, far_in, is_goal, is_true}
 

@@ -10,8 +10,8 @@ use Rattle.mp_task.specs.AgentTask.{AgentTask}
 use Rattle.mp_views.specs.declared.view.Part.{Part}
 use Rattle.mp_views.specs.declared.view.View.{View}
 use Rattle.mp_views.specs.Sorted.{sorted_once}
-use Rattle.mp_ground.specs.declared.grounded.Ground.{Ground}
-use Rattle.mp_ground.specs.Places.{text_places_in}
+use Rattle.mp_grounder.specs.declared.grounded.Ground.{Ground}
+use Rattle.mp_grounder.specs.Places.{text_places_in}
 use Rattle.mp_split.specs.Closed.{texts_at}
 
 -- what the agents of a team show: their public initial facts together, and what each shows after grounding

@@ -4,10 +4,10 @@ use Rattle.mp_forms.specs.declared.factor.Factor.{Factor}
 use Rattle.mp_lifted.specs.declared.view.OpenView.{OpenView}
 use Rattle.mp_views.specs.Lines.{view_text}
 use Rattle.mp_views.specs.Opened.{joined, open_view}
-use Rattle.mp_ground.specs.declared.grounded.Ground.{Ground}
-use Rattle.mp_ground.specs.declared.refusal.GroundRefusal.{GroundRefusal}
-use Rattle.mp_ground.specs.Grounded.{IsGrounded, Known}
-use Rattle.mp_ground.specs.Limits.{IsRefusedBy, IsWithin, KeepsLimits}
+use Rattle.mp_grounder.specs.declared.grounded.Ground.{Ground}
+use Rattle.mp_grounder.specs.declared.refusal.GroundRefusal.{GroundRefusal}
+use Rattle.mp_grounder.specs.Grounded.{IsGrounded, Known}
+use Rattle.mp_grounder.specs.Limits.{IsRefusedBy, IsWithin, KeepsLimits}
 use Rattle.mp_split.specs.declared.team.Tasks.{Tasks}
 use Rattle.mp_split.specs.Closed.{closed_view}
 use Rattle.mp_split.specs.TaskOf.{Shown, task_of}

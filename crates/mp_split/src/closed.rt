@@ -4,10 +4,10 @@ ghost use Rattle.std.specs.Prelude.{◌≡◌, ◌++◌, ◌∷◌, [], List, tr
 ghost use Rattle.mp_joint.specs.Fact.{Text};
 ghost use Rattle.mp_task.specs.Public.{is_public as is_public_act};
 ghost use Rattle.mp_views.specs.Parts.{sorted_parts as parts_in_order};
-ghost use Rattle.mp_ground.specs.Limits.{KeepsLimits};
+ghost use Rattle.mp_grounder.specs.Limits.{KeepsLimits};
 ghost use Rattle.mp_split.specs.Closed.{texts_at as texts_of, is_number_in, part_of as part_of_act, is_met as are_met, closed_view as view_of};
 
-use mp_ground::Ground;
+use mp_grounder::Ground;
 use mp_lifted::FactTexts;
 use mp_list::{Copied, List, OutOfMemory};
 use mp_sets::Bits;

@@ -7,7 +7,7 @@ ghost use Rattle.std.specs.Ordering.{nat_cmp};
 ghost use Rattle.mp_sets.specs.Numbers.{IsAboveLast};
 ghost use Rattle.mp_sexp.specs.Numbers.{number_in};
 ghost use Rattle.mp_task.specs.Limits.{AllLess};
-ghost use Rattle.mp_ground.specs.Places.{text_places_in};
+ghost use Rattle.mp_grounder.specs.Places.{text_places_in};
 ghost use Rattle.mp_split.specs.Common.{AreOf};
 
 use mp_list::OutOfMemory;

@@ -11,7 +11,7 @@ ghost use Rattle.mp_split.specs.TaskOf.{act_in};
 use crate::common::Common;
 use crate::numbers::{numbers_at, numbers_of};
 use crate::team::{Tasks, Views};
-use mp_ground::Ground;
+use mp_grounder::Ground;
 use mp_lifted::FactTexts;
 use mp_list::{Copied, List, OutOfMemory};
 use mp_sets::{Agent, FactList};

@@ -19,12 +19,12 @@ use Rattle.mp_stands.specs.Touched as levels
 use Rattle.mp_stands.specs.Touched.{factor_of, IsGrounded as IsGroundedStep}
 use Rattle.mp_stands.proofs.MemberLists.{mapped}
 use Rattle.mp_list.proofs.Members.{to_map, from_map}
-use Rattle.mp_grounder.specs.Checked.{IsChecked}
-use Rattle.mp_grounder.specs.Counted.{named_goals, touched_by}
-use Rattle.mp_grounder.specs.Grounding.{GroundedStep, GroundedInstance, grounded, grounded_instance}
-use Rattle.mp_ground.specs.declared.grounded.Ground.{Ground}
-use Rattle.mp_ground.specs.Grounded.{act_of, counted}
-use Rattle.mp_ground.specs.Places.{places_in, public_places_in}
+use Rattle.mp_ground_laws.specs.Checked.{IsChecked}
+use Rattle.mp_ground_laws.specs.Counted.{named_goals, touched_by}
+use Rattle.mp_ground_laws.specs.Grounding.{GroundedStep, GroundedInstance, grounded, grounded_instance}
+use Rattle.mp_grounder.specs.declared.grounded.Ground.{Ground}
+use Rattle.mp_grounder.specs.Grounded.{act_of, counted}
+use Rattle.mp_grounder.specs.Places.{places_in, public_places_in}
 use Rattle.mp_split.specs.Closed.{texts_at}
 use Rattle.mp_split.specs.TaskOf.{numbered_act, numbers}
 use Rattle.mp_split.specs.Team.{AreGrounded, known_at, shown_by}

@@ -19,8 +19,8 @@ use Rattle.mp_task.specs.Public as task
 use Rattle.mp_task.proofs.Agreeing.{Contains-slice_get}
 use Rattle.mp_views.specs.declared.view.View.{View}
 use Rattle.mp_stands.proofs.MemberLists.{has_place, mapped}
-use Rattle.mp_grounder.specs.Checked.{IsChecked}
-use Rattle.mp_ground.specs.declared.grounded.Ground.{Ground}
+use Rattle.mp_ground_laws.specs.Checked.{IsChecked}
+use Rattle.mp_grounder.specs.declared.grounded.Ground.{Ground}
 use Rattle.mp_split.specs.Closed.{closed_view, part_of}
 use Rattle.mp_split.specs.TaskOf.{Shown, numbered_act, far_part, parts_for, task_of}
 use Rattle.mp_split.specs.Team.{AreGrounded, shown_by}

@@ -8,9 +8,9 @@ use Rattle.mp_lifted.specs.declared.lifted.LiftedFactor.{LiftedFactor}
 use Rattle.mp_lifted.specs.declared.view.OpenView.{OpenView}
 use Rattle.mp_lifted.specs.Factors.{lifted_factor}
 use Rattle.mp_lifted.specs.Vocabulary.{vocabulary_of}
-use Rattle.mp_grounder.specs.Checked.{IsChecked}
-use Rattle.mp_grounder.specs.Named.{action_names}
-use Rattle.mp_grounder.proofs.Parts.{parts_of}
+use Rattle.mp_ground_laws.specs.Checked.{IsChecked}
+use Rattle.mp_ground_laws.specs.Named.{action_names}
+use Rattle.mp_ground_laws.proofs.Parts.{parts_of}
 use Rattle.mp_stands.specs.Renaming.{Renaming, IsRenaming, IsRenamingOf, IsRenamed, renamed, renamed_schema, same_names}
 use Rattle.mp_stands.specs.Translation.{AreAlike, AreAlikeButKnown}
 use Rattle.mp_stands.proofs.Naming.Factors.{renamed_is_alike}

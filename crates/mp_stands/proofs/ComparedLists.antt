@@ -2,7 +2,7 @@
 use Rattle.std.proofs.Common.{arith, ◌≡◌, ℕ, zero, suc, List, [], ◌∷◌, map, length, Some, slice_get, All, refl, sym, ◌∙◌}
 use Rattle.std.proofs.lemmas.List.{map-id}
 use Rattle.std.proofs.lemmas.List.Elements.{All-contains}
-use Rattle.mp_ground.proofs.Members.{map_on}
+use Rattle.mp_grounder.proofs.Members.{map_on}
 
 -- two lists that two functions take to the same, place by place
 pub mapped_alike : {X Y Z : Type 0} (p : X → Z) (q : Y → Z) (xs : List X) (ys : List Y) → length ys ≡ length xs

@@ -11,9 +11,9 @@ use Rattle.mp_stands.specs.Touched.{needed, added, deleted, goals, IsCounted}
 use Rattle.mp_stands.proofs.Contributed.{contributed}
 use Rattle.mp_list.proofs.Members.{to_map, from_map, from_flat_map}
 use Rattle.mp_stands.proofs.Signed.{signed_cases, among_plain, among_complement}
-use Rattle.mp_grounder.specs.Checked.{IsChecked}
-use Rattle.mp_grounder.specs.Counted.{touched_by, named_goals}
-use Rattle.mp_grounder.specs.Grounding.{GroundedStep, GroundedInstance, grounded, grounded_instance}
+use Rattle.mp_ground_laws.specs.Checked.{IsChecked}
+use Rattle.mp_ground_laws.specs.Counted.{touched_by, named_goals}
+use Rattle.mp_ground_laws.specs.Grounding.{GroundedStep, GroundedInstance, grounded, grounded_instance}
 use Rattle.mp_stands.specs.Knowing.{known_setting, IsCountedByOne, IsGoalOfOne}
 use Rattle.mp_stands.proofs.GroundedSteps.{IsAgent, to_team, from_team, same_needed, same_added, same_deleted}
 use Rattle.mp_stands.proofs.JoinedLists.{in_parts}

@@ -15,10 +15,10 @@ use Rattle.mp_joint.specs.FactorContribution.{instance_of_schema}
 use Rattle.mp_joint.specs.Grounded.{Setting, suits_start}
 use Rattle.mp_bindings.specs.Bindings.{product}
 use Rattle.mp_stands.proofs.MemberLists.{chosen}
-use Rattle.mp_grounder.specs.Checked.{IsChecked}
-use Rattle.mp_grounder.specs.Grounding.{GroundedStep, members_by_name, step_with, grounded_at, grounded_of, grounded}
-use Rattle.mp_grounder.proofs.Facts.{objects_distinct}
-use Rattle.mp_grounder.proofs.Parts.{parts_of}
+use Rattle.mp_ground_laws.specs.Checked.{IsChecked}
+use Rattle.mp_ground_laws.specs.Grounding.{GroundedStep, members_by_name, step_with, grounded_at, grounded_of, grounded}
+use Rattle.mp_ground_laws.proofs.Facts.{objects_distinct}
+use Rattle.mp_ground_laws.proofs.Parts.{parts_of}
 use Rattle.mp_stands.proofs.JoinedLists.{from_given}
 use Rattle.mp_stands.proofs.Made.{itself}
 use Rattle.mp_stands.proofs.Once.{AreOnce, once_pairs, once_parts, once_given, once_map, once_some, distinct_once}

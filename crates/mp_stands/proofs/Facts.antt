@@ -18,12 +18,12 @@ use Rattle.mp_instances.specs.Instances.{instances}
 use Rattle.mp_ground_facts.specs.Touched.{counted}
 use Rattle.mp_list.proofs.Members.{from_map}
 use Rattle.mp_stands.proofs.Owners.{IsFactOf}
-use Rattle.mp_grounder.specs.Checked.{IsChecked}
-use Rattle.mp_grounder.specs.Counted.{counted_facts}
-use Rattle.mp_grounder.specs.Numbered.{signed_fact, IsObject, IsOfFactor}
-use Rattle.mp_grounder.proofs.Counted.{all_counted}
-use Rattle.mp_grounder.proofs.Numbered.{named_at}
-use Rattle.mp_grounder.proofs.Ordered.{counted_stand}
+use Rattle.mp_ground_laws.specs.Checked.{IsChecked}
+use Rattle.mp_ground_laws.specs.Counted.{counted_facts}
+use Rattle.mp_ground_laws.specs.Numbered.{signed_fact, IsObject, IsOfFactor}
+use Rattle.mp_ground_laws.proofs.Counted.{all_counted}
+use Rattle.mp_ground_laws.proofs.Numbered.{named_at}
+use Rattle.mp_ground_laws.proofs.Ordered.{counted_stand}
 use Rattle.mp_stands.specs.Declared.{AreDeclared}
 use Rattle.mp_stands.proofs.Words.{AreSpelled, text_tells, complement_tells, not_both}
 

@@ -7,8 +7,8 @@ use Rattle.mp_task.specs.AgentTask.{AgentTask}
 use Rattle.mp_stands.specs.Numbering.{Numbering}
 use Rattle.mp_stands.specs.Stands.{AreTrueAtStart, Stands}
 use Rattle.mp_list.proofs.Members.{from_map}
-use Rattle.mp_grounder.specs.Checked.{IsChecked}
-use Rattle.mp_ground.specs.declared.grounded.Ground.{Ground}
+use Rattle.mp_ground_laws.specs.Checked.{IsChecked}
+use Rattle.mp_grounder.specs.declared.grounded.Ground.{Ground}
 use Rattle.mp_split.specs.declared.team.Tasks.{Tasks}
 use Rattle.mp_split.specs.TaskOf.{task_of}
 use Rattle.mp_split.specs.Team.{AreGrounded, AreTasksOf, shown_by}

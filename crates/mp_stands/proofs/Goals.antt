@@ -24,11 +24,11 @@ use Rattle.mp_stands.specs.Stands.{AreTrueAtStart, is_known_to}
 use Rattle.mp_stands.specs.Touched.{factor_of, goals}
 use Rattle.mp_stands.proofs.MemberLists.{has_place}
 use Rattle.mp_stands.proofs.Owners.{same_agent}
-use Rattle.mp_grounder.specs.Checked.{IsChecked}
-use Rattle.mp_grounder.specs.Counted.{counted_facts, named_goals}
-use Rattle.mp_ground.specs.declared.grounded.Ground.{Ground}
-use Rattle.mp_ground.specs.Grounded.{IsGrounded}
-use Rattle.mp_ground.specs.Places.{places_in}
+use Rattle.mp_ground_laws.specs.Checked.{IsChecked}
+use Rattle.mp_ground_laws.specs.Counted.{counted_facts, named_goals}
+use Rattle.mp_grounder.specs.declared.grounded.Ground.{Ground}
+use Rattle.mp_grounder.specs.Grounded.{IsGrounded}
+use Rattle.mp_grounder.specs.Places.{places_in}
 use Rattle.mp_split.specs.Closed.{closed_view, texts_at}
 use Rattle.mp_split.specs.TaskOf.{is_goal}
 use Rattle.mp_split.specs.Team.{AreGrounded, known_at, open_views}

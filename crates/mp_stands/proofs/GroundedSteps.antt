@@ -26,9 +26,9 @@ use Rattle.mp_stands.proofs.MemberLists.{found_in, chosen, mapped}
 use Rattle.mp_list.proofs.Members.{from_flat_map}
 use Rattle.mp_stands.proofs.Owners.{factor_in_team}
 use Rattle.mp_bindings.specs.Bindings.{product}
-use Rattle.mp_grounder.specs.Checked.{IsChecked}
-use Rattle.mp_grounder.specs.Grounding.{GroundedStep, members_by_name, step_with, grounded_at, grounded_of, grounded}
-use Rattle.mp_grounder.proofs.Parts.{IsAtom, IsSchema, parts_of}
+use Rattle.mp_ground_laws.specs.Checked.{IsChecked}
+use Rattle.mp_ground_laws.specs.Grounding.{GroundedStep, members_by_name, step_with, grounded_at, grounded_of, grounded}
+use Rattle.mp_ground_laws.proofs.Parts.{IsAtom, IsSchema, parts_of}
 use Rattle.mp_stands.specs.Knowing.{known_setting}
 use Rattle.mp_stands.proofs.JoinedLists.{all_same, from_given, in_given, in_parts, found_passes}
 use Rattle.mp_stands.proofs.Named.{AreStanding, are_standing, is_choice, atom_declared}

@@ -16,11 +16,11 @@ use Rattle.mp_bindings.specs.Bindings.{product}
 use Rattle.mp_lifted.specs.Atoms.{atom_at, atoms_at}
 use Rattle.mp_lifted.specs.Start.{is_true_at_start}
 use Rattle.mp_instances.specs.Instances.{is_known, suits, binding_of, instances_of, instances}
-use Rattle.mp_grounder.specs.Checked.{IsChecked}
-use Rattle.mp_grounder.specs.Numbered.{numbered_action, IsBinding, IsInRange}
-use Rattle.mp_grounder.proofs.Atoms.{some_stand}
-use Rattle.mp_grounder.proofs.Choosing.{IsChoice, products_are_choices}
-use Rattle.mp_grounder.proofs.Parts.{IsSchema, parts_of}
+use Rattle.mp_ground_laws.specs.Checked.{IsChecked}
+use Rattle.mp_ground_laws.specs.Numbered.{numbered_action, IsBinding, IsInRange}
+use Rattle.mp_ground_laws.proofs.Atoms.{some_stand}
+use Rattle.mp_ground_laws.proofs.Choosing.{IsChoice, products_are_choices}
+use Rattle.mp_ground_laws.proofs.Parts.{IsSchema, parts_of}
 use Rattle.mp_stands.specs.Translation.{AreAlike}
 use Rattle.mp_stands.proofs.SameStarts.{with_known, same_with_known}
 

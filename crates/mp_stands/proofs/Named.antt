@@ -24,9 +24,9 @@ use Rattle.mp_joint.specs.Grounding.{standing_for, object_of, objects_of}
 use Rattle.mp_lifted.specs.Vocabulary.{vocabulary_of}
 use Rattle.mp_bindings.specs.Bindings.{product}
 use Rattle.mp_stands.proofs.MemberLists.{found_in}
-use Rattle.mp_grounder.specs.Grounding.{members_by_name}
-use Rattle.mp_grounder.proofs.Atoms.{object_stands}
-use Rattle.mp_grounder.proofs.Parts.{IsDeclared, IsAtom}
+use Rattle.mp_ground_laws.specs.Grounding.{members_by_name}
+use Rattle.mp_ground_laws.proofs.Atoms.{object_stands}
+use Rattle.mp_ground_laws.proofs.Parts.{IsDeclared, IsAtom}
 use Rattle.mp_stands.specs.Declared.{AreDeclared}
 use Rattle.mp_stands.proofs.JoinedLists.{in_parts, found_passes}
 

@@ -6,10 +6,10 @@ use Rattle.mp_joint.specs.declared.fact.SignedFact.{SignedFact}
 use Rattle.mp_joint.specs.declared.plan.PlanStep.{PlanStep}
 use Rattle.mp_lifted.specs.Texts.{signed_text}
 use Rattle.mp_stands.specs.Numbering.{Numbering}
-use Rattle.mp_grounder.specs.Checked.{IsChecked}
-use Rattle.mp_grounder.specs.Named.{step_of}
-use Rattle.mp_ground.specs.declared.grounded.Ground.{Ground}
-use Rattle.mp_ground.specs.Grounded.{IsGrounded}
+use Rattle.mp_ground_laws.specs.Checked.{IsChecked}
+use Rattle.mp_ground_laws.specs.Named.{step_of}
+use Rattle.mp_grounder.specs.declared.grounded.Ground.{Ground}
+use Rattle.mp_grounder.specs.Grounded.{IsGrounded}
 use Rattle.mp_split.specs.Team.{AreGrounded, known_at}
 use Rattle.mp_stands.specs.Numbered.{IsNumberingOf}
 use Rattle.mp_stands.proofs.Made.{has_list, has_sources}

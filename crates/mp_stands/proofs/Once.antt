@@ -10,7 +10,7 @@ use Rattle.std.specs.Str.{bytes_eq}
 use Rattle.mp_list.proofs.Members.{contains_head, contains_tail, contains_cases, no_member, any_from, to_map, from_map}
 use Rattle.mp_joint.specs.Fact.{Text}
 use Rattle.mp_typing.proofs.Passing.{taken_passes}
-use Rattle.mp_grounder.proofs.Distinct.{AreDistinct}
+use Rattle.mp_ground_laws.proofs.Distinct.{AreDistinct}
 use Rattle.mp_stands.proofs.JoinedLists.{from_given}
 
 -- no later item has the key of an earlier one

@@ -14,11 +14,11 @@ use Rattle.mp_lifted.specs.Vocabulary.{vocabulary_of}
 use Rattle.mp_stands.specs.Stands.{AreCounted}
 use Rattle.mp_stands.specs.Touched.{factor_of}
 use Rattle.mp_stands.proofs.Owners.{owner_is, same_agent}
-use Rattle.mp_grounder.specs.Checked.{IsChecked}
-use Rattle.mp_grounder.specs.Counted.{counted_facts, signed_cmp}
-use Rattle.mp_ground.specs.declared.grounded.Ground.{Ground}
-use Rattle.mp_ground.specs.Grounded.{IsGrounded, Known, counted}
-use Rattle.mp_ground.specs.Places.{is_private}
+use Rattle.mp_ground_laws.specs.Checked.{IsChecked}
+use Rattle.mp_ground_laws.specs.Counted.{counted_facts, signed_cmp}
+use Rattle.mp_grounder.specs.declared.grounded.Ground.{Ground}
+use Rattle.mp_grounder.specs.Grounded.{IsGrounded, Known, counted}
+use Rattle.mp_grounder.specs.Places.{is_private}
 use Rattle.mp_split.specs.Team.{known_at, open_views}
 use Rattle.mp_stands.specs.Knowing.{known_setting, IsCountedByOne}
 use Rattle.mp_stands.proofs.Counts.{same_counted}

@@ -20,7 +20,7 @@ use Rattle.mp_joint.specs.Fact.{Text, is_listed}
 use Rattle.mp_views.specs.declared.view.Part.{Part}
 use Rattle.mp_views.specs.Lines.{part_line}
 use Rattle.mp_stands.proofs.MemberLists.{has_place}
-use Rattle.mp_ground.specs.Places.{text_places_in}
+use Rattle.mp_grounder.specs.Places.{text_places_in}
 use Rattle.mp_split.specs.Closed.{texts_at, is_number_in, part_of}
 use Rattle.mp_split.specs.TaskOf.{Shown, table, numbers, numbered_act, far_part}
 use Rattle.mp_stands.proofs.Lines.{IsWhole, line_tells}

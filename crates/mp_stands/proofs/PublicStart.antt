@@ -15,8 +15,8 @@ use Rattle.mp_joint.specs.Instance.{holds}
 use Rattle.mp_joint.specs.Plan.{joint_start}
 use Rattle.mp_lifted.specs.Texts.{bracketed, fact_text, signed_text}
 use Rattle.mp_stands.specs.Stands.{AreTrueAtStart}
-use Rattle.mp_grounder.specs.Checked.{IsChecked}
-use Rattle.mp_ground.specs.declared.grounded.Ground.{Ground}
+use Rattle.mp_ground_laws.specs.Checked.{IsChecked}
+use Rattle.mp_grounder.specs.declared.grounded.Ground.{Ground}
 use Rattle.mp_split.specs.TaskOf.{complemented, is_complement, is_true}
 use Rattle.mp_split.specs.Team.{AreGrounded, open_views}
 use Rattle.mp_stands.proofs.Facts.{IsTold, nobody}

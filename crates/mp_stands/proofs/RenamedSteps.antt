@@ -12,12 +12,12 @@ use Rattle.mp_lifted.specs.Factors.{lifted_factor}
 use Rattle.mp_lifted.specs.Vocabulary.{vocabulary_of}
 use Rattle.mp_lifted.specs.Binding.{ActionBinding}
 use Rattle.mp_instances.specs.Instances.{instances}
-use Rattle.mp_grounder.specs.Checked.{IsChecked}
-use Rattle.mp_grounder.specs.Named.{action_names, named_objects, step_of}
-use Rattle.mp_grounder.specs.Numbered.{IsInstance, IsObject}
-use Rattle.mp_grounder.proofs.Counted.{all_instances}
-use Rattle.mp_ground.specs.declared.grounded.Ground.{Ground}
-use Rattle.mp_ground.specs.Grounded.{IsGrounded}
+use Rattle.mp_ground_laws.specs.Checked.{IsChecked}
+use Rattle.mp_ground_laws.specs.Named.{action_names, named_objects, step_of}
+use Rattle.mp_ground_laws.specs.Numbered.{IsInstance, IsObject}
+use Rattle.mp_ground_laws.proofs.Counted.{all_instances}
+use Rattle.mp_grounder.specs.declared.grounded.Ground.{Ground}
+use Rattle.mp_grounder.specs.Grounded.{IsGrounded}
 use Rattle.mp_stands.specs.Renaming.{Renaming, IsRenaming, IsRenamed}
 use Rattle.mp_stands.specs.Team.{renamed_step}
 use Rattle.mp_stands.proofs.Alike.{renamed_alike, renamed_objects, renamed_actions}

@@ -15,15 +15,15 @@ use Rattle.mp_ground_facts.specs.Ground.{facts_of, ground_action, ground_factor}
 use Rattle.mp_ground_facts.specs.Touched.{counted as counted_at}
 use Rattle.mp_ground_facts.proofs.FactsOf.{facts_are_counted}
 use Rattle.mp_views.specs.Public.{is_public}
-use Rattle.mp_grounder.specs.Checked.{IsChecked}
-use Rattle.mp_grounder.specs.Named.{step_of}
-use Rattle.mp_grounder.specs.Numbered.{signed_fact, IsOfFactor}
-use Rattle.mp_grounder.proofs.Counted.{all_counted}
-use Rattle.mp_grounder.proofs.Starts.{public_is}
-use Rattle.mp_ground.specs.declared.grounded.Ground.{Ground}
-use Rattle.mp_ground.specs.Grounded.{IsGrounded, Known}
-use Rattle.mp_ground.specs.Numbered.{fact_names, text_at, binding_at, ground_at}
-use Rattle.mp_ground.proofs.Standing.{is_grounded}
+use Rattle.mp_ground_laws.specs.Checked.{IsChecked}
+use Rattle.mp_ground_laws.specs.Named.{step_of}
+use Rattle.mp_ground_laws.specs.Numbered.{signed_fact, IsOfFactor}
+use Rattle.mp_ground_laws.proofs.Counted.{all_counted}
+use Rattle.mp_ground_laws.proofs.Starts.{public_is}
+use Rattle.mp_grounder.specs.declared.grounded.Ground.{Ground}
+use Rattle.mp_grounder.specs.Grounded.{IsGrounded, Known}
+use Rattle.mp_grounder.specs.Numbered.{fact_names, text_at, binding_at, ground_at}
+use Rattle.mp_grounder.proofs.Standing.{is_grounded}
 use Rattle.mp_stands.specs.Translation.{AreAlike}
 use Rattle.mp_stands.proofs.Instances.{same_instances}
 use Rattle.mp_stands.proofs.SameNumbers.{same_grounding, same_by_texts, same_texts}

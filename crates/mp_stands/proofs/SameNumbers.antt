@@ -17,10 +17,10 @@ use Rattle.mp_ground_facts.specs.Ground.{GroundFactor, facts_of, numbers_of, gro
 use Rattle.mp_ground_facts.specs.Touched.{goal_facts}
 use Rattle.mp_ground_facts.proofs.FactsOf.{facts_rise}
 use Rattle.mp_views.specs.Sorted.{sorted_once}
-use Rattle.mp_ground.specs.declared.names.FactNames.{FactNames}
-use Rattle.mp_ground.specs.Numbered.{text_at, count_private, public_texts_at, places_of, rising, private_numbers, public_numbers, act_at, binding_at, ground_at}
-use Rattle.mp_ground.proofs.Members.{map_on}
-use Rattle.mp_ground.proofs.Parted.{passing_behind}
+use Rattle.mp_grounder.specs.declared.names.FactNames.{FactNames}
+use Rattle.mp_grounder.specs.Numbered.{text_at, count_private, public_texts_at, places_of, rising, private_numbers, public_numbers, act_at, binding_at, ground_at}
+use Rattle.mp_grounder.proofs.Members.{map_on}
+use Rattle.mp_grounder.proofs.Parted.{passing_behind}
 use Rattle.mp_stands.specs.Translation.{AreAlikeButKnown}
 
 -- ---- in numbers

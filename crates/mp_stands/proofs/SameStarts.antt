@@ -18,11 +18,11 @@ use Rattle.mp_lifted.specs.Texts.{bracketed, fact_text}
 use Rattle.mp_lifted.specs.Vocabulary.{vocabulary_of}
 use Rattle.mp_lifted.specs.Atoms.{is_among}
 use Rattle.mp_lifted.specs.Start.{is_so, is_private, is_true_at_start}
-use Rattle.mp_grounder.specs.Checked.{IsChecked}
-use Rattle.mp_grounder.specs.Named.{named_objects}
-use Rattle.mp_grounder.specs.Numbered.{named_fact, IsObject, IsInRange}
-use Rattle.mp_grounder.proofs.Parts.{parts_of}
-use Rattle.mp_grounder.proofs.Texts.{known_texts}
+use Rattle.mp_ground_laws.specs.Checked.{IsChecked}
+use Rattle.mp_ground_laws.specs.Named.{named_objects}
+use Rattle.mp_ground_laws.specs.Numbered.{named_fact, IsObject, IsInRange}
+use Rattle.mp_ground_laws.proofs.Parts.{parts_of}
+use Rattle.mp_ground_laws.proofs.Texts.{known_texts}
 use Rattle.mp_stands.specs.Translation.{AreAlike}
 
 -- a flag that is false stands there

@@ -22,10 +22,10 @@ use Rattle.mp_views.specs.Lines.{part_line}
 use Rattle.mp_views.specs.Parts.{part_cmp, sorted_parts}
 use Rattle.mp_views.specs.Public.{is_public}
 use Rattle.mp_views.proofs.SortedLaws.{rises, same_members, texts_rise}
-use Rattle.mp_grounder.specs.Checked.{IsChecked}
-use Rattle.mp_ground.specs.declared.grounded.Ground.{Ground}
-use Rattle.mp_ground.specs.Grounded.{IsGrounded, act_of, counted, instances_by_name}
-use Rattle.mp_ground.specs.Limits.{KeepsLimits}
+use Rattle.mp_ground_laws.specs.Checked.{IsChecked}
+use Rattle.mp_grounder.specs.declared.grounded.Ground.{Ground}
+use Rattle.mp_grounder.specs.Grounded.{IsGrounded, act_of, counted, instances_by_name}
+use Rattle.mp_grounder.specs.Limits.{KeepsLimits}
 use Rattle.mp_split.specs.Closed.{closed_view, part_of}
 use Rattle.mp_split.specs.TaskOf.{Shown, table, far_part}
 use Rattle.mp_split.specs.Team.{AreGrounded, known_at, shown_by}

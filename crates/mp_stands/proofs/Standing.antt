@@ -11,8 +11,8 @@ use Rattle.mp_stands.specs.Stands.{AreCounted, AreActionsOf, AreTrueAtStart, is_
 use Rattle.mp_stands.specs.Touched.{goals}
 use Rattle.mp_stands.proofs.MemberLists.{has_place}
 use Rattle.mp_list.proofs.Members.{from_map}
-use Rattle.mp_grounder.specs.Checked.{IsChecked}
-use Rattle.mp_ground.specs.declared.grounded.Ground.{Ground}
+use Rattle.mp_ground_laws.specs.Checked.{IsChecked}
+use Rattle.mp_grounder.specs.declared.grounded.Ground.{Ground}
 use Rattle.mp_split.specs.TaskOf.{task_of}
 use Rattle.mp_split.specs.Team.{AreGrounded, shown_by}
 use Rattle.mp_stands.specs.Numbered.{IsNumberingOf}

@@ -25,8 +25,8 @@ use Rattle.mp_stands.specs.Touched.{factor_of}
 use Rattle.mp_stands.proofs.Contributed.{contribution_is, contributed}
 use Rattle.mp_stands.proofs.Owners.{IsFactOf, owner_is, same_agent}
 use Rattle.mp_joint.proofs.SameFacts.{Decides-among}
-use Rattle.mp_grounder.specs.Checked.{IsChecked}
-use Rattle.mp_grounder.proofs.Parts.{IsAtom, parts_of}
+use Rattle.mp_ground_laws.specs.Checked.{IsChecked}
+use Rattle.mp_ground_laws.proofs.Parts.{IsAtom, parts_of}
 use Rattle.mp_split.specs.Team.{open_views}
 use Rattle.mp_stands.specs.Declared.{AreDeclared}
 use Rattle.mp_stands.proofs.JoinedLists.{any_of_map, any_of_parts}

@@ -20,10 +20,10 @@ use Rattle.mp_views.proofs.SortedLaws.{same_texts, texts_rise}
 use Rattle.mp_stands.specs.Stands.{AreCounted}
 use Rattle.mp_stands.specs.Touched.{factor_of}
 use Rattle.mp_stands.proofs.MemberLists.{has_place}
-use Rattle.mp_grounder.specs.Checked.{IsChecked}
-use Rattle.mp_grounder.specs.Counted.{counted_facts}
-use Rattle.mp_ground.specs.declared.grounded.Ground.{Ground}
-use Rattle.mp_ground.specs.Grounded.{counted}
+use Rattle.mp_ground_laws.specs.Checked.{IsChecked}
+use Rattle.mp_ground_laws.specs.Counted.{counted_facts}
+use Rattle.mp_grounder.specs.declared.grounded.Ground.{Ground}
+use Rattle.mp_grounder.specs.Grounded.{counted}
 use Rattle.mp_split.specs.Closed.{closed_view}
 use Rattle.mp_split.specs.TaskOf.{table}
 use Rattle.mp_split.specs.Team.{AreGrounded, known_at, open_views, shown_by}

@@ -15,11 +15,11 @@ use Rattle.mp_lifted.specs.Texts.{signed_text}
 use Rattle.mp_views.specs.Public.{is_public}
 use Rattle.mp_stands.specs.Numbering.{HasNumberAmong, StandsForOneOf, AreNumbersOf}
 use Rattle.mp_stands.proofs.MemberLists.{has_place, mapped}
-use Rattle.mp_grounder.specs.Checked.{IsChecked}
-use Rattle.mp_ground.specs.declared.grounded.Ground.{Ground}
-use Rattle.mp_ground.specs.Grounded.{IsGrounded, counted}
-use Rattle.mp_ground.specs.Places.{same_signed, is_one_of, places_in, public_places_in}
-use Rattle.mp_ground.proofs.SameFacts.{same_signed_is, signed_itself}
+use Rattle.mp_ground_laws.specs.Checked.{IsChecked}
+use Rattle.mp_grounder.specs.declared.grounded.Ground.{Ground}
+use Rattle.mp_grounder.specs.Grounded.{IsGrounded, counted}
+use Rattle.mp_grounder.specs.Places.{same_signed, is_one_of, places_in, public_places_in}
+use Rattle.mp_grounder.proofs.SameFacts.{same_signed_is, signed_itself}
 use Rattle.mp_split.specs.Closed.{texts_at}
 use Rattle.mp_split.specs.TaskOf.{numbers}
 use Rattle.mp_split.specs.Team.{AreGrounded, known_at, shown_by}

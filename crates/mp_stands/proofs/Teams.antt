@@ -10,10 +10,10 @@ use Rattle.mp_lifted.specs.declared.view.OpenView.{OpenView}
 use Rattle.mp_lifted.specs.Binding.{ActionBinding}
 use Rattle.mp_views.specs.Lines.{view_text}
 use Rattle.mp_views.specs.Opened.{joined, open_view}
-use Rattle.mp_grounder.specs.Checked.{IsChecked}
-use Rattle.mp_grounder.specs.Named.{step_of}
-use Rattle.mp_ground.specs.declared.grounded.Ground.{Ground}
-use Rattle.mp_ground.specs.Grounded.{IsGrounded}
+use Rattle.mp_ground_laws.specs.Checked.{IsChecked}
+use Rattle.mp_ground_laws.specs.Named.{step_of}
+use Rattle.mp_grounder.specs.declared.grounded.Ground.{Ground}
+use Rattle.mp_grounder.specs.Grounded.{IsGrounded}
 use Rattle.mp_split.specs.declared.team.Tasks.{Tasks}
 use Rattle.mp_split.specs.Closed.{closed_view}
 use Rattle.mp_split.specs.TaskOf.{Shown, task_of}

@@ -8,9 +8,9 @@ use Rattle.mp_lifted.specs.Texts.{signed_text}
 use Rattle.mp_lifted.specs.Start.{is_private}
 use Rattle.mp_ground_facts.specs.declared.fact.GroundFact.{GroundFact}
 use Rattle.mp_ground_facts.specs.Facts.{atom_of, is_initial}
-use Rattle.mp_grounder.specs.Checked.{IsChecked}
-use Rattle.mp_grounder.specs.Numbered.{signed_fact, IsOfFactor}
-use Rattle.mp_grounder.proofs.Starts.{public_is}
+use Rattle.mp_ground_laws.specs.Checked.{IsChecked}
+use Rattle.mp_ground_laws.specs.Numbered.{signed_fact, IsOfFactor}
+use Rattle.mp_ground_laws.proofs.Starts.{public_is}
 use Rattle.mp_views.specs.Public.{is_public}
 use Rattle.mp_stands.specs.Translation.{AreAlike}
 use Rattle.mp_stands.proofs.SameStarts.{public_names, same_start}

@@ -8,10 +8,10 @@ use Rattle.mp_joint.specs.declared.fact.SignedFact.{SignedFact}
 use Rattle.mp_joint.specs.Instance.{holds}
 use Rattle.mp_lifted.specs.Vocabulary.{vocabulary_of}
 use Rattle.mp_typing.specs.Places.{numbers_where}
-use Rattle.mp_grounder.specs.Counted.{named_goals, signed_cmp}
-use Rattle.mp_ground.specs.declared.grounded.Ground.{Ground}
-use Rattle.mp_ground.specs.Grounded.{IsGrounded, Known, act_of, instances_by_name, setting}
-use Rattle.mp_ground.specs.Places.{places_in, public_places_in}
+use Rattle.mp_ground_laws.specs.Counted.{named_goals, signed_cmp}
+use Rattle.mp_grounder.specs.declared.grounded.Ground.{Ground}
+use Rattle.mp_grounder.specs.Grounded.{IsGrounded, Known, act_of, instances_by_name, setting}
+use Rattle.mp_grounder.specs.Places.{places_in, public_places_in}
 use Rattle.mp_stands.proofs.Ordered.{same_rising}
 
 signed_total : (factor : Factor) → IsTotalOrder (signed_cmp factor)

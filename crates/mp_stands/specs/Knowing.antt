@@ -5,7 +5,7 @@ use Rattle.mp_joint.specs.declared.fact.SignedFact.{SignedFact}
 use Rattle.mp_joint.specs.Grounded.{Setting}
 use Rattle.mp_lifted.specs.Views.{setting_of}
 use Rattle.mp_stands.specs.Touched.{factor_of}
-use Rattle.mp_grounder.specs.Counted.{counted_facts, named_goals}
+use Rattle.mp_ground_laws.specs.Counted.{counted_facts, named_goals}
 use Rattle.mp_split.specs.Team.{open_views}
 
 -- what an agent with this factor knows, by its own files and by what all agents show before grounding

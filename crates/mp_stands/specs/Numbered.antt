@@ -6,9 +6,9 @@ use Rattle.mp_joint.specs.declared.plan.PlanStep.{PlanStep}
 use Rattle.mp_lifted.specs.Texts.{signed_text}
 use Rattle.mp_stands.specs.Numbering.{Numbering, privates_of, steps_of}
 use Rattle.mp_views.specs.Public.{is_public}
-use Rattle.mp_grounder.specs.Named.{step_of}
-use Rattle.mp_ground.specs.declared.grounded.Ground.{Ground}
-use Rattle.mp_ground.specs.Grounded.{IsGrounded, Known}
+use Rattle.mp_ground_laws.specs.Named.{step_of}
+use Rattle.mp_grounder.specs.declared.grounded.Ground.{Ground}
+use Rattle.mp_grounder.specs.Grounded.{IsGrounded, Known}
 use Rattle.mp_split.specs.TaskOf.{table}
 use Rattle.mp_split.specs.Team.{known_at, shown_by}
 use Rattle.mp_stands.specs.Knowing.{IsCountedByOne}

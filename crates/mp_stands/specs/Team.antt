@@ -3,7 +3,7 @@ use Rattle.std.specs.Prelude.{◌≡◌, ◌≢◌, ℕ, ◌+◌, ◌==◌, List
 use Rattle.mp_forms.specs.declared.factor.Factor.{Factor}
 use Rattle.mp_joint.specs.declared.plan.PlanStep.{PlanStep}
 use Rattle.mp_lifted.specs.Binding.{ActionBinding}
-use Rattle.mp_grounder.specs.Named.{step_of}
+use Rattle.mp_ground_laws.specs.Named.{step_of}
 use Rattle.mp_stands.specs.Renaming.{Renaming, IsRenaming, IsRenamed}
 
 -- the agent at a place renames, and the files of the others say the same

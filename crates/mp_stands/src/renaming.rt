@@ -2,7 +2,7 @@
 
 ghost use Rattle.std.specs.Prelude.{◌≡◌, ℕ, List, All};
 ghost use Rattle.mp_forms.specs.declared.factor.Factor.{Factor};
-ghost use Rattle.mp_grounder.specs.Checked.{IsChecked};
+ghost use Rattle.mp_ground_laws.specs.Checked.{IsChecked};
 ghost use Rattle.mp_split.specs.Team.{AreTasksOf};
 ghost use Rattle.mp_split.specs.declared.team.Tasks.{Tasks};
 ghost use Rattle.mp_stands.specs.Renaming.{Renaming};

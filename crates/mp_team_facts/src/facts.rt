@@ -6,7 +6,7 @@ ghost use Rattle.mp_views.specs.Sorted.{sorted_once as once_sorted};
 
 use crate::grounds::grounds_of;
 use crate::shown::shown_by_all;
-use mp_ground::{Ground, GroundRefusal};
+use mp_grounder::{Ground, GroundRefusal};
 use mp_hints::text_of;
 use mp_lifted::{FactTexts, OpenView};
 use mp_list::{Copied, OutOfMemory};

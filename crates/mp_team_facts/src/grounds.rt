@@ -2,7 +2,7 @@
 
 ghost use Rattle.std.specs.Prelude.{◌≡◌, ◌+◌, IfSome};
 
-use mp_ground::{Ground, GroundRefusal, ground};
+use mp_grounder::{Ground, GroundRefusal, ground};
 use mp_lifted::OpenView;
 use mp_list::OutOfMemory;
 use mp_sets::Agent;

@@ -3,7 +3,7 @@
 use crate::privates::private_goal;
 use crate::told::{push_literal, tell_goal};
 use mp_forms::Literal;
-use mp_ground::{Ground, GroundRefusal};
+use mp_grounder::{Ground, GroundRefusal};
 use mp_hint_lines::{FileNames, files_of};
 use mp_lifted::{LiftedFactor, OpenView, lift};
 use mp_list::OutOfMemory;

@@ -1,7 +1,7 @@
 //! The facts that the relaxed problem of a team reaches: first the public ones of the team by their numbers, and then the
 //! private ones of one agent after another.
 
-use mp_ground::Ground;
+use mp_grounder::Ground;
 use mp_task::Act;
 
 /// How many rounds over all actions are made at most.

@@ -1,6 +1,6 @@
 //! The numbers of public facts.
 
-use mp_ground::Ground;
+use mp_grounder::Ground;
 use mp_list::{OutOfMemory, to_u32};
 use mp_sexp::{Name, NameTable};
 use std::alloc::Global;

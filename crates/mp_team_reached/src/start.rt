@@ -1,7 +1,7 @@
 //! The facts that are true at the start.
 
 use crate::marks::{mark, part_of, private_mark};
-use mp_ground::Ground;
+use mp_grounder::Ground;
 use mp_list::OutOfMemory;
 use mp_sexp::Name;
 use std::alloc::Global;

@@ -2,7 +2,7 @@
 
 use crate::declared::declared_in;
 use crate::size::GroundSize;
-use mp_ground::GroundRefusal;
+use mp_grounder::GroundRefusal;
 use mp_list::OutOfMemory;
 use mp_typing::CheckedFactor;
 use std::alloc::Global;

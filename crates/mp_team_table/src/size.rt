@@ -1,9 +1,9 @@
 //! How large the grounded factor of an agent is.
 
 ghost use Rattle.std.specs.Prelude.{IfErr, IfOk};
-ghost use Rattle.mp_ground.specs.Limits.{IsRefusedBy, IsWithin};
+ghost use Rattle.mp_grounder.specs.Limits.{IsRefusedBy, IsWithin};
 
-use mp_ground::{Ground, GroundRefusal, ground};
+use mp_grounder::{Ground, GroundRefusal, ground};
 use mp_lifted::OpenView;
 use mp_list::OutOfMemory;
 use mp_sets::Agent;

@@ -1,6 +1,6 @@
 //! What each agent of a team shows the others.
 
-use mp_ground::GroundRefusal;
+use mp_grounder::GroundRefusal;
 use mp_hints::text_of;
 use mp_list::OutOfMemory;
 use mp_messages::Bytes;

@@ -12,7 +12,7 @@ use Rattle.mp_files.specs.File.{Checks, Parts, SaysDomain, SaysProblem, file_of}
 use Rattle.mp_files.specs.Team.{IsReadTeam, ReadsTexts, Says, Two}
 use Rattle.mp_files.specs.declared.refusal.FileOf.{FileOf}
 use Rattle.mp_files.proofs.Each.{item_within}
-use Rattle.mp_grounder.specs.Checked.{IsChecked}
+use Rattle.mp_ground_laws.specs.Checked.{IsChecked}
 use Rattle.mp_joint.specs.Fact.{Text}
 use Rattle.mp_outside.specs.Source.{Files as Held}
 use Rattle.mp_top.specs.Asked.{Texts}

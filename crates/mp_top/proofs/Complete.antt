@@ -5,7 +5,7 @@ use Rattle.mp_files.specs.Cause.{SeenSource}
 use Rattle.mp_files.specs.Team.{ReadsTeam}
 use Rattle.mp_files.specs.declared.refusal.FileOf.{FileOf}
 use Rattle.mp_files.specs.declared.refusal.Refusal.TheVariants as why
-use Rattle.mp_ground.specs.declared.refusal.GroundRefusal.TheVariants as sizes
+use Rattle.mp_grounder.specs.declared.refusal.GroundRefusal.TheVariants as sizes
 use Rattle.mp_outside.specs.Acts.{FileAsked}
 use Rattle.mp_outside.specs.Source.{Files as Held}
 use Rattle.mp_words.specs.Requests.{Wanted, request_of}

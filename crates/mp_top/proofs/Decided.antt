@@ -6,8 +6,8 @@ use Rattle.mp_files.specs.Cause.{Rests as FilesRest, SeenSource, seen_source}
 use Rattle.mp_files.specs.Team.{IsReadTeam, ReadsMade, Two}
 use Rattle.mp_files.specs.declared.refusal.Refusal.{Refusal as FilesRefusal}
 use Rattle.mp_files.specs.declared.refusal.Refusal.TheVariants as files
-use Rattle.mp_ground.specs.declared.refusal.GroundRefusal.{GroundRefusal}
-use Rattle.mp_ground.specs.declared.refusal.GroundRefusal.TheVariants.{TooManyTries, TooManyActions, TooManyFacts, OutOfMemory}
+use Rattle.mp_grounder.specs.declared.refusal.GroundRefusal.{GroundRefusal}
+use Rattle.mp_grounder.specs.declared.refusal.GroundRefusal.TheVariants.{TooManyTries, TooManyActions, TooManyFacts, OutOfMemory}
 use Rattle.mp_maker.specs.Delivery.{delivery}
 use Rattle.mp_optimality.specs.Audits.{IsRefusedAudit}
 use Rattle.mp_optimality.specs.Certified.{IsCertified}

@@ -2,7 +2,7 @@
 use Rattle.std.proofs.Common.{◌≡◌, ◌⊎◌, inl, inr, List, Some, ap, subst, ◌∙◌}
 use Rattle.mp_forms.specs.declared.factor.Factor.{Factor}
 use Rattle.mp_files.specs.declared.refusal.Refusal.TheVariants as files
-use Rattle.mp_ground.specs.declared.refusal.GroundRefusal.TheVariants as sizes
+use Rattle.mp_grounder.specs.declared.refusal.GroundRefusal.TheVariants as sizes
 use Rattle.mp_joint.specs.Fact.{Text}
 use Rattle.mp_outside.specs.Source.{Files as Held}
 use Rattle.mp_words.specs.Requests.{Wanted, request_of}

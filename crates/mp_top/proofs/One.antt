@@ -5,15 +5,15 @@ use Rattle.std.proofs.lemmas.Option.{none-some, same_Some}
 use Rattle.mp_forms.specs.declared.factor.Factor.{Factor}
 use Rattle.mp_files.proofs.One.{Laws, one_read, one_made}
 use Rattle.mp_files.proofs.Readings.{as_err, ok_err, same_ok}
-use Rattle.mp_ground.specs.Grounded.{Known}
-use Rattle.mp_ground.specs.Limits.{IsRefusedBy, IsWithin, actions, facts, tries}
-use Rattle.mp_ground.specs.declared.refusal.GroundRefusal.{GroundRefusal}
-use Rattle.mp_ground.specs.declared.refusal.GroundRefusal.TheVariants.{TooManyTries, TooManyActions, TooManyFacts, OutOfMemory}
+use Rattle.mp_grounder.specs.Grounded.{Known}
+use Rattle.mp_grounder.specs.Limits.{IsRefusedBy, IsWithin, actions, facts, tries}
+use Rattle.mp_grounder.specs.declared.refusal.GroundRefusal.{GroundRefusal}
+use Rattle.mp_grounder.specs.declared.refusal.GroundRefusal.TheVariants.{TooManyTries, TooManyActions, TooManyFacts, OutOfMemory}
 use Rattle.mp_outside.specs.Acts.{FileAsked}
 use Rattle.mp_outside.specs.Source.{Files as Held}
 use Rattle.mp_split.specs.Team.{IsFirstRefusal, known_at}
 use Rattle.mp_files.specs.declared.refusal.Refusal.{Refusal as FilesRefusal}
-use Rattle.mp_grounder.specs.Checked.{IsChecked}
+use Rattle.mp_ground_laws.specs.Checked.{IsChecked}
 use Rattle.mp_joint.specs.Fact.{Text}
 use Rattle.mp_world.specs.Values.{Values}
 use Rattle.mp_optimality.specs.Audits.{HasCertificate, IsAuditAccepted, IsCertificateRefused}

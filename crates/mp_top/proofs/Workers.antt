@@ -4,7 +4,7 @@ use Rattle.std.specs.Prelude.{IfErr, IfOk, OnOk, Result, Ok, Err}
 use Rattle.mp_forms.specs.declared.factor.Factor.{Factor}
 use Rattle.mp_task.specs.AgentTask.{AgentTask}
 use Rattle.mp_task.specs.Limits.{IsWithinLimits}
-use Rattle.mp_grounder.specs.Checked.{IsChecked}
+use Rattle.mp_ground_laws.specs.Checked.{IsChecked}
 use Rattle.mp_machine.specs.Machine.{AgentMachine}
 use Rattle.mp_messages.specs.declared.history.Entry.{Entry}
 use Rattle.mp_messages.specs.History.{schedule as schedule_of}
@@ -14,7 +14,7 @@ use Rattle.mp_schedule.specs.Machines.{limit_of, tasks_of}
 use Rattle.mp_solutions.specs.Solution.{IsFoundOn, IsFoundToEnd, IsSolution}
 use Rattle.mp_solutions.proofs.ToEnd.{on_any}
 use Rattle.mp_solutions.specs.declared.solution.Solution.{Solution}
-use Rattle.mp_ground.specs.declared.refusal.GroundRefusal.{GroundRefusal}
+use Rattle.mp_grounder.specs.declared.refusal.GroundRefusal.{GroundRefusal}
 use Rattle.mp_solve.specs.Refused.{AreWithin}
 use Rattle.mp_solve.proofs.Found.{AnswersAreRight, is_found}
 use Rattle.mp_split.specs.Team.{AreTasksOf, IsFirstRefusal}

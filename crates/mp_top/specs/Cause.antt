@@ -5,7 +5,7 @@ use Rattle.mp_outside.specs.Source.{FaultAt}
 use Rattle.mp_files.specs.Cause.{CannotRead, SeenSource}
 use Rattle.mp_files.specs.declared.refusal.FileOf.{FileOf}
 use Rattle.mp_files.specs.declared.refusal.Refusal.TheVariants as files
-use Rattle.mp_ground.specs.declared.refusal.GroundRefusal.TheVariants as sizes
+use Rattle.mp_grounder.specs.declared.refusal.GroundRefusal.TheVariants as sizes
 use Rattle.mp_top.specs.Asked.{TeamRequest, Texts}
 use Rattle.mp_top.specs.Asked.Texts.{in_files, made}
 use Rattle.mp_top.specs.First.{ComesFirst}

@@ -2,7 +2,7 @@
 use Rattle.std.specs.Prelude.{◌≡◌, ◌==◌, ◌++◌, ℕ, Bool, true, List, length, Ok, Option, if◌then◌else◌}
 use Rattle.mp_forms.specs.declared.factor.Factor.{Factor}
 use Rattle.mp_joint.specs.Fact.{Text}
-use Rattle.mp_ground.specs.declared.refusal.GroundRefusal.{GroundRefusal}
+use Rattle.mp_grounder.specs.declared.refusal.GroundRefusal.{GroundRefusal}
 use Rattle.mp_optimality.specs.Audits.{IsAudited}
 use Rattle.mp_optimality.specs.Certified.{IsCertified}
 use Rattle.mp_optimality.specs.declared.auditing.PlanAudit.{PlanAudit}

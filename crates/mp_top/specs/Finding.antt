@@ -2,7 +2,7 @@
 use Rattle.std.specs.Prelude.{◌≤◌, List, length, Result, IfOk, IfErr, OnOk}
 use Rattle.mp_forms.specs.declared.factor.Factor.{Factor}
 use Rattle.mp_world.specs.Team.{most_expansions}
-use Rattle.mp_ground.specs.declared.refusal.GroundRefusal.{GroundRefusal}
+use Rattle.mp_grounder.specs.declared.refusal.GroundRefusal.{GroundRefusal}
 use Rattle.mp_solutions.specs.Solution.{IsFoundOn}
 use Rattle.mp_solutions.specs.declared.solution.Solution.{Solution}
 use Rattle.mp_solve.specs.Refused.{AreWithin}

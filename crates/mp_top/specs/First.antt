@@ -7,8 +7,8 @@ use Rattle.mp_joint.specs.Fact.{Text}
 use Rattle.mp_outside.specs.Acts.{FileAsked}
 use Rattle.mp_outside.specs.Source.{Files as Held}
 use Rattle.mp_files.specs.declared.refusal.Refusal.{Refusal as FilesRefusal}
-use Rattle.mp_ground.specs.declared.refusal.GroundRefusal.{GroundRefusal}
-use Rattle.mp_ground.specs.declared.refusal.GroundRefusal.TheVariants.{OutOfMemory}
+use Rattle.mp_grounder.specs.declared.refusal.GroundRefusal.{GroundRefusal}
+use Rattle.mp_grounder.specs.declared.refusal.GroundRefusal.TheVariants.{OutOfMemory}
 use Rattle.mp_optimality.specs.Audits.{IsAuditAccepted, IsCertificateRefused, IsPlanRefused}
 use Rattle.mp_plans.specs.Plan.{plan_in}
 use Rattle.mp_plans.specs.declared.plan.PlanText.{PlanText}

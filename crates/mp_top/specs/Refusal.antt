@@ -10,8 +10,8 @@ use Rattle.mp_files.specs.declared.refusal.Fault.TheVariants as fault
 use Rattle.mp_files.specs.declared.refusal.FileOf.{FileOf}
 use Rattle.mp_files.specs.declared.refusal.Refusal.{Refusal as FilesRefusal}
 use Rattle.mp_files.specs.declared.refusal.Refusal.TheVariants as files
-use Rattle.mp_ground.specs.declared.refusal.GroundRefusal.{GroundRefusal}
-use Rattle.mp_ground.specs.declared.refusal.GroundRefusal.TheVariants as sizes
+use Rattle.mp_grounder.specs.declared.refusal.GroundRefusal.{GroundRefusal}
+use Rattle.mp_grounder.specs.declared.refusal.GroundRefusal.TheVariants as sizes
 use Rattle.mp_top.specs.declared.refusal.Refusal.{Refusal}
 use Rattle.mp_top.specs.declared.refusal.FirstRefusal.{FirstRefusal}
 use Rattle.mp_top.specs.declared.refusal.FirstRefusal.TheVariants as first

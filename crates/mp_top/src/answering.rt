@@ -24,7 +24,7 @@ use crate::refusal::{Refusal, tell_memory, tell_words, tell_write};
 use crate::report::Report;
 use crate::status::Status;
 use mp_files::AgentFiles;
-use mp_ground::GroundRefusal;
+use mp_grounder::GroundRefusal;
 use mp_outside::{Sink, Source, put_all};
 use mp_solve::Solution;
 use mp_typing::CheckedFactor;

@@ -18,8 +18,8 @@ ghost use Rattle.mp_world.specs.World.{World};
 
 use crate::decision::Search;
 use crate::finding::{Workers, in_turn};
-use mp_ground::GroundRefusal;
-use mp_grounder::laws::checked_factors_are_checked;
+use mp_ground_laws::laws::checked_factors_are_checked;
+use mp_grounder::GroundRefusal;
 use mp_hmax::Hmax;
 use mp_lifted::ActionBindingList;
 use mp_list::OutOfMemory;

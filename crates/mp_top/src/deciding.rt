@@ -23,7 +23,7 @@ use crate::refusal::Refusal;
 use crate::searching::{replay_by, solve_for};
 use crate::status::Status;
 use mp_files::{AgentFiles, read_team};
-use mp_ground::GroundRefusal;
+use mp_grounder::GroundRefusal;
 use mp_maker::delivery;
 use mp_outside::Source;
 use mp_solve::Solution;

@@ -10,7 +10,7 @@ ghost use Rattle.mp_world.specs.Team.{most_expansions};
 
 use crate::decision::Search;
 use crate::searching::searched;
-use mp_ground::GroundRefusal;
+use mp_grounder::GroundRefusal;
 use mp_solve::Solution;
 use mp_typing::CheckedFactor;
 use std::alloc::Global;

@@ -16,7 +16,7 @@ ghost use Rattle.mp_world.specs.Team.{most_expansions};
 use crate::decision::{Decision, Search, status_of_answer};
 use crate::finding::{Workers, found};
 use mp_files::{AgentFiles, AgentTexts, Refusal as FilesRefusal, read_texts};
-use mp_ground::GroundRefusal;
+use mp_grounder::GroundRefusal;
 use mp_list::{List, OutOfMemory};
 use mp_maker::TextList;
 use mp_messages::Bytes;

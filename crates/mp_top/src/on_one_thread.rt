@@ -14,7 +14,7 @@ use crate::decision::Search;
 use crate::finding::{Workers, in_turn};
 use crate::report::Report;
 use crate::status::Status;
-use mp_ground::GroundRefusal;
+use mp_grounder::GroundRefusal;
 use mp_outside::{Sink, Source};
 use mp_solve::Solution;
 use mp_typing::CheckedFactor;

@@ -15,7 +15,7 @@ use crate::finding::Workers;
 use crate::on_one_thread::run_alone;
 use crate::report::Report;
 use crate::status::Status;
-use mp_ground::GroundRefusal;
+use mp_grounder::GroundRefusal;
 use mp_outside::{Gate, Sink, Source};
 use mp_solve::Solution;
 use mp_typing::CheckedFactor;

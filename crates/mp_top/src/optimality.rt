@@ -9,7 +9,7 @@ ghost use Rattle.mp_world.specs.Team.{most_expansions};
 use crate::decision::{Decision, status_of_answer};
 use crate::refusal::{FirstRefusal, Refusal};
 use crate::status::Status;
-use mp_ground::GroundRefusal;
+use mp_grounder::GroundRefusal;
 use mp_list::{List, OutOfMemory};
 use mp_messages::Log;
 use mp_optimality::{AuditRefusal, Certified, PlanAudit, audit_plan, certify};

@@ -13,7 +13,7 @@ use crate::status::Status;
 use itoa::Buffer;
 use mp_files::{AgentFiles, Fault, FileOf, Refusal as FilesRefusal};
 use mp_forms::File;
-use mp_ground::GroundRefusal;
+use mp_grounder::GroundRefusal;
 use mp_list::OutOfMemory;
 use mp_outside::{Sink, put_all};
 use mp_sets::Agent;

@@ -14,7 +14,7 @@ ghost use Rattle.mp_world.specs.Team.{most_expansions};
 use crate::decision::{Decision, Search, status_of_answer, trace_before};
 use crate::finding::{Workers, found};
 use crate::refusal::{FirstRefusal, Refusal};
-use mp_ground::GroundRefusal;
+use mp_grounder::GroundRefusal;
 use mp_hmax::Hmax;
 use mp_list::OutOfMemory;
 use mp_lmcut::Cut;

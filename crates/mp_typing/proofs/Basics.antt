@@ -27,9 +27,8 @@ pub use Rattle.mp_list.proofs.Members.{contains_cases, contains_head, contains_o
 pub use Rattle.mp_list.proofs.Steps.{goes_on}
 pub use Rattle.mp_typing.specs.ByType.{items_of, listed_by}
 unfoldable pub use Rattle.mp_typing.specs.ByType.{places_of}
-pub use Rattle.mp_typing.specs.Faults.{fault_at, leftmost, order_by}
+pub use Rattle.mp_typing.specs.Faults.{IsFirst, fault_at, leftmost, order_by}
 unfoldable pub use Rattle.mp_typing.specs.Faults.{is_earlier}
-pub use Rattle.mp_typing.specs.FirstFault.{IsFirst}
 pub use Rattle.mp_typing.specs.Hierarchy.{HasLower, HasObjects, IsHierarchy}
 pub use Rattle.mp_typing.specs.Indexed.{Entry, HasArities, SameNumbers}
 unfoldable pub use Rattle.mp_typing.specs.Indexed.{number_of}

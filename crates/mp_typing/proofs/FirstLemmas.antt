@@ -1,10 +1,10 @@
 -- Faults are in a strict and total order, so that the earliest of some is their first.
-use Rattle.mp_typing.proofs.Basics.{◌≡◌, ℕ, zero, suc, List, [], ◌∷◌, ◌++◌, length, Ordering, refl, sym, ap, ◌∙◌, arith, is_lt, nat_cmp, ordering_then, slice_cmp, File, Domain, Fault, FaultKind, WrongDomain, Unknown, Arity, Twice}
+use Rattle.mp_typing.proofs.Basics.{◌≡◌, ℕ, zero, suc, List, ◌∷◌, refl, sym, ap, ◌∙◌, is_lt, nat_cmp, ordering_then, slice_cmp, File, Domain, Fault, FaultKind, WrongDomain, Unknown, Arity, Twice}
 use Rattle.mp_typing.proofs.Basics.{is_earlier, order_by, IsFirst}
-use Rattle.std.proofs.Common.{Less, Equal, Greater}
 use Rattle.mp_list.specs.First.{IsStrictOrder, IsTotal}
 use Rattle.mp_list.proofs.Orders.{is_less, strict_on, total_on, numbers_strict, numbers_total}
 use Rattle.mp_list.proofs.OneFirst.{first_is_one}
+use Rattle.mp_forms.proofs.Fronts.{by_fronts}
 use Rattle.mp_forms.specs.declared.files.File.TheVariants.{Problem}
 use Rattle.mp_typing.specs.Faults.{rank_of, file_rank_of, order_of}
 
@@ -60,21 +60,6 @@ pub one_first : (faults : List Fault) (a b : Fault) → IsFirst faults a → IsF
 one_first = first_is_one is_earlier total
 
 -- ---- two faults compared
-
-then_then : (a b c : Ordering) → ordering_then (ordering_then a b) c ≡ ordering_then a (ordering_then b c)
-then_then Less b c = refl
-then_then Equal b c = refl
-then_then Greater b c = refl
-
--- lists with fronts of one length compare by the fronts first
-by_fronts : (xs ys p q : List ℕ) → length xs ≡ length ys
-    → slice_cmp nat_cmp (xs ++ p) (ys ++ q) ≡ ordering_then (slice_cmp nat_cmp xs ys) (slice_cmp nat_cmp p q)
-by_fronts [] [] p q e = refl
-by_fronts [] (y ∷ ys) p q e = absurd (omega (arith, e))
-by_fronts (x ∷ xs) [] p q e = absurd (omega (arith, e))
-by_fronts (x ∷ xs) (y ∷ ys) p q e =
-    let shorter : length xs ≡ length ys = omega (arith, e) in
-    ap (ordering_then (nat_cmp x y)) (by_fronts xs ys p q shorter) ∙ sym (then_then (nat_cmp x y) (slice_cmp nat_cmp xs ys) (slice_cmp nat_cmp p q))
 
 -- the numbers are compared, and then the names
 pub earlier_by : (a b : Fault) → is_earlier a b

@@ -2,7 +2,7 @@
 use Rattle.std.specs.Prelude.{ℕ, Bool, List, [], ◌∷◌, ◌++◌, Option}
 use Rattle.std.specs.Ordering.{is_lt, nat_cmp}
 use Rattle.std.specs.Cmp.Lexicographic.{slice_cmp}
-use Rattle.mp_list.specs.First.{leftmost as first_of}
+use Rattle.mp_list.specs.First.{IsFirst as IsFirstBy, leftmost as first_of}
 use Rattle.mp_forms.specs.declared.files.File.{File}
 use Rattle.mp_sexp.specs.declared.tree.Place.{Place}
 use Rattle.mp_forms.specs.declared.files.File.TheVariants.{Domain, Problem}
@@ -45,6 +45,10 @@ order_of fault = order_by fault.kind fault.found.file fault.found.at ++ fault.fo
 -- a fault comes before another
 unfoldable pub is_earlier : Fault → Fault → Bool
 is_earlier a b = is_lt (slice_cmp nat_cmp (order_of a) (order_of b))
+
+-- the fault that is answered, where these are wrong: none of them comes before it
+abbrev pub IsFirst : List Fault → Fault → Type 0
+IsFirst faults fault = IsFirstBy is_earlier faults fault
 
 -- the earliest of a known fault and these, the known one where none is earlier
 abbrev pub leftmost : Option Fault → List Fault → Option Fault

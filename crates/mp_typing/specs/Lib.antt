@@ -2,7 +2,6 @@
 pub mod Names
 -- what is wrong with a word, and which of two faults comes first
 pub mod Faults
-pub mod FirstFault
 -- what a factor declares under a name
 pub mod Lookups
 -- names that are declared more than once

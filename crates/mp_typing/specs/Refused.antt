@@ -6,7 +6,7 @@ use Rattle.mp_typing.specs.declared.fault.FaultKind.TheVariants as kinds
 use Rattle.mp_typing.specs.declared.refusal.Found.{Found}
 use Rattle.mp_typing.specs.declared.refusal.CheckRefusal.{CheckRefusal}
 use Rattle.mp_typing.specs.declared.refusal.CheckRefusal.TheVariants.{WrongDomain, UnknownName, Arity, Twice, OutOfMemory}
-use Rattle.mp_typing.specs.FirstFault.{IsFirst}
+use Rattle.mp_typing.specs.Faults.{IsFirst}
 
 -- a fault of this kind at this word
 abbrev pub fault_of : FaultKind → Found → Fault

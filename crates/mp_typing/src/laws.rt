@@ -2,7 +2,7 @@
 
 ghost use Rattle.std.specs.Prelude.{◌≡◌, Bool, ℕ, List, IsTrue};
 ghost use Rattle.mp_forms.specs.declared.typed_values.Typed.{Typed};
-ghost use Rattle.mp_typing.specs.FirstFault.{IsFirst};
+ghost use Rattle.mp_typing.specs.Faults.{IsFirst};
 ghost use Rattle.mp_typing.specs.declared.fault.Fault.{Fault as FaultOf};
 ghost use Rattle.mp_typing.specs.IsA.{IsA, DeclaredUnder, object_name};
 

@@ -5,7 +5,6 @@ mod laws;
 mod lines;
 mod open;
 mod parts;
-mod privates;
 mod sorted;
 mod spelling;
 mod view;

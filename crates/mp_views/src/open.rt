@@ -5,12 +5,12 @@ ghost use Rattle.std.specs.List.{flat_map};
 ghost use Rattle.std.specs.Option.{is_none};
 ghost use Rattle.mp_joint.specs.Fact.{is_listed};
 ghost use Rattle.mp_joint.specs.Grounding.{negated_atoms, fact_of};
+ghost use Rattle.mp_lifted.specs.Privates.{private_in};
 ghost use Rattle.mp_lifted.specs.Texts.{fact_text};
 ghost use Rattle.mp_lifted.specs.Views.{predicates_of, changed_predicates, negated_predicates};
 ghost use Rattle.mp_views.specs.Sorted.{sorted_once as once_sorted};
 ghost use Rattle.mp_views.specs.Opened.{open_view as view_of, joined};
 
-use crate::privates::is_public;
 use crate::sorted::sorted_once;
 use crate::spelling::atom_text;
 use mp_forms::{Atom, AtomList, Factor, LiteralList, Schema, SchemaList};
@@ -132,10 +132,9 @@ fn add_fact(
     atom: &Atom,
 ) -> Result<(), OutOfMemory>
     ensures { OnOk result (out.new.items ≡ out.old.items ++ map fact_text (filter (λ f. is_none f.owner)
-        (fact_of 1 (record { predicates = privates.now.predicates; objects = privates.now.objects })
-        [] [] atom.now ∷ []))) }
+        (fact_of 1 (private_in privates.now) [] [] atom.now ∷ []))) }
 {
-    if is_public(atom, &privates.predicates, &privates.objects) {
+    if !privates.has(atom) {
         out.push(atom_text(alloc, scratch, atom)?)?;
     }
     Ok(())
@@ -148,8 +147,7 @@ fn public_facts(
     atoms: &AtomList,
 ) -> Result<Vec<Name>, OutOfMemory>
     ensures { IfOk result (λ out. out.items ≡ map fact_text (filter (λ f. is_none f.owner)
-        (map (fact_of 1 (record { predicates = privates.now.predicates; objects = privates.now.objects })
-        [] []) atoms.now))) }
+        (map (fact_of 1 (private_in privates.now) [] []) atoms.now))) }
 {
     let mut out = Vec::new(alloc);
     let mut scratch = Vec::new(alloc);
@@ -193,8 +191,7 @@ fn shown_by(
     ensures negated { IfOk result (λ shown. shown.negated.items
         ≡ filter (λ n. not (is_listed n privates.now.predicates)) (negated_predicates factor.now)) }
     ensures init { IfOk result (λ shown. shown.init.items ≡ map fact_text (filter (λ f. is_none f.owner)
-        (map (fact_of 1 (record { predicates = privates.now.predicates; objects = privates.now.objects })
-        [] []) factor.now.problem.init))) }
+        (map (fact_of 1 (private_in privates.now) [] []) factor.now.problem.init))) }
 {
     let predicates = &privates.predicates;
     let schemas = &factor.domain.schemas;

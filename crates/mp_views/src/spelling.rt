@@ -2,11 +2,12 @@
 
 ghost use Rattle.std.specs.Prelude.{◌≡◌, ◌++◌, ◌∷◌, [], IfOk, OnOk};
 ghost use Rattle.mp_sexp.specs.Bytes.{folded};
-ghost use Rattle.mp_joint.specs.Grounding.{object_of, objects_of};
+ghost use Rattle.mp_joint.specs.Grounding.{objects_of};
 ghost use Rattle.mp_lifted.specs.Texts.{bracketed};
 ghost use Rattle.mp_views.specs.Lines.{spaced};
 
 use mp_forms::{Atom, Term};
+use mp_lifted::term_name;
 use mp_list::OutOfMemory;
 use mp_sexp::Name;
 use std::alloc::Global;
@@ -18,16 +19,6 @@ pub fn push_name(text: &mut Vec<u8>, name: &Name) -> Result<(), OutOfMemory>
 {
     text.extend_from_slice(name.as_slice())?;
     Ok(())
-}
-
-/// The name that a term is.
-pub(crate) fn term_name(term: &Term) -> &Name
-    ensures { result.now ≡ object_of [] [] term.now }
-{
-    match term {
-        Term::Variable(word) => &word.name,
-        Term::Object(word) => &word.name,
-    }
 }
 
 /// Appends the names of terms, each behind one space.

@@ -12,7 +12,7 @@ use Rattle.mp_lifted.specs.declared.vocabulary.Vocabulary.{Vocabulary}
 use Rattle.mp_lifted.specs.Lifting.{amounts_of, is_not, lifted_action, lifted_atom, lifted_where, members_of}
 use Rattle.mp_lifted.specs.Views.{is_changed}
 use Rattle.mp_lifted.specs.Vocabulary.{vocabulary_of}
-use Rattle.mp_grounder.proofs.Parts.{IsAtom, IsSchema}
+use Rattle.mp_ground_laws.proofs.Parts.{IsAtom, IsSchema}
 use Rattle.mp_stands.specs.Renaming.{Renaming, IsRenaming, public_signatures, kept_typed, renamed, renamed_fact, renamed_schema}
 use Rattle.mp_stands.proofs.Naming.Atoms.{amounts_same, asked_same, atoms_same, negated_same, where_same}
 use Rattle.mp_stands.proofs.Naming.Lists.{map_of_map, map_same}

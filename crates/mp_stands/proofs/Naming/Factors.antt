@@ -13,15 +13,17 @@ use Rattle.mp_lifted.specs.declared.view.OpenView.{OpenView}
 use Rattle.mp_lifted.specs.declared.vocabulary.Vocabulary.{Vocabulary}
 use Rattle.mp_lifted.specs.Factors.{ground_atom, ground_value, lifted_factor}
 use Rattle.mp_lifted.specs.Lifting.{is_total_cost}
+use Rattle.mp_lifted.specs.Privates.{is_private_atom}
 use Rattle.mp_lifted.specs.Views.{has_complements}
 use Rattle.mp_lifted.specs.Vocabulary.{vocabulary_of}
-use Rattle.mp_grounder.proofs.Lists.{filter_of_map}
-use Rattle.mp_grounder.proofs.Parts.{HasParts, IsAtom, IsValue}
+use Rattle.mp_ground_laws.proofs.Lists.{filter_of_map}
+use Rattle.mp_ground_laws.proofs.Parts.{HasParts, IsAtom, IsValue}
 use Rattle.mp_stands.specs.Renaming.{Renaming, IsOneToOne, IsRenaming, public_signatures, renamed, renamed_fact, renamed_value}
 use Rattle.mp_stands.specs.Translation.{AreAlike, AreAlikeButKnown}
 use Rattle.mp_stands.proofs.Naming.Actions.{actions_same}
 use Rattle.mp_stands.proofs.Naming.Atoms.{asked_same, cost_same, ground_same, negated_same}
-use Rattle.mp_stands.proofs.Naming.Lists.{map_of_map, map_same, stays_at}
+use Rattle.mp_stands.proofs.Naming.Facts.{privacy_same}
+use Rattle.mp_stands.proofs.Naming.Lists.{filter_same, map_of_map, map_same, stays_at}
 use Rattle.mp_stands.proofs.Naming.Names.{all_listed, listed_same}
 use Rattle.mp_stands.proofs.Naming.Shown.{shown_same}
 use Rattle.mp_stands.proofs.Naming.Views.{IsPredicate, complements_same}
@@ -86,6 +88,19 @@ module _ (r : Renaming) (f : Factor) (view : OpenView) (is : IsRenaming f r) (pa
       ∙ map_same (IsAtom [] f) (λ a. ground_atom (other_vocabulary r v) (renamed_fact r a)) (ground_atom v) atoms all
       (λ a used. ground_same r objects r.predicates predicates f v.predicates v a used.terms)
 
+  private_atoms_same
+      : map (ground_atom (vocabulary_of (renamed r f)))
+      (filter (is_private_atom (privates_of (renamed r f))) (map (renamed_fact r) f.problem.init))
+      ≡ map (ground_atom v) (filter (is_private_atom (privates_of f)) f.problem.init)
+  private_atoms_same =
+      let is_own = is_private_atom (privates_of f) in
+      ap (map (ground_atom (vocabulary_of (renamed r f))))
+      (filter_of_map (renamed_fact r) (is_private_atom (privates_of (renamed r f))) f.problem.init
+      ∙ ap (map (renamed_fact r))
+      (filter_same (IsAtom [] f) (λ a. is_private_atom (privates_of (renamed r f)) (renamed_fact r a)) is_own
+      f.problem.init parts.init (privacy_same r f is)))
+      ∙ atoms_same (filter is_own f.problem.init) (All-filter is_own (IsAtom [] f) f.problem.init parts.init)
+
   -- ---- values of functions
 
   abbrev is_cost : Value → Bool
@@ -138,7 +153,7 @@ module _ (r : Renaming) (f : Factor) (view : OpenView) (is : IsRenaming f r) (pa
         negated_predicates = complemented_same i;
         private_objects = private_objects_same i;
         actions = actions_same r f view is parts.schemas i;
-        init = atoms_same f.problem.init parts.init i;
+        init = private_atoms_same i;
         known = (lifted_factor (renamed r f) view).known;
         goals = goals i;
         avoided = avoided i;

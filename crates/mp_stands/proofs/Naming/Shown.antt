@@ -7,8 +7,8 @@ use Rattle.mp_joint.specs.Fact.{Text, is_listed}
 use Rattle.mp_joint.specs.FactorContribution.{privates_of}
 use Rattle.mp_lifted.specs.Texts.{fact_text}
 use Rattle.mp_lifted.specs.Views.{changed_predicates, negated_predicates}
-use Rattle.mp_grounder.proofs.Lists.{filter_of_map}
-use Rattle.mp_grounder.proofs.Parts.{HasParts}
+use Rattle.mp_ground_laws.proofs.Lists.{filter_of_map}
+use Rattle.mp_ground_laws.proofs.Parts.{HasParts}
 use Rattle.mp_views.specs.Opened.{is_public_predicate, public_predicates, open_view}
 use Rattle.mp_views.specs.Sorted.{sorted_once}
 use Rattle.mp_stands.specs.Renaming.{Renaming, IsRenaming, renamed}

@@ -11,7 +11,7 @@ use Rattle.mp_typing.specs.IsA.{object_name}
 use Rattle.mp_typing.specs.Under.{directly_under, is_of_type, lower, with_lower}
 unfoldable use Rattle.mp_typing.specs.Under.{found_after, with_types}
 use Rattle.mp_joint.specs.Fact.{Text}
-use Rattle.mp_grounder.proofs.Lists.{filter_of_map}
+use Rattle.mp_ground_laws.proofs.Lists.{filter_of_map}
 use Rattle.mp_stands.specs.Renaming.{kept_word, kept_typed, renamed_typed}
 use Rattle.mp_stands.proofs.Naming.Lists.{any_of_map, map_of_map}
 

@@ -11,7 +11,7 @@ use Rattle.mp_joint.specs.Grounding.{negated_atoms}
 use Rattle.mp_lifted.specs.declared.view.OpenView.{OpenView}
 use Rattle.mp_lifted.specs.Views.{predicates_of, changed_predicates, negated_predicates, is_of, is_changed, has_complements}
 use Rattle.mp_lifted.specs.Vocabulary.{vocabulary_of}
-use Rattle.mp_grounder.proofs.Parts.{HasParts, IsAtom, IsSchema}
+use Rattle.mp_ground_laws.proofs.Parts.{HasParts, IsAtom, IsSchema}
 use Rattle.mp_stands.specs.Renaming.{Renaming, IsOneToOne, IsRenaming, renamed, renamed_fact, renamed_schema}
 use Rattle.mp_stands.proofs.Naming.Atoms.{negated_same}
 use Rattle.mp_stands.proofs.Naming.Lists.{all_mapped, all_parts, map_of_map, map_of_parts}

@@ -1,32 +1,31 @@
-use Rattle.mp_ground_facts.proofs.Basics.{◌≡◌, ℕ, ◌+◌, ◌++◌, List, drop, sym, ap, ◌∙◌, LiftedFactor, numbers_where, is_initial}
+use Rattle.mp_ground_facts.proofs.Basics.{ℕ, ◌+◌, ◌++◌, List, drop, sym, ap, ◌∙◌, numbers_where, is_initial}
 use Rattle.mp_typing.proofs.Placing.{placed, skipped, all_placed}
 use Rattle.mp_ground_facts.proofs.numbering.start_numbers.Goals.{then-is_initial+in_ok-push, else-is_initial}
 use Rattle.mp_ground_facts.proofs.numbering.start_numbers.Goals as goal
 
 pub loop-fact-preserved : goal.loop-fact-preserved
 loop-fact-preserved c =
-    let test = is_initial c.args.factor.now in
+    let test = is_initial c.args.start.now in
     let facts = c.args.facts.now in
     let l = c.loop-fact in
     let whole = numbers_where 0 test facts in
     let rest = numbers_where (l.number + 1) test (drop (l.fact-index + 1) facts) in
-    let tested : c.is_initial.result ≡ test c.fact-item.result = c.is_initial.ensures ∙ ap (λ (factor : LiftedFactor). is_initial factor c.fact-item.result) c.in_ok-start.ensures in
     record {
       counted = ap (λ (n : ℕ). n + 1) l.invariant.counted;
       left = elim c.if-is_initial.branch [
         | then-is_initial+in_ok-push w ↦
             ap (λ (ns : List ℕ). ns ++ rest) (w.out-is ∙ w.in_ok-push.ensures.ok)
             ∙ placed test l.out whole l.number l.fact-index facts c.fact-item.result c.loop-fact-test.true c.fact-item.is
-            (sym tested ∙ w.if-is_initial.true) l.invariant.left
+            (sym c.is_initial.ensures ∙ w.if-is_initial.true) l.invariant.left
         | else-is_initial w ↦
             ap (λ (ns : List ℕ). ns ++ rest) w.out-is
             ∙ skipped test l.out whole l.number l.fact-index facts c.fact-item.result c.loop-fact-test.true c.fact-item.is
-            (sym tested ∙ w.if-is_initial.false) l.invariant.left
+            (sym c.is_initial.ensures ∙ w.if-is_initial.false) l.invariant.left
       ];
     }
 
 pub returns : goal.returns
 returns c =
-    let test = is_initial c.args.factor.now in
+    let test = is_initial c.args.start.now in
     all_placed test c.loop-fact.out (numbers_where 0 test c.args.facts.now) c.loop-fact.number c.loop-fact.fact-index c.args.facts.now
     c.loop-fact-test.false c.loop-fact.invariant.left

@@ -1,4 +1,4 @@
-use Rattle.mp_lifted.proofs.Basics.{◌∙◌, ap, map, List, Bool, Factor, Signature, Shown, Text, is_listed, is_of}
+use Rattle.mp_lifted.proofs.Basics.{◌∙◌, ap, map, List, Bool, Factor, Signature, Shown, is_of}
 use Rattle.mp_lifted.proofs.factors.marks_of.Goals as goal
 
 abbrev flags : Shown → List Signature → List Bool
@@ -9,8 +9,3 @@ returns-clause-negated_predicates c =
     c.in_ok-flags_of.ensures
     ∙ ap (λ (w : Factor). flags c.in_ok-complements.complements w.domain.predicates) c.factor.view_is
     ∙ ap (λ (shown : Shown). flags shown c.args.factor.now.domain.predicates) c.in_ok-complements.ensures
-
-pub returns-clause-private_objects : goal.returns-clause-private_objects
-returns-clause-private_objects c =
-    c.in_ok-flags_in-2.ensures
-    ∙ ap (λ (private : List Text). map (λ o. is_listed o private) c.args.names.now.objects) c.in_ok-privates.ensures.objects

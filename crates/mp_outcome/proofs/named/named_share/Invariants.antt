@@ -1,5 +1,5 @@
 use Rattle.std.proofs.Common.{map, take}
-use Rattle.mp_grounder.specs.Named.{step_of}
+use Rattle.mp_ground_laws.specs.Named.{step_of}
 use Rattle.mp_outcome.specs.Renumbered.{IsRenumbered}
 use Rattle.mp_outcome.proofs.named.named_share.Given as goal
 

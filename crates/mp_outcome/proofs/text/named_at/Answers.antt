@@ -1,7 +1,7 @@
 use Rattle.std.proofs.Common.{rules, ◌≡◌, ◌+◌, List, map, sym, ap, ◌∙◌}
 use Rattle.std.proofs.lemmas.Option.{slice_get_past}
 use Rattle.std.proofs.lemmas.Result.{IfOk-weaker}
-use Rattle.mp_grounder.specs.Named.{step_of}
+use Rattle.mp_ground_laws.specs.Named.{step_of}
 use Rattle.mp_joint.specs.declared.plan.PlanStep.{PlanStep}
 use Rattle.mp_text.specs.Outcome.{names_at, share_lines}
 use Rattle.mp_outcome.specs.Names.{names_of}

@@ -1,5 +1,5 @@
 use Rattle.mp_split.proofs.Basics.{arith}
-use Rattle.mp_ground.proofs.NumberBounds.{number_within}
+use Rattle.mp_grounder.proofs.NumberBounds.{number_within}
 use Rattle.mp_split.proofs.numbers.number_of.Goals as goal
 
 pub overflow_cast-result : goal.overflow_cast-result

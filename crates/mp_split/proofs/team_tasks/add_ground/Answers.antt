@@ -1,6 +1,6 @@
 use Rattle.mp_split.proofs.Basics.{arith, ◌≡◌, ◌+◌, length, subst, sym, Known, IsRefusedBy, AreBegun, IsFirstRefusal}
-use Rattle.mp_ground.specs.declared.refusal.GroundRefusal.TheVariants.{OutOfMemory}
-use Rattle.mp_ground.proofs.Refused.{refused_on}
+use Rattle.mp_grounder.specs.declared.refusal.GroundRefusal.TheVariants.{OutOfMemory}
+use Rattle.mp_grounder.proofs.Refused.{refused_on}
 use Rattle.mp_split.specs.Begun.{IsBegun}
 use Rattle.mp_split.specs.Team.{known_at}
 use Rattle.mp_split.proofs.FirstAgents.{one_more, refused_next}

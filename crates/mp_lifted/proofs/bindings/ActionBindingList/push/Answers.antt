@@ -1,4 +1,4 @@
-use Rattle.mp_lifted.proofs.Basics.{◌≡◌, ◌∙◌, ◌++◌, ◌∷◌, [], ◌+◌, rules, Head}
+use Rattle.mp_lifted.proofs.Basics.{◌≡◌, ◌∙◌, ◌++◌, ◌∷◌, [], rules, Head}
 use Rattle.mp_lifted.proofs.FlatLemmas.{added, one_more}
 use Rattle.mp_lifted.specs.Flat.{with_objects}
 use Rattle.std.proofs.Common.{map}

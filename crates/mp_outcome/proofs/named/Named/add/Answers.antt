@@ -1,7 +1,7 @@
 use Rattle.std.proofs.Common.{rules, ◌≡◌, length, refl, sym, ap, ◌∙◌, Some}
 use Rattle.std.specs.Option.{option_map}
 use Rattle.std.proofs.lemmas.Option.{slice_get-map}
-use Rattle.mp_grounder.specs.Named.{step_of}
+use Rattle.mp_ground_laws.specs.Named.{step_of}
 use Rattle.mp_outcome.proofs.ShareLemmas.{none_added, when_added}
 use Rattle.mp_outcome.proofs.named.Named.add.Goals as goal
 

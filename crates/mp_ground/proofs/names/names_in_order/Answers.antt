@@ -1,8 +1,0 @@
-use Rattle.mp_ground.proofs.Basics.{◌∙◌, ap, map, List, ℕ}
-use Rattle.std.proofs.Common.{Bor}
-use Rattle.mp_ground.proofs.names.names_in_order.Goals as goal
-
-pub returns : goal.returns
-returns c =
-    ap (map (λ (n : Bor (List ℕ)). n.now)) c.in_ok-from_slice.ensures.items ∙ c.as_slice.ensures
-    ∙ c.in_ok-table.ensures

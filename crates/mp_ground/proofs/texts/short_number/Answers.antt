@@ -1,6 +1,0 @@
-use Rattle.mp_ground.proofs.Basics.{arith}
-use Rattle.mp_ground.proofs.NumberBounds.{number_within}
-use Rattle.mp_ground.proofs.texts.short_number.Goals as goal
-
-pub overflow_cast-result : goal.overflow_cast-result
-overflow_cast-result c = omega (arith, number_within c.args.table.now c.args.name.now, c.number.ensures, c.requires)

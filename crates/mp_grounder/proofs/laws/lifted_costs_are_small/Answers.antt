@@ -1,5 +1,0 @@
-use Rattle.mp_grounder.proofs.SmallCosts.{small_costs}
-use Rattle.mp_grounder.proofs.laws.lifted_costs_are_small.Goals as goal
-
-pub returns : goal.returns
-returns c = small_costs

@@ -1,8 +1,0 @@
-use Rattle.mp_grounder.proofs.Counted.{all_instances, all_counted}
-use Rattle.mp_grounder.proofs.laws.numbers_are_of_the_factor.Goals as goal
-
-pub returns-clause-instances : goal.returns-clause-instances
-returns-clause-instances c = all_instances
-
-pub returns-clause-facts : goal.returns-clause-facts
-returns-clause-facts c = all_counted

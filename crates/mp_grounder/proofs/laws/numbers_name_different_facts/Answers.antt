@@ -1,6 +1,0 @@
-use Rattle.mp_grounder.proofs.Facts.{different_facts}
-use Rattle.mp_grounder.proofs.Parts.{parts_of}
-use Rattle.mp_grounder.proofs.laws.numbers_name_different_facts.Goals as goal
-
-pub returns : goal.returns
-returns c = λ agent factor a b h first second same. different_facts agent factor a b (parts_of factor h.no_fault) first second same
