@@ -3,7 +3,7 @@ use Rattle.std.proofs.Common.{◌≡◌, ℕ, ◌+◌, ◌<◌, ◌≤◌, Bool,
 use Rattle.std.specs.List.{position_from}
 use Rattle.std.proofs.Math.ListN.{drop_of_length-le}
 use Rattle.std.proofs.lemmas.List.{append-nil, drop_more, take_all}
-use Rattle.mp_lifted.proofs.Growing.{one_more}
+use Rattle.mp_lifting.proofs.Growing.{one_more}
 use Rattle.mp_checker.specs.declared.fact.FactNumbers.{FactNumbers}
 use Rattle.mp_checker.specs.declared.facts.Facts.{Facts}
 use Rattle.mp_checker.specs.declared.numbered.NumberedLiteral.{NumberedLiteral}

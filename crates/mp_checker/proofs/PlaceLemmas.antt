@@ -6,7 +6,7 @@ use Rattle.std.proofs.lemmas.Bool.{false≢true, cases_Bool}
 use Rattle.std.proofs.lemmas.List.{map-append, append-nil, take_all}
 use Rattle.std.proofs.lemmas.List.Folds.{list_all-append}
 use Rattle.mp_list.proofs.Bools.{and_true}
-use Rattle.mp_lifted.proofs.Growing.{one_more}
+use Rattle.mp_lifting.proofs.Growing.{one_more}
 use Rattle.mp_checker.specs.declared.fact.FactNumbers.{FactNumbers}
 use Rattle.mp_checker.specs.declared.numbered.NumberedAtom.{NumberedAtom}
 use Rattle.mp_checker.specs.declared.numbered.NumberedLiteral.{NumberedLiteral}

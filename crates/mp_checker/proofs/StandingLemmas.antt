@@ -21,8 +21,8 @@ use Rattle.mp_typing.specs.Under.{is_of_type}
 use Rattle.mp_typing.proofs.Placing.{passing_place, place_passes}
 use Rattle.mp_joint.specs.Fact.{Text}
 use Rattle.mp_joint.specs.FactorContribution.{declared_objects, may_stand, may_stand_for}
-use Rattle.mp_lifted.specs.Vocabulary.{declared_names}
-use Rattle.mp_lifted.proofs.DeclaredNames.{first_named}
+use Rattle.mp_lifting.specs.Vocabulary.{declared_names}
+use Rattle.mp_lifting.proofs.DeclaredNames.{first_named}
 use Rattle.mp_checker.specs.declared.numbered.ObjectNumber.{ObjectNumber}
 use Rattle.mp_checker.specs.AgentView.{Covers, AreKnown}
 use Rattle.mp_checker.specs.At.{nothing}

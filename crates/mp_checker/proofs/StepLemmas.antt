@@ -18,7 +18,7 @@ use Rattle.mp_joint.specs.FactorContribution.{privates_of, facts_of, factor_cont
 use Rattle.mp_joint.specs.Instance.{Instance}
 use Rattle.mp_joint.specs.Plan.{Contribution, instance_of}
 use Rattle.mp_plan_verdict.specs.Written.{factor_of as factor_at}
-use Rattle.mp_lifted.proofs.Growing.{one_more}
+use Rattle.mp_lifting.proofs.Growing.{one_more}
 use Rattle.mp_checker.specs.declared.fact.FactNumbers.{FactNumbers}
 use Rattle.mp_checker.specs.declared.numbered.NumberedAction.{NumberedAction}
 use Rattle.mp_checker.specs.declared.numbered.NumberedLiteral.{NumberedLiteral}

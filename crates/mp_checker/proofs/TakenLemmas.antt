@@ -19,7 +19,7 @@ use Rattle.mp_joint.specs.Fact.{Text}
 use Rattle.mp_joint.specs.FactorContribution.{privates_of, declared_objects, may_stand_for, instance_with, instance_of_schema, instance_at}
 use Rattle.mp_joint.specs.Grounding.{cost_of}
 use Rattle.mp_joint.specs.Instance.{Instance, State}
-use Rattle.mp_lifted.specs.Vocabulary.{declared_names}
+use Rattle.mp_lifting.specs.Vocabulary.{declared_names}
 use Rattle.mp_plan_verdict.specs.Written.{signed_facts, asked_at}
 use Rattle.mp_checker.specs.declared.fact.FactNumbers.{FactNumbers}
 use Rattle.mp_checker.specs.declared.factor.AgentFactor.TheInside.{Inside}
@@ -30,7 +30,7 @@ use Rattle.mp_checker.specs.AgentView.{AgentView, Covers, AreKnown, names_of, ag
 use Rattle.mp_checker.specs.At.{fact_at, is_true, is_one_of, named_state}
 use Rattle.mp_checker.specs.Costs.{HasValues, cost_at}
 use Rattle.mp_checker.specs.Numbering.{object_number, member_flags, numbered_action}
-use Rattle.mp_lifted.specs.Privates.{private_in}
+use Rattle.mp_lifting.specs.Privates.{private_in}
 use Rattle.mp_checker.specs.Standing.{are_flagged, numbers_at}
 use Rattle.mp_checker.specs.Taken.{IsBound, IsFailing, IsDone, failing}
 use Rattle.mp_checker.specs.Words.{names_of_schema, names_of_value, names_of_factor}

@@ -2,12 +2,12 @@
 use Rattle.std.specs.Prelude.{◌≡◌, map}
 use Rattle.mp_forms.specs.declared.schema_values.Schema.{Schema}
 use Rattle.mp_joint.specs.FactorContribution.{privates_of, declared_objects}
-use Rattle.mp_lifted.specs.Vocabulary.{declared_names}
+use Rattle.mp_lifting.specs.Vocabulary.{declared_names}
 use Rattle.mp_checker.specs.declared.factor.AgentFactor.TheInside.{Inside}
 use Rattle.mp_checker.specs.AgentView.{AgentView, Covers}
 use Rattle.mp_checker.specs.Costs.{HasValues}
 use Rattle.mp_checker.specs.Numbering.{object_number, numbered_action}
-use Rattle.mp_lifted.specs.Privates.{private_in}
+use Rattle.mp_lifting.specs.Privates.{private_in}
 use Rattle.mp_checker.specs.Words.{names_of_factor}
 
 abbrev pub agent_view : Inside → AgentView

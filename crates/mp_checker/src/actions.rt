@@ -4,13 +4,13 @@ ghost use Rattle.std.specs.Prelude.{◌≡◌, map, length, IfOk};
 ghost use Rattle.mp_typing.specs.ObjectList.{object_list};
 ghost use Rattle.mp_joint.specs.FactorContribution.{privates_of};
 ghost use Rattle.mp_checker.specs.Numbering.{amount as amount_of, amounts as amounts_of, numbered_action as action_of, is_total_cost as is_cost};
-ghost use Rattle.mp_lifted.specs.Privates.{private_in};
+ghost use Rattle.mp_lifting.specs.Privates.{private_in};
 
 use crate::atoms::{numbered_atom, numbered_atoms, numbered_literals};
 use crate::members::all_members;
 use crate::numbered::{Amount, NumberedAction};
 use mp_forms::{Atom, Increase, IncreaseList, Schema, SchemaList, TypedList};
-use mp_lifted::PrivateNames;
+use mp_lifting::PrivateNames;
 use mp_list::{List, OutOfMemory};
 use mp_sexp::NameTable;
 use mp_typing::CheckedFactor;

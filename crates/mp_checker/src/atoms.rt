@@ -2,11 +2,11 @@
 
 ghost use Rattle.std.specs.Prelude.{◌≡◌, map, IfOk};
 ghost use Rattle.mp_checker.specs.Numbering.{parameter_in, object_number as object_of, term_number as term_of, numbered_atom as atom_of, numbered_literal as literal_of};
-ghost use Rattle.mp_lifted.specs.Privates.{private_in};
+ghost use Rattle.mp_lifting.specs.Privates.{private_in};
 
 use crate::numbered::{NumberedAtom, NumberedLiteral, ObjectNumber, TermNumber};
 use mp_forms::{Atom, AtomList, Literal, LiteralList, Term, TermList, TypedList};
-use mp_lifted::PrivateNames;
+use mp_lifting::PrivateNames;
 use mp_list::{List, OutOfMemory, to_u32};
 use mp_sexp::{Name, NameTable};
 use std::alloc::Global;

@@ -11,7 +11,7 @@ use crate::objects::object_numbers;
 use crate::values::kept_values;
 use indexmap::IndexMap;
 use mp_forms::SchemaList;
-use mp_lifted::{PrivateNames, object_names, private_names};
+use mp_lifting::{PrivateNames, object_names, private_names};
 use mp_list::{List, OutOfMemory};
 use mp_sets::Agent;
 use mp_sexp::NameTable;

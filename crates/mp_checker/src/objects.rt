@@ -2,11 +2,11 @@
 
 ghost use Rattle.std.specs.Prelude.{◌≡◌, map, IfOk};
 ghost use Rattle.mp_checker.specs.Numbering.{object_number as object_of};
-ghost use Rattle.mp_lifted.specs.Privates.{private_in};
+ghost use Rattle.mp_lifting.specs.Privates.{private_in};
 
 use crate::atoms::object_number;
 use crate::numbered::ObjectNumber;
-use mp_lifted::PrivateNames;
+use mp_lifting::PrivateNames;
 use mp_list::{List, OutOfMemory};
 use mp_sexp::{Name, NameTable};
 use std::alloc::Global;

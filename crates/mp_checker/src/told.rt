@@ -4,11 +4,11 @@ ghost use Rattle.std.specs.Prelude.{◌≡◌, IfOk};
 ghost use Rattle.std.specs.List.{list_any};
 ghost use Rattle.mp_joint.specs.Fact.{named as named_of, is_listed};
 ghost use Rattle.mp_joint.specs.Grounding.{standing_for as object_for, object_of as object_in, objects_of as objects_in, fact_of};
-ghost use Rattle.mp_lifted.specs.Privates.{private_in};
+ghost use Rattle.mp_lifting.specs.Privates.{private_in};
 
 use mp_forms::{Literal, Term, TermList, Typed, TypedList};
 use mp_joint::{NamedFact, SignedFact};
-use mp_lifted::PrivateNames;
+use mp_lifting::PrivateNames;
 use mp_list::{Copied, List, OutOfMemory};
 use mp_sets::Agent;
 use mp_sexp::{Name, NameList};

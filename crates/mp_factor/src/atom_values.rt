@@ -7,7 +7,7 @@ ghost use Rattle.mp_factor.specs.Found.{found_in};
 ghost use Rattle.mp_forms.specs.Rules.Atoms.{object_rule, term_rule, predicate_rule, applied, applied_rule, atom_rule};
 
 use crate::found::{Form, Found, pair, read_each, shape_fault, word_fault};
-use crate::trees::{is_fixed, is_variable, members, place};
+use crate::trees::{is_fixed_tree, is_variable_tree, members, place};
 use crate::word::{NameForm, word_in};
 use mp_forms::{Atom, Term, Word};
 use mp_list::OutOfMemory;
@@ -36,7 +36,7 @@ impl Form<Term> for TermForm {
     ghost rule = { λ form node. term_rule node };
 
     fn read(&self, alloc: Global, tree: &Tree) -> Result<Found<Term>, OutOfMemory> {
-        if is_variable(tree) {
+        if is_variable_tree(tree) {
             Ok(Ok(Term::Variable(word_in(alloc, tree)?)))
         } else {
             ObjectForm.read(alloc, tree)
@@ -53,7 +53,7 @@ impl Form<Word> for PredicateForm {
     ghost rule = { λ form node. predicate_rule node };
 
     fn read(&self, alloc: Global, tree: &Tree) -> Result<Found<Word>, OutOfMemory> {
-        if is_fixed(tree) {
+        if is_fixed_tree(tree) {
             word_fault(alloc, tree)
         } else {
             NameForm.read(alloc, tree)

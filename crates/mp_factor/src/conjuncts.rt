@@ -7,8 +7,8 @@ ghost use Rattle.mp_forms.specs.Conjuncts.{conjuncts};
 ghost use Rattle.mp_forms.specs.Reading.{each};
 ghost use Rattle.mp_factor.specs.Found.{found_in};
 
-use crate::found::{Form, Found, with_item};
-use crate::trees::is_word;
+use crate::found::{Form, Found, add_item};
+use crate::trees::is_keyword;
 use mp_list::{List, OutOfMemory};
 use mp_sexp::Tree;
 use std::alloc::Global;
@@ -34,7 +34,7 @@ fn add_conjuncts<'t>(out: &mut Vec<&'t Tree>, tree: &'t Tree) -> Result<(), OutO
         Tree::List(list, _) => match list.items.as_slice() {
             [] => Ok(()),
             [head, rest @ ..] => {
-                if is_word(head, b"and") {
+                if is_keyword(head, b"and") {
                     add_all_conjuncts(out, rest)
                 } else {
                     add_tree(out, tree)
@@ -76,7 +76,7 @@ pub fn read_conjuncts<T: Drop, F: Form<T>>(
 {
     let mut so_far = Ok(List::new(alloc));
     for tree in trees {
-        so_far = with_item(so_far, form.read(alloc, tree)?)?;
+        so_far = add_item(so_far, form.read(alloc, tree)?)?;
     }
     Ok(so_far)
 }

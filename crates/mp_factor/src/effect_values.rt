@@ -2,7 +2,7 @@
 
 ghost use Rattle.std.specs.Prelude.{◌≡◌, [], List, map, ◌-◌, IfOk, OnOk};
 ghost use Rattle.mp_sexp.specs.Node.{node_of, nodes_in};
-ghost use Rattle.mp_forms.specs.Conjuncts.{is_increase as increase_test};
+ghost use Rattle.mp_forms.specs.Conjuncts.{is_increase};
 ghost use Rattle.mp_forms.specs.Limits.{most_increases};
 ghost use Rattle.mp_forms.specs.Reading.{besides, each, nothing_more, at_most};
 ghost use Rattle.mp_factor.specs.Found.{found_in, said_found, both_found};
@@ -15,8 +15,8 @@ use crate::conjuncts::conjuncts_in;
 use crate::counted::{Room, counted};
 use crate::found::{Form, Found, cost_fault, expect_end, pair, second, shape_fault, word_fault};
 use crate::literal::NegatedForm;
-use crate::numbers::{cost, is_number};
-use crate::trees::{is_headed, is_list, is_word, members, place, word};
+use crate::numbers::{cost, is_spelled_as_number};
+use crate::trees::{has_head, is_keyword, is_list_tree, members, place, word};
 use crate::word::NameForm;
 use mp_forms::{Change, Effect, FaultKind, Increase};
 use mp_list::{List, OutOfMemory};
@@ -45,7 +45,7 @@ impl Form<u64> for CostForm {
     ghost rule = { λ form node. cost_rule node };
 
     fn read(&self, alloc: Global, tree: &Tree) -> Result<Found<u64>, OutOfMemory> {
-        if is_number(word(tree)) {
+        if is_spelled_as_number(word(tree)) {
             Ok(allowed_cost(alloc, place(tree), cost(word(tree))))
         } else {
             Ok(shape_fault(alloc, place(tree)))
@@ -58,13 +58,13 @@ impl Form<u64> for CostForm {
 fn check_target(alloc: Global, head: &Tree, tree: &Tree) -> Result<Found<()>, OutOfMemory>
     ensures { IfOk result (λ found. found ≡ found_in (target_rule (node_of head.now) (node_of tree.now))) }
 {
-    if is_word(tree, b"total-cost") {
+    if is_keyword(tree, b"total-cost") {
         return Ok(shape_fault(alloc, place(tree)));
     }
     match members(tree) {
         [] => word_fault(alloc, head),
         [function, extra @ ..] => {
-            if is_word(function, b"total-cost") {
+            if is_keyword(function, b"total-cost") {
                 Ok(expect_end(alloc, extra))
             } else {
                 word_fault(alloc, head)
@@ -78,7 +78,7 @@ fn check_target(alloc: Global, head: &Tree, tree: &Tree) -> Result<Found<()>, Ou
 fn read_amount(alloc: Global, tree: &Tree) -> Result<Found<Increase>, OutOfMemory>
     ensures { IfOk result (λ found. found ≡ found_in (amount_rule (node_of tree.now))) }
 {
-    if is_list(tree) {
+    if is_list_tree(tree) {
         let function = Applied {
             name: NameForm,
             term: TermForm,
@@ -130,13 +130,13 @@ fn read_increase(alloc: Global, tree: &Tree) -> Result<Found<Increase>, OutOfMem
 fn read_change(alloc: Global, tree: &Tree) -> Result<Found<Change>, OutOfMemory>
     ensures { IfOk result (λ found. found ≡ found_in (change_rule (node_of tree.now))) }
 {
-    if is_headed(tree, b"not") {
+    if has_head(tree, b"not") {
         Ok(
             NegatedForm
                 .read(alloc, tree)?
                 .map(|atom| Change::Delete(atom)),
         )
-    } else if is_headed(tree, b"increase") {
+    } else if has_head(tree, b"increase") {
         Ok(read_increase(alloc, tree)?.map(|increase| Change::Grow(increase)))
     } else {
         Ok(AtomForm.read(alloc, tree)?.map(|atom| Change::Add(atom)))
@@ -185,7 +185,7 @@ fn read_changes(alloc: Global, trees: &[&Tree]) -> Result<Found<Effect>, OutOfMe
 
 /// Whether there are at most sixteen increases among these conjuncts.
 fn check_increases(alloc: Global, trees: &[&Tree]) -> Found<()>
-    ensures { result ≡ found_in (at_most most_increases increase_test surplus_increase (map (λ t. node_of t.now) trees.now)) }
+    ensures { result ≡ found_in (at_most most_increases is_increase surplus_increase (map (λ t. node_of t.now) trees.now)) }
 {
     let mut room = Room {
         found: Ok(()),
@@ -195,7 +195,7 @@ fn check_increases(alloc: Global, trees: &[&Tree]) -> Found<()>
         room = counted(
             alloc,
             room,
-            is_headed(tree, b"increase"),
+            has_head(tree, b"increase"),
             place(tree),
             FaultKind::Cost,
         );

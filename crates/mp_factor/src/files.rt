@@ -5,13 +5,13 @@ ghost use Rattle.mp_sexp.specs.Node.{node_of, nodes_in};
 ghost use Rattle.mp_forms.specs.Words.{is_among};
 ghost use Rattle.mp_forms.specs.Reading.{all_right, alone, besides, keyword};
 ghost use Rattle.mp_factor.specs.Found.{found_in};
-ghost use Rattle.mp_factor.specs.OfFile.{own_words, other_words, kind_word as kind_word_of};
+ghost use Rattle.mp_factor.specs.OfFile.{own_words, other_words, kind_word};
 ghost use Rattle.mp_forms.specs.Rules.Words.{name_rule};
 ghost use Rattle.mp_forms.specs.Rules.Sections.{domain_words, problem_words, section_rule};
 ghost use Rattle.mp_forms.specs.Rules.Files.{title_rule};
 
 use crate::found::{Form, Found, check_each, expect, read_alone, second, shape_fault, word_fault};
-use crate::trees::{is_list, members, place, word};
+use crate::trees::{is_list_tree, members, place, word};
 use crate::word::NameForm;
 use crate::words::is_same;
 use mp_forms::{File, Word};
@@ -79,7 +79,7 @@ impl Form<()> for SectionForm {
         match members(tree) {
             [] => Ok(shape_fault(alloc, place(tree))),
             [head, ..] => {
-                if is_list(head) {
+                if is_list_tree(head) {
                     Ok(shape_fault(alloc, place(head)))
                 } else if begins_section(self.file, word(head)) {
                     Ok(Ok(()))
@@ -106,8 +106,8 @@ pub fn check_sections(
 }
 
 /// The word that tells the file's kind.
-fn kind_word(file: File) -> &'static [u8]
-    ensures { result.now ≡ kind_word_of file }
+fn word_of_kind(file: File) -> &'static [u8]
+    ensures { result.now ≡ kind_word file }
 {
     match file {
         File::Domain => b"domain",
@@ -124,17 +124,17 @@ fn read_named(
     head: &Tree,
     rest: &[Tree],
 ) -> Result<Found<Word>, OutOfMemory>
-    ensures { IfOk result (λ found. found ≡ found_in (besides (keyword (kind_word_of file) (node_of head.now))
+    ensures { IfOk result (λ found. found ≡ found_in (besides (keyword (kind_word file) (node_of head.now))
         (alone name_rule whole (nodes_in rest.now)))) }
 {
-    let kind = expect(alloc, kind_word(file), head);
+    let kind = expect(alloc, word_of_kind(file), head);
     Ok(second(kind, read_alone(alloc, &NameForm, whole, rest)?))
 }
 
 /// The name of a file. Refuses only for want of memory.
 #[tactic(auto, unfolding(mp_forms::specs::Rules::Files::title_rule))]
 pub fn read_title(alloc: Global, file: File, tree: &Tree) -> Result<Found<Word>, OutOfMemory>
-    ensures { IfOk result (λ found. found ≡ found_in (title_rule (kind_word_of file) (node_of tree.now))) }
+    ensures { IfOk result (λ found. found ≡ found_in (title_rule (kind_word file) (node_of tree.now))) }
 {
     match members(tree) {
         [] => Ok(shape_fault(alloc, place(tree))),

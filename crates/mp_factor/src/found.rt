@@ -6,7 +6,7 @@ ghost use Rattle.mp_forms.specs.Reading.{Reading, all_right, alone, besides, cos
 ghost use Rattle.mp_factor.specs.Found.{found_in, both_found, second_found};
 
 use crate::fault::{earlier, of_word, without_word};
-use crate::trees::{is_word, place};
+use crate::trees::{is_keyword, place};
 use mp_forms::{Fault, FaultKind};
 use mp_list::{List, OutOfMemory};
 use mp_sexp::{Place, Tree};
@@ -70,7 +70,7 @@ pub fn cost_fault<T>(alloc: Global, place: Place) -> Found<T>
 pub fn expect(alloc: Global, word: &[u8], tree: &Tree) -> Found<()>
     ensures { result ≡ found_in (keyword word.now (node_of tree.now)) }
 {
-    if is_word(tree, word) {
+    if is_keyword(tree, word) {
         Ok(())
     } else {
         shape_fault(alloc, place(tree))
@@ -98,7 +98,7 @@ pub trait Form<T> {
 }
 
 /// The items so far and one more. Refuses only for want of memory.
-pub fn with_item<T: Drop>(
+pub fn add_item<T: Drop>(
     so_far: Found<List<T>>,
     item: Found<T>,
 ) -> Result<Found<List<T>>, OutOfMemory>
@@ -123,7 +123,7 @@ pub fn read_each<T: Drop, F: Form<T>>(
 {
     let mut so_far = Ok(List::with_capacity(alloc, trees.len())?);
     for tree in trees {
-        so_far = with_item(so_far, form.read(alloc, tree)?)?;
+        so_far = add_item(so_far, form.read(alloc, tree)?)?;
     }
     Ok(so_far)
 }

@@ -15,7 +15,7 @@ use crate::atom_values::{Applied, AtomForm, ObjectForm};
 use crate::effect_values::CostForm;
 use crate::first_costs::check_given;
 use crate::found::{Form, Found, expect_end, pair, second, shape_fault};
-use crate::trees::{is_headed, members, place};
+use crate::trees::{has_head, members, place};
 use crate::word::NameForm;
 use mp_forms::{Fact, Start, Value};
 use mp_list::{List, OutOfMemory};
@@ -51,7 +51,7 @@ fn read_value(
 fn read_fact(alloc: Global, tree: &Tree) -> Result<Found<Fact>, OutOfMemory>
     ensures { IfOk result (λ found. found ≡ found_in (fact_rule (node_of tree.now))) }
 {
-    if !is_headed(tree, b"=") {
+    if !has_head(tree, b"=") {
         return Ok(AtomForm.read(alloc, tree)?.map(|atom| Fact::Holds(atom)));
     }
     match members(tree) {

@@ -5,10 +5,10 @@ ghost use Rattle.mp_sexp.specs.Node.{node_of, nodes_in};
 ghost use Rattle.mp_factor.specs.Found.{found_in};
 ghost use Rattle.mp_forms.specs.Reading.{all_right};
 ghost use Rattle.mp_factor.specs.FoundForms.{key_nodes};
-ghost use Rattle.mp_forms.specs.Rules.Actions.{is_key, value_length, keys_of, is_cut_short as cut_short_test, key_rule};
+ghost use Rattle.mp_forms.specs.Rules.Actions.{is_key, value_length, keys_of, is_cut_short, key_rule};
 
 use crate::found::{Found, second, shape_fault, word_fault};
-use crate::trees::{is_list, is_word, place, split};
+use crate::trees::{is_keyword, is_list_tree, place, split};
 use mp_list::OutOfMemory;
 use mp_sexp::{Place, Tree};
 use std::alloc::Global;
@@ -32,10 +32,10 @@ struct FirstKey<'t> {
 fn names_key(tree: &Tree) -> bool
     ensures { result ≡ is_key (node_of tree.now) }
 {
-    is_word(tree, b":agent")
-        || is_word(tree, b":parameters")
-        || is_word(tree, b":precondition")
-        || is_word(tree, b":effect")
+    is_keyword(tree, b":agent")
+        || is_keyword(tree, b":parameters")
+        || is_keyword(tree, b":precondition")
+        || is_keyword(tree, b":effect")
 }
 
 /// How many members the value of a key has.
@@ -43,7 +43,7 @@ fn names_key(tree: &Tree) -> bool
 fn value_len(tree: &Tree) -> usize
     ensures { result ≡ value_length (node_of tree.now) }
 {
-    if is_word(tree, b":agent") {
+    if is_keyword(tree, b":agent") {
         3
     } else if names_key(tree) {
         1
@@ -84,8 +84,8 @@ pub fn keys_in(alloc: Global, trees: &[Tree]) -> Result<Vec<Key<'_>>, OutOfMemor
 }
 
 /// Whether a value lacks some of its members.
-fn is_cut_short(key: Key<'_>) -> bool
-    ensures { result ≡ cut_short_test (key_nodes key.entry) }
+fn lacks_members(key: Key<'_>) -> bool
+    ensures { result ≡ is_cut_short (key_nodes key.entry) }
 {
     key.value.len() < value_len(key.key)
 }
@@ -96,11 +96,11 @@ fn is_cut_short(key: Key<'_>) -> bool
 fn check_key(alloc: Global, whole: Place, key: Key<'_>) -> Result<Found<()>, OutOfMemory>
     ensures { IfOk result (λ found. found ≡ found_in (key_rule whole (key_nodes key.entry))) }
 {
-    if is_list(key.key) {
+    if is_list_tree(key.key) {
         Ok(shape_fault(alloc, place(key.key)))
     } else if !names_key(key.key) {
         word_fault(alloc, key.key)
-    } else if is_cut_short(key) {
+    } else if lacks_members(key) {
         Ok(shape_fault(alloc, whole))
     } else {
         Ok(Ok(()))

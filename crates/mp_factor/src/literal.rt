@@ -5,7 +5,7 @@ ghost use Rattle.mp_forms.specs.Rules.Conditions.{negated_rule, literal_rule, co
 use crate::atom_values::AtomForm;
 use crate::conjuncts::{conjuncts_in, read_conjuncts};
 use crate::found::{Form, Found, read_alone};
-use crate::trees::{behind_first, is_headed, members, place};
+use crate::trees::{behind_first, has_head, members, place};
 use mp_forms::{Atom, Literal, LiteralList};
 use mp_list::OutOfMemory;
 use mp_sexp::Tree;
@@ -33,7 +33,7 @@ impl Form<Literal> for LiteralForm {
     ghost rule = { λ form node. literal_rule node };
 
     fn read(&self, alloc: Global, tree: &Tree) -> Result<Found<Literal>, OutOfMemory> {
-        if is_headed(tree, b"not") {
+        if has_head(tree, b"not") {
             let atom = NegatedForm.read(alloc, tree)?;
             Ok(atom.map(|atom| Literal {
                 positive: false,

@@ -2,19 +2,19 @@
 
 ghost use Rattle.std.specs.Prelude.{◌≡◌, ◌==◌, ◌<◌, length, position, IfSome};
 ghost use Rattle.std.specs.List.{list_all};
-ghost use Rattle.mp_forms.specs.Words.{is_digit as digit_of};
-ghost use Rattle.mp_forms.specs.Numbers.{whole_part as whole_part_of, decimals as decimals_of, is_digits as digits_test, is_number as number_test, least_of_whole, cost_of};
+ghost use Rattle.mp_forms.specs.Words.{is_digit};
+ghost use Rattle.mp_forms.specs.Numbers.{whole_part, decimals, is_digits, is_number, least_of_whole, cost_of};
 
-use crate::words::is_digit;
+use crate::words::is_digit_byte;
 
 /// The greatest cost.
 pub const GREATEST_COST: u64 = 1_000_000;
 
 /// Whether these are digits.
 fn are_digits(bytes: &[u8]) -> bool
-    ensures { result ≡ list_all digit_of bytes.now }
+    ensures { result ≡ list_all is_digit bytes.now }
 {
-    bytes.iter().all(|byte| is_digit(*byte))
+    bytes.iter().all(|byte| is_digit_byte(*byte))
 }
 
 /// Where the first point stands.
@@ -26,16 +26,16 @@ fn point(word: &[u8]) -> Option<usize>
 }
 
 /// Whether these are one or more digits.
-fn is_digits(bytes: &[u8]) -> bool
-    ensures { result ≡ digits_test bytes.now }
+fn has_digits_only(bytes: &[u8]) -> bool
+    ensures { result ≡ is_digits bytes.now }
 {
     !bytes.is_empty() && are_digits(bytes)
 }
 
 /// What stands before the first point.
 #[tactic(auto, unfolding(mp_forms::specs::Numbers::whole_part))]
-fn whole_part(word: &[u8]) -> &[u8]
-    ensures { result.now ≡ whole_part_of word.now }
+fn before_point(word: &[u8]) -> &[u8]
+    ensures { result.now ≡ whole_part word.now }
 {
     match point(word) {
         Some(at) => &word[..at],
@@ -45,8 +45,8 @@ fn whole_part(word: &[u8]) -> &[u8]
 
 /// What stands behind the first point.
 #[tactic(auto, unfolding(mp_forms::specs::Numbers::decimals))]
-fn decimals(word: &[u8]) -> &[u8]
-    ensures { result.now ≡ decimals_of word.now }
+fn after_point(word: &[u8]) -> &[u8]
+    ensures { result.now ≡ decimals word.now }
 {
     match point(word) {
         Some(at) => &word[at + 1..],
@@ -56,10 +56,10 @@ fn decimals(word: &[u8]) -> &[u8]
 
 /// Whether a word is a number: digits, or digits, a point and digits.
 #[tactic(auto, unfolding(mp_forms::specs::Numbers::is_number))]
-pub fn is_number(word: &[u8]) -> bool
-    ensures { result ≡ number_test word.now }
+pub fn is_spelled_as_number(word: &[u8]) -> bool
+    ensures { result ≡ is_number word.now }
 {
-    is_digits(whole_part(word)) && is_digits(decimals(word))
+    has_digits_only(before_point(word)) && has_digits_only(after_point(word))
 }
 
 /// The value of these digits, or 1,000,001 where it is above the greatest cost.
@@ -86,10 +86,10 @@ fn are_zeros(bytes: &[u8]) -> bool
 pub fn cost(word: &[u8]) -> Option<u64>
     ensures { result ≡ cost_of word.now }
 {
-    if !is_number(word) || !are_zeros(decimals(word)) {
+    if !is_spelled_as_number(word) || !are_zeros(after_point(word)) {
         return None;
     }
-    let value = least_value(whole_part(word));
+    let value = least_value(before_point(word));
     if value <= GREATEST_COST {
         Some(value)
     } else {

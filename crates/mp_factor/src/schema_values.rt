@@ -3,7 +3,7 @@
 ghost use Rattle.std.specs.Prelude.{◌≡◌, ◌++◌, ◌∷◌, [], false, List, codes, map, take, option_map, IfOk};
 ghost use Rattle.std.specs.List.{find, flat_map};
 ghost use Rattle.mp_sexp.specs.Node.{Node, node_of, nodes_in};
-ghost use Rattle.mp_forms.specs.Parts.{place_of, is_word as word_test, is_variable_word};
+ghost use Rattle.mp_forms.specs.Parts.{place_of, is_word, is_variable_word};
 ghost use Rattle.mp_forms.specs.Limits.{most_parameters};
 ghost use Rattle.mp_forms.specs.Reading.{both, besides, keyword, wanted, at_most, misshapen};
 ghost use Rattle.mp_factor.specs.Found.{found_in, both_found, second_found, said_found};
@@ -19,7 +19,7 @@ use crate::effect_values::EffectForm;
 use crate::found::{Form, Found, expect, pair, read_wanted, second, shape_fault};
 use crate::keys::{Key, check_keys, keys_in};
 use crate::literal::ConditionForm;
-use crate::trees::{behind_first, is_list, is_variable, is_word, members, place};
+use crate::trees::{behind_first, is_keyword, is_list_tree, is_variable_tree, members, place};
 use crate::typed_values::{TypeForm, VARIABLES, append, read_typed};
 use crate::word::{NameForm, VariableForm};
 use mp_forms::{Effect, FaultKind, LiteralList, Schema, Typed, TypedList, Word, WordList};
@@ -98,7 +98,7 @@ impl Form<TypedList> for ParametersForm {
     ghost rule = { λ form node. parameters_rule node };
 
     fn read(&self, alloc: Global, tree: &Tree) -> Result<Found<TypedList>, OutOfMemory> {
-        if is_list(tree) {
+        if is_list_tree(tree) {
             read_typed(alloc, &VARIABLES, place(tree), members(tree))
         } else {
             Ok(shape_fault(alloc, place(tree)))
@@ -108,10 +108,10 @@ impl Form<TypedList> for ParametersForm {
 
 /// The first key that is this word.
 fn first_named<'t>(keys: &[Key<'t>], keyword: &[u8]) -> Option<Key<'t>>
-    ensures { option_map key_nodes result ≡ find (λ k. word_test keyword.now k.key) (map key_nodes keys.now) }
+    ensures { option_map key_nodes result ≡ find (λ k. is_word keyword.now k.key) (map key_nodes keys.now) }
 {
     for key in keys {
-        if is_word(key.key, keyword) {
+        if is_keyword(key.key, keyword) {
             return Some(*key);
         }
     }
@@ -120,7 +120,7 @@ fn first_named<'t>(keys: &[Key<'t>], keyword: &[u8]) -> Option<Key<'t>>
 
 /// Whether at most one key is this word.
 fn check_single(alloc: Global, keys: &[Key<'_>], keyword: &[u8]) -> Found<()>
-    ensures { result ≡ found_in (at_most 1 (λ k. word_test keyword.now k.key) (λ k. misshapen (place_of k.key))
+    ensures { result ≡ found_in (at_most 1 (λ k. is_word keyword.now k.key) (λ k. misshapen (place_of k.key))
         (map key_nodes keys.now)) }
 {
     let mut room = Room {
@@ -128,7 +128,7 @@ fn check_single(alloc: Global, keys: &[Key<'_>], keyword: &[u8]) -> Found<()>
         left: 1,
     };
     for key in keys {
-        let is_one = is_word(key.key, keyword);
+        let is_one = is_keyword(key.key, keyword);
         room = counted(alloc, room, is_one, place(key.key), FaultKind::Shape);
     }
     room.found
@@ -297,9 +297,9 @@ fn first_alone(trees: &[Tree]) -> &[Tree]
 fn naming_members<'t>(key: Key<'t>) -> &'t [Tree]
     ensures { nodes_in result.now ≡ parameter_members (key_nodes key.entry) }
 {
-    if is_word(key.key, b":agent") {
+    if is_keyword(key.key, b":agent") {
         first_alone(key.value)
-    } else if is_word(key.key, b":parameters") {
+    } else if is_keyword(key.key, b":parameters") {
         first_members(key.value)
     } else {
         &[]
@@ -317,7 +317,7 @@ fn count_parameters(alloc: Global, room: Room, trees: &[Tree]) -> Room
         room = counted(
             alloc,
             room,
-            is_variable(tree),
+            is_variable_tree(tree),
             place(tree),
             FaultKind::Parameters,
         );

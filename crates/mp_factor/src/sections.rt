@@ -3,20 +3,20 @@
 ghost use Rattle.std.specs.Prelude.{◌≡◌, ◌∷◌, [], codes, option_map, IfOk};
 ghost use Rattle.std.specs.List.{filter, find};
 ghost use Rattle.mp_sexp.specs.Node.{node_of, nodes_in};
-ghost use Rattle.mp_forms.specs.Parts.{place_of, is_headed as headed_test};
+ghost use Rattle.mp_forms.specs.Parts.{place_of, is_headed};
 ghost use Rattle.mp_forms.specs.Reading.{Reading, at_most, each, misshapen, Says};
 ghost use Rattle.mp_factor.specs.Found.{found_in, more_found};
 ghost use Rattle.mp_forms.specs.Rules.Actions.{action_rule};
-ghost use Rattle.mp_forms.specs.Rules.Sections.{in_section, requirement_rule, requirements_rule, listed_rule, named_rule, start_rule, goal_rule, is_total_cost as total_cost_test, is_cost_metric as cost_metric_test, metric_rule, actions_rule};
+ghost use Rattle.mp_forms.specs.Rules.Sections.{in_section, requirement_rule, requirements_rule, listed_rule, named_rule, start_rule, goal_rule, is_total_cost, is_cost_metric, metric_rule, actions_rule};
 
 use crate::counted::{Room, counted};
 use crate::found::{
-    Form, Found, check_each, read_alone, second, shape_fault, with_item, word_fault,
+    Form, Found, add_item, check_each, read_alone, second, shape_fault, word_fault,
 };
 use crate::init_values::read_start;
 use crate::literal::ConditionForm;
 use crate::schema_values::ActionForm;
-use crate::trees::{behind_first, is_headed, is_list, is_word, members, place};
+use crate::trees::{behind_first, has_head, is_keyword, is_list_tree, members, place};
 use crate::typed_values::{Listing, read_typed};
 use crate::word::NameForm;
 use mp_forms::{FaultKind, LiteralList, SchemaList, Start, Word};
@@ -26,10 +26,10 @@ use std::alloc::Global;
 
 /// The first section that begins with this word.
 fn section<'t>(sections: &'t [Tree], keyword: &[u8]) -> Option<&'t Tree>
-    ensures { option_map (λ t. node_of t.now) result ≡ find (headed_test keyword.now) (nodes_in sections.now) }
+    ensures { option_map (λ t. node_of t.now) result ≡ find (is_headed keyword.now) (nodes_in sections.now) }
 {
     for tree in sections {
-        if is_headed(tree, keyword) {
+        if has_head(tree, keyword) {
             return Some(tree);
         }
     }
@@ -38,7 +38,7 @@ fn section<'t>(sections: &'t [Tree], keyword: &[u8]) -> Option<&'t Tree>
 
 /// Whether at most one section begins with this word.
 fn check_single(alloc: Global, sections: &[Tree], keyword: &[u8]) -> Found<()>
-    ensures { result ≡ found_in (at_most 1 (headed_test keyword.now) (λ n. misshapen (place_of n)) (nodes_in sections.now)) }
+    ensures { result ≡ found_in (at_most 1 (is_headed keyword.now) (λ n. misshapen (place_of n)) (nodes_in sections.now)) }
 {
     let mut room = Room {
         found: Ok(()),
@@ -48,7 +48,7 @@ fn check_single(alloc: Global, sections: &[Tree], keyword: &[u8]) -> Found<()>
         room = counted(
             alloc,
             room,
-            is_headed(tree, keyword),
+            has_head(tree, keyword),
             place(tree),
             FaultKind::Shape,
         );
@@ -113,9 +113,9 @@ impl Form<()> for RequirementForm {
     ghost rule = { λ form node. requirement_rule node };
 
     fn read(&self, alloc: Global, tree: &Tree) -> Result<Found<()>, OutOfMemory> {
-        if is_list(tree) {
+        if is_list_tree(tree) {
             Ok(shape_fault(alloc, place(tree)))
-        } else if is_word(tree, b":unfactored-privacy") {
+        } else if is_keyword(tree, b":unfactored-privacy") {
             word_fault(alloc, tree)
         } else {
             Ok(Ok(()))
@@ -181,21 +181,21 @@ impl Form<LiteralList> for GoalForm {
 }
 
 /// Whether these are the total cost alone.
-fn is_total_cost(trees: &[Tree]) -> bool
-    ensures { result ≡ total_cost_test (nodes_in trees.now) }
+fn names_cost(trees: &[Tree]) -> bool
+    ensures { result ≡ is_total_cost (nodes_in trees.now) }
 {
     match trees {
-        [function] => is_word(function, b"total-cost"),
+        [function] => is_keyword(function, b"total-cost"),
         _ => false,
     }
 }
 
 /// Whether these are `minimize` and `(total-cost)`.
-fn is_cost_metric(trees: &[Tree]) -> bool
-    ensures { result ≡ cost_metric_test (nodes_in trees.now) }
+fn asks_for_total_cost(trees: &[Tree]) -> bool
+    ensures { result ≡ is_cost_metric (nodes_in trees.now) }
 {
     match trees {
-        [direction, target] => is_word(direction, b"minimize") && is_total_cost(members(target)),
+        [direction, target] => is_keyword(direction, b"minimize") && names_cost(members(target)),
         _ => false,
     }
 }
@@ -212,7 +212,7 @@ impl Form<bool> for MetricForm {
         match members(tree) {
             [] => Ok(shape_fault(alloc, place(tree))),
             [head, metric @ ..] => {
-                if is_cost_metric(metric) {
+                if asks_for_total_cost(metric) {
                     Ok(Ok(true))
                 } else {
                     word_fault(alloc, head)
@@ -229,10 +229,10 @@ fn with_action(
     tree: &Tree,
 ) -> Result<Found<SchemaList>, OutOfMemory>
     ensures { IfOk result (λ found. found ≡ more_found so_far
-        (found_in (each action_rule (filter (headed_test (codes ":action")) (node_of tree.now ∷ []))))) }
+        (found_in (each action_rule (filter (is_headed (codes ":action")) (node_of tree.now ∷ []))))) }
 {
-    if is_headed(tree, b":action") {
-        with_item(so_far, ActionForm.read(alloc, tree)?)
+    if has_head(tree, b":action") {
+        add_item(so_far, ActionForm.read(alloc, tree)?)
     } else {
         Ok(so_far)
     }

@@ -5,10 +5,10 @@ ghost use Rattle.mp_sexp.specs.Node.{node_of, nodes_in};
 ghost use Rattle.mp_forms.specs.Reading.{both};
 ghost use Rattle.mp_factor.specs.Found.{found_in};
 ghost use Rattle.mp_forms.specs.Rules.Typed.{typed_rule, variables};
-ghost use Rattle.mp_forms.specs.Rules.Signatures.{declared_predicate, declared_function, is_no_signature as no_signature_test, signature_of, signature_rule, signatures};
+ghost use Rattle.mp_forms.specs.Rules.Signatures.{declared_predicate, declared_function, is_no_signature, signature_of, signature_rule, signatures};
 
 use crate::found::{Form, Found, expect, pair, shape_fault};
-use crate::trees::{is_fixed, is_headed, is_list, is_word, members, place};
+use crate::trees::{has_head, is_fixed_tree, is_keyword, is_list_tree, members, place};
 use crate::typed_values::{Listing, VARIABLES, WithBlocks, read_typed};
 use crate::word::NameForm;
 use mp_forms::{Signature, SignatureList, Word};
@@ -25,7 +25,7 @@ impl Form<Word> for DeclaredPredicate {
     ghost rule = { λ form node. declared_predicate node };
 
     fn read(&self, alloc: Global, tree: &Tree) -> Result<Found<Word>, OutOfMemory> {
-        if is_fixed(tree) {
+        if is_fixed_tree(tree) {
             Ok(shape_fault(alloc, place(tree)))
         } else {
             NameForm.read(alloc, tree)
@@ -42,7 +42,7 @@ impl Form<Word> for DeclaredFunction {
     ghost rule = { λ form node. declared_function node };
 
     fn read(&self, alloc: Global, tree: &Tree) -> Result<Found<Word>, OutOfMemory> {
-        if is_word(tree, b"total-cost") {
+        if is_keyword(tree, b"total-cost") {
             NameForm.read(alloc, tree)
         } else {
             DeclaredPredicate.read(alloc, tree)
@@ -51,10 +51,10 @@ impl Form<Word> for DeclaredFunction {
 }
 
 /// Whether a tree is no signature: a word or a block.
-fn is_no_signature(tree: &Tree) -> bool
-    ensures { result ≡ no_signature_test (node_of tree.now) }
+fn is_not_a_signature(tree: &Tree) -> bool
+    ensures { result ≡ is_no_signature (node_of tree.now) }
 {
-    !is_list(tree) || is_headed(tree, b":private")
+    !is_list_tree(tree) || has_head(tree, b":private")
 }
 
 /// The signatures of a list without blocks.
@@ -128,7 +128,7 @@ impl<N: Form<Word>> Listing<Signature, ()> for Signatures<N> {
     fn untyped(&self, _alloc: Global) {}
 
     fn is_block(&self, tree: &Tree) -> bool {
-        is_no_signature(tree)
+        is_not_a_signature(tree)
     }
 
     fn read_block(&self, alloc: Global, tree: &Tree) -> Result<Found<SignatureList>, OutOfMemory> {

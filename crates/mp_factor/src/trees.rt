@@ -2,7 +2,7 @@
 
 ghost use Rattle.std.specs.Prelude.{◌≡◌, ◌≤◌, take, drop, length};
 ghost use Rattle.mp_sexp.specs.Node.{node_of, nodes_in};
-ghost use Rattle.mp_forms.specs.Parts.{is_word as word_test, place_of, word_of, parts, is_list as list_test, is_headed as headed_test, is_name_word, is_variable_word, is_fixed_word, rest_of};
+ghost use Rattle.mp_forms.specs.Parts.{is_word, place_of, word_of, parts, is_list, is_headed, is_name_word, is_variable_word, is_fixed_word, rest_of};
 
 use crate::words;
 use mp_sexp::{Place, Tree};
@@ -48,8 +48,8 @@ pub fn behind_first(trees: &[Tree]) -> &[Tree]
 }
 
 /// Whether a tree is a list.
-pub fn is_list(tree: &Tree) -> bool
-    ensures { result ≡ list_test (node_of tree.now) }
+pub fn is_list_tree(tree: &Tree) -> bool
+    ensures { result ≡ is_list (node_of tree.now) }
 {
     match tree {
         Tree::Word(_, _) => false,
@@ -58,8 +58,8 @@ pub fn is_list(tree: &Tree) -> bool
 }
 
 /// Whether a tree is this word.
-pub fn is_word(tree: &Tree, keyword: &[u8]) -> bool
-    ensures { result ≡ word_test keyword.now (node_of tree.now) }
+pub fn is_keyword(tree: &Tree, keyword: &[u8]) -> bool
+    ensures { result ≡ is_word keyword.now (node_of tree.now) }
 {
     match tree {
         Tree::Word(name, _) => words::is_same(name.as_slice(), keyword),
@@ -68,34 +68,34 @@ pub fn is_word(tree: &Tree, keyword: &[u8]) -> bool
 }
 
 /// Whether a tree is a list that begins with this word.
-pub fn is_headed(tree: &Tree, keyword: &[u8]) -> bool
-    ensures { result ≡ headed_test keyword.now (node_of tree.now) }
+pub fn has_head(tree: &Tree, keyword: &[u8]) -> bool
+    ensures { result ≡ is_headed keyword.now (node_of tree.now) }
 {
     match members(tree) {
         [] => false,
-        [head, ..] => is_word(head, keyword),
+        [head, ..] => is_keyword(head, keyword),
     }
 }
 
 /// Whether a tree is a name.
-pub fn is_name(tree: &Tree) -> bool
+pub fn is_name_tree(tree: &Tree) -> bool
     ensures { result ≡ is_name_word (node_of tree.now) }
 {
-    words::is_name(word(tree))
+    words::is_spelled_as_name(word(tree))
 }
 
 /// Whether a tree is a variable.
-pub fn is_variable(tree: &Tree) -> bool
+pub fn is_variable_tree(tree: &Tree) -> bool
     ensures { result ≡ is_variable_word (node_of tree.now) }
 {
-    words::is_variable(word(tree))
+    words::is_spelled_as_variable(word(tree))
 }
 
 /// Whether a tree is a word with a meaning of its own.
-pub fn is_fixed(tree: &Tree) -> bool
+pub fn is_fixed_tree(tree: &Tree) -> bool
     ensures { result ≡ is_fixed_word (node_of tree.now) }
 {
-    words::is_fixed(word(tree))
+    words::is_kept_word(word(tree))
 }
 
 /// The first so many of some trees and the others, or all where there are fewer.

@@ -7,10 +7,10 @@ ghost use Rattle.mp_forms.specs.Reading.{besides, each, keyword, said};
 ghost use Rattle.mp_factor.specs.Found.{found_in, both_found, more_found, said_found};
 ghost use Rattle.mp_factor.specs.FoundForms.{items_found, group_found, ends, group_size, AreBehindItems};
 ghost use Rattle.mp_forms.specs.Rules.Words.{name_rule};
-ghost use Rattle.mp_forms.specs.Rules.Typed.{Listing as ListingOf, is_dash, typed_from, type_first, typed_rule, block_rule, type_rule, typed_of, with_type, is_no_word as no_word_test, plain, with_blocks};
+ghost use Rattle.mp_forms.specs.Rules.Typed.{Listing as ListingOf, is_dash, typed_from, type_first, typed_rule, block_rule, type_rule, typed_of, with_type, is_no_word, plain, with_blocks};
 
-use crate::found::{Form, Found, expect, pair, second, shape_fault, with_item};
-use crate::trees::{is_list, is_word, members, place, split};
+use crate::found::{Form, Found, add_item, expect, pair, second, shape_fault};
+use crate::trees::{is_keyword, is_list_tree, members, place, split};
 use crate::word::{NameForm, VariableForm};
 use mp_forms::{Typed, TypedList, Word, WordList};
 use mp_list::{Copied, List, OutOfMemory, SmallList};
@@ -51,7 +51,7 @@ pub trait Listing<X, T> {
 fn is_type_sign<X, T, L: Listing<X, T>>(listing: &L, tree: &Tree) -> bool
     ensures { result ≡ ((L.listing listing.now).takes_type && is_dash (node_of tree.now)) }
 {
-    listing.takes_type() && is_word(tree, b"-")
+    listing.takes_type() && is_keyword(tree, b"-")
 }
 
 /// Whether a tree ends the items of one type that stand before it: what is no item, or `-` before their type.
@@ -140,7 +140,7 @@ fn with_items<X: Drop, T, L: Listing<X, T>>(
 {
     let mut items = so_far;
     for tree in trees {
-        items = with_item(items, listing.read_item(alloc, item_type, tree)?)?;
+        items = add_item(items, listing.read_item(alloc, item_type, tree)?)?;
     }
     Ok(items)
 }
@@ -157,7 +157,7 @@ fn with_group_of<X: Drop, T, L: Listing<X, T>>(
         (found_in (each (L.listing listing.now).item (node_of group.entry.first.now ∷ nodes_in group.entry.others.now))))) }
 {
     let first = listing.read_item(alloc, item_type, group.first)?;
-    let items = with_item(so_far, first)?;
+    let items = add_item(so_far, first)?;
     let all = with_items(alloc, listing, items, item_type, group.others)?;
     Ok(all)
 }
@@ -197,7 +197,7 @@ pub fn append<X: Drop>(items: &mut List<X>, more: List<X>) -> Result<(), OutOfMe
 }
 
 /// The items so far and those of a block. Refuses only for want of memory.
-fn with_block<X: Drop>(
+fn add_block<X: Drop>(
     so_far: Found<List<X>>,
     block: Found<List<X>>,
 ) -> Result<Found<List<X>>, OutOfMemory>
@@ -235,7 +235,7 @@ fn step<'t, X: Drop, T: Drop, L: Listing<X, T>>(
         [] => Ok(Progress { so_far, rest }),
         [first, behind @ ..] => {
             if listing.is_block(first) {
-                let so_far = with_block(so_far, listing.read_block(alloc, first)?)?;
+                let so_far = add_block(so_far, listing.read_block(alloc, first)?)?;
                 return Ok(Progress {
                     so_far,
                     rest: behind,
@@ -282,7 +282,7 @@ fn read_block_of<X: Drop, T: Drop, L: Listing<X, T>>(
     match members(tree) {
         [] => Ok(shape_fault(alloc, place(tree))),
         [head, inside @ ..] => {
-            if is_word(head, b":private") {
+            if is_keyword(head, b":private") {
                 read_typed(alloc, listing, place(tree), inside)
             } else {
                 Ok(shape_fault(alloc, place(head)))
@@ -389,7 +389,7 @@ impl Form<WordList> for TypeForm {
     ghost rule = { λ form node. type_rule node };
 
     fn read(&self, alloc: Global, tree: &Tree) -> Result<Found<WordList>, OutOfMemory> {
-        if !is_list(tree) {
+        if !is_list_tree(tree) {
             return one_type(alloc, NameForm.read(alloc, tree)?);
         }
         match members(tree) {
@@ -414,10 +414,10 @@ fn declared(private: bool, word: Found<Word>, types: &WordList) -> Result<Found<
 }
 
 /// Whether a tree is a list, or `-`, in the place of a word.
-fn is_no_word(tree: &Tree) -> bool
-    ensures { result ≡ no_word_test (node_of tree.now) }
+fn is_not_a_word(tree: &Tree) -> bool
+    ensures { result ≡ is_no_word (node_of tree.now) }
 {
-    is_list(tree) || is_word(tree, b"-")
+    is_list_tree(tree) || is_keyword(tree, b"-")
 }
 
 /// Words of a form, without blocks.
@@ -453,7 +453,7 @@ impl<W: Form<Word>> Listing<Typed, WordList> for Plain<W> {
     }
 
     fn is_block(&self, tree: &Tree) -> bool {
-        is_no_word(tree)
+        is_not_a_word(tree)
     }
 
     fn read_block(&self, alloc: Global, tree: &Tree) -> Result<Found<TypedList>, OutOfMemory> {

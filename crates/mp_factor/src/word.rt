@@ -5,7 +5,7 @@ ghost use Rattle.mp_sexp.specs.Node.{node_of};
 ghost use Rattle.mp_forms.specs.Rules.Words.{word_at, name_rule, variable_rule};
 
 use crate::found::{Form, Found, shape_fault};
-use crate::trees::{is_name, is_variable, place};
+use crate::trees::{is_name_tree, is_variable_tree, place};
 use mp_forms::Word;
 use mp_list::{Copied, OutOfMemory};
 use mp_sexp::{Name, Tree};
@@ -36,7 +36,7 @@ impl Form<Word> for NameForm {
     ghost rule = { λ form node. name_rule node };
 
     fn read(&self, alloc: Global, tree: &Tree) -> Result<Found<Word>, OutOfMemory> {
-        if is_name(tree) {
+        if is_name_tree(tree) {
             Ok(Ok(word_in(alloc, tree)?))
         } else {
             Ok(shape_fault(alloc, place(tree)))
@@ -53,7 +53,7 @@ impl Form<Word> for VariableForm {
     ghost rule = { λ form node. variable_rule node };
 
     fn read(&self, alloc: Global, tree: &Tree) -> Result<Found<Word>, OutOfMemory> {
-        if is_variable(tree) {
+        if is_variable_tree(tree) {
             Ok(Ok(word_in(alloc, tree)?))
         } else {
             Ok(shape_fault(alloc, place(tree)))

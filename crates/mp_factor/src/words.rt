@@ -3,8 +3,8 @@
 ghost use Rattle.std.specs.Prelude.{◌≡◌};
 ghost use Rattle.std.specs.List.{list_all};
 ghost use Rattle.std.specs.Str.{bytes_eq};
-ghost use Rattle.mp_forms.specs.Words.{is_letter as letter_of, is_digit as digit_of, is_name_byte as name_byte_of, begins_with_letter as letter_first, is_among as among, is_fixed as fixed, connectives, quantifiers, assignments, other_words};
-ghost use Rattle.mp_forms.specs.Kinds.{is_name as name_test, is_variable as variable_test};
+ghost use Rattle.mp_forms.specs.Words.{is_letter, is_digit, is_name_byte, begins_with_letter, is_among, is_fixed, connectives, quantifiers, assignments, other_words};
+ghost use Rattle.mp_forms.specs.Kinds.{is_name, is_variable};
 
 /// Whether two words are the same.
 pub fn is_same(a: &[u8], b: &[u8]) -> bool
@@ -14,66 +14,66 @@ pub fn is_same(a: &[u8], b: &[u8]) -> bool
 }
 
 /// Whether the byte is a letter, folded.
-fn is_letter(byte: u8) -> bool
-    ensures { result ≡ letter_of byte }
+fn is_letter_byte(byte: u8) -> bool
+    ensures { result ≡ is_letter byte }
 {
     97 <= byte && byte <= 122
 }
 
 /// Whether the byte is a digit.
-pub fn is_digit(byte: u8) -> bool
-    ensures { result ≡ digit_of byte }
+pub fn is_digit_byte(byte: u8) -> bool
+    ensures { result ≡ is_digit byte }
 {
     48 <= byte && byte <= 57
 }
 
 /// Whether the byte may stand in a name.
-fn is_name_byte(byte: u8) -> bool
-    ensures { result ≡ name_byte_of byte }
+fn may_stand_in_name(byte: u8) -> bool
+    ensures { result ≡ is_name_byte byte }
 {
-    is_letter(byte) || is_digit(byte) || byte == b'-' || byte == b'_'
+    is_letter_byte(byte) || is_digit_byte(byte) || byte == b'-' || byte == b'_'
 }
 
 /// Whether a word begins with a letter.
-fn begins_with_letter(word: &[u8]) -> bool
-    ensures { result ≡ letter_first word.now }
+fn has_letter_first(word: &[u8]) -> bool
+    ensures { result ≡ begins_with_letter word.now }
 {
     match word {
         [] => false,
-        [first, ..] => is_letter(*first),
+        [first, ..] => is_letter_byte(*first),
     }
 }
 
 /// Whether a word has only bytes that may stand in a name.
 fn has_name_bytes(word: &[u8]) -> bool
-    ensures { result ≡ list_all name_byte_of word.now }
+    ensures { result ≡ list_all is_name_byte word.now }
 {
-    word.iter().all(|byte| is_name_byte(*byte))
+    word.iter().all(|byte| may_stand_in_name(*byte))
 }
 
 /// Whether a word is a letter and then letters, digits, `-` and `_`.
 #[tactic(auto, unfolding(mp_forms::specs::Kinds::is_name))]
-pub fn is_name(word: &[u8]) -> bool
-    ensures { result ≡ name_test word.now }
+pub fn is_spelled_as_name(word: &[u8]) -> bool
+    ensures { result ≡ is_name word.now }
 {
-    begins_with_letter(word) && has_name_bytes(word)
+    has_letter_first(word) && has_name_bytes(word)
 }
 
 /// Whether a word is `?` and then a name.
 #[tactic(auto, unfolding(mp_forms::specs::Kinds::is_variable))]
-pub fn is_variable(word: &[u8]) -> bool
-    ensures { result ≡ variable_test word.now }
+pub fn is_spelled_as_variable(word: &[u8]) -> bool
+    ensures { result ≡ is_variable word.now }
 {
     match word {
         [] => false,
-        [first, rest @ ..] => *first == b'?' && is_name(rest),
+        [first, rest @ ..] => *first == b'?' && is_spelled_as_name(rest),
     }
 }
 
 /// Whether a word joins conditions.
 #[tactic(auto, unfolding(mp_forms::specs::Words::connectives))]
 fn is_connective(word: &[u8]) -> bool
-    ensures { result ≡ among connectives word.now }
+    ensures { result ≡ is_among connectives word.now }
 {
     is_same(b"and", word)
         || is_same(b"or", word)
@@ -86,7 +86,7 @@ fn is_connective(word: &[u8]) -> bool
 /// Whether a word ranges over objects or types.
 #[tactic(auto, unfolding(mp_forms::specs::Words::quantifiers))]
 fn is_quantifier(word: &[u8]) -> bool
-    ensures { result ≡ among quantifiers word.now }
+    ensures { result ≡ is_among quantifiers word.now }
 {
     is_same(b"forall", word) || is_same(b"exists", word) || is_same(b"either", word)
 }
@@ -94,7 +94,7 @@ fn is_quantifier(word: &[u8]) -> bool
 /// Whether a word changes a number.
 #[tactic(auto, unfolding(mp_forms::specs::Words::assignments))]
 fn is_assignment(word: &[u8]) -> bool
-    ensures { result ≡ among assignments word.now }
+    ensures { result ≡ is_among assignments word.now }
 {
     is_same(b"increase", word)
         || is_same(b"decrease", word)
@@ -106,7 +106,7 @@ fn is_assignment(word: &[u8]) -> bool
 /// Whether a word has a meaning of its own elsewhere.
 #[tactic(auto, unfolding(mp_forms::specs::Words::other_words))]
 fn is_other_word(word: &[u8]) -> bool
-    ensures { result ≡ among other_words word.now }
+    ensures { result ≡ is_among other_words word.now }
 {
     is_same(b"define", word)
         || is_same(b"minimize", word)
@@ -117,8 +117,8 @@ fn is_other_word(word: &[u8]) -> bool
 
 /// Whether a word has a meaning of its own.
 #[tactic(auto, unfolding(mp_forms::specs::Words::is_fixed))]
-pub fn is_fixed(word: &[u8]) -> bool
-    ensures { result ≡ fixed word.now }
+pub fn is_kept_word(word: &[u8]) -> bool
+    ensures { result ≡ is_fixed word.now }
 {
     is_connective(word) || is_quantifier(word) || is_assignment(word) || is_other_word(word)
 }

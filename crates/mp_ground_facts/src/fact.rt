@@ -3,9 +3,9 @@
 ghost use Rattle.std.specs.Hash as fed;
 ghost use Rattle.std.specs.Cmp.Rules.{hashing};
 ghost use Rattle.std.proofs.Common.{rules};
-ghost use Rattle.mp_ground_facts.specs.Mixed.{mixed as mixed_parts};
+ghost use Rattle.mp_ground_facts.specs.Mixed.{mixed};
 
-use crate::mixed::mixed;
+use crate::mixed::mix;
 use mp_list::List;
 use std::hash::{Hash, Hasher};
 
@@ -22,12 +22,12 @@ pub struct GroundFact {
 
 /// What is hashed is one number, since a hash function takes its time for each piece.
 impl Hash for GroundFact {
-    ghost hash_input = { λ f. fed.u64 (mixed_parts f.is_public f.is_complement f.predicate f.objects) };
+    ghost hash_input = { λ f. fed.u64 (mixed f.is_public f.is_complement f.predicate f.objects) };
 
     ghost respects_eq = { Prim.search (hashing, rules) };
 
     fn hash<H: Hasher>(&self, state: &mut H) {
-        state.write_u64(mixed(
+        state.write_u64(mix(
             self.is_public,
             self.is_complement,
             self.predicate,

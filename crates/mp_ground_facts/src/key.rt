@@ -3,10 +3,10 @@
 ghost use Rattle.std.specs.Hash as fed;
 ghost use Rattle.std.specs.Cmp.Rules.{hashing};
 ghost use Rattle.std.proofs.Common.{rules};
-ghost use Rattle.mp_ground_facts.specs.Mixed.{mixed as mixed_parts};
+ghost use Rattle.mp_ground_facts.specs.Mixed.{mixed};
 
 use crate::fact::GroundFact;
-use crate::mixed::mixed;
+use crate::mixed::mix;
 use indexmap::Equivalent;
 use std::hash::{Hash, Hasher};
 
@@ -20,12 +20,12 @@ pub struct FactKey<'a> {
 }
 
 impl Hash for FactKey<'_> {
-    ghost hash_input = { λ k. fed.u64 (mixed_parts k.is_public k.is_complement k.predicate k.objects.now) };
+    ghost hash_input = { λ k. fed.u64 (mixed k.is_public k.is_complement k.predicate k.objects.now) };
 
     ghost respects_eq = { Prim.search (hashing, rules) };
 
     fn hash<H: Hasher>(&self, state: &mut H) {
-        state.write_u64(mixed(
+        state.write_u64(mix(
             self.is_public,
             self.is_complement,
             self.predicate,

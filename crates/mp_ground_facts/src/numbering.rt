@@ -2,7 +2,7 @@
 
 ghost use Rattle.std.specs.Prelude.{◌≡◌, ◌<◌, ◌≤◌, length, IfOk, Err, ℕ};
 ghost use Rattle.mp_typing.specs.Places.{numbers_where};
-ghost use Rattle.mp_ground_facts.specs.Facts.{is_initial as is_initial_fact};
+ghost use Rattle.mp_ground_facts.specs.Facts.{is_initial};
 ghost use Rattle.mp_ground_facts.specs.Touched.{goal_facts};
 ghost use Rattle.mp_ground_facts.specs.Ground.{facts_of};
 ghost use Rattle.mp_ground_facts.specs.Numbers.{numbered};
@@ -36,8 +36,8 @@ pub fn goal_numbers<'a>(
 }
 
 /// Whether a fact or a complement is true at the start.
-fn is_initial(start: &StartFacts<'_>, fact: &GroundFact) -> bool
-    ensures { result ≡ is_initial_fact start.now fact.now }
+fn is_start_fact(start: &StartFacts<'_>, fact: &GroundFact) -> bool
+    ensures { result ≡ is_initial start.now fact.now }
 {
     let is_true = start.is_true(fact.predicate, fact.objects.as_slice());
     if fact.is_complement {
@@ -54,12 +54,12 @@ pub fn start_numbers(
     facts: &[GroundFact],
 ) -> Result<List<u32>, OutOfMemory>
     requires { length facts.now ≤ 65535 }
-    ensures { IfOk result (λ out. out ≡ numbers_where 0 (is_initial_fact start.now) facts.now) }
+    ensures { IfOk result (λ out. out ≡ numbers_where 0 (is_initial start.now) facts.now) }
 {
     let mut out = List::new(alloc);
     let mut number: u32 = 0;
     for fact in facts {
-        if is_initial(start, fact) {
+        if is_start_fact(start, fact) {
             out.push(number)?;
         }
         number += 1;

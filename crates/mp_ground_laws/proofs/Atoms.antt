@@ -8,7 +8,7 @@ use Rattle.mp_sexp.proofs.NamesAt.{number_below}
 use Rattle.mp_typing.specs.Lookups.{objects_of as declared_objects, is_object}
 use Rattle.mp_joint.specs.Fact.{named}
 use Rattle.mp_joint.specs.Grounding.{standing_for, object_of, objects_of}
-use Rattle.mp_lifted.proofs.DeclaredNames.{first_named}
+use Rattle.mp_lifting.proofs.DeclaredNames.{first_named}
 use Rattle.mp_ground_laws.proofs.Distinct.{names_in}
 use Rattle.mp_ground_laws.proofs.Lists.{filter_of_map, map_where}
 use Rattle.mp_ground_laws.proofs.Numbered.{IsPlace}

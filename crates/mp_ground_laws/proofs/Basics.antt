@@ -38,19 +38,19 @@ pub use Rattle.mp_joint.specs.declared.fact.NamedFact.{NamedFact}
 pub use Rattle.mp_joint.specs.declared.fact.SignedFact.{SignedFact}
 pub use Rattle.mp_lifted.specs.Atoms.{atom_at, atoms_at, is_among, object_at, same_atom}
 pub use Rattle.mp_lifted.specs.Binding.{ActionBinding}
-pub use Rattle.mp_lifted.specs.Factors.{ground_atom, ground_value, known_atoms, lifted_factor}
-pub use Rattle.mp_lifted.specs.Lifting.{amounts_of, is_not, is_total_cost, lifted_amount, lifted_atom, lifted_term, lifted_where, members_of, parameter_in}
+pub use Rattle.mp_lifting.specs.Factors.{ground_atom, ground_value, known_atoms, lifted_factor}
+pub use Rattle.mp_lifting.specs.Lifting.{amounts_of, is_not, is_total_cost, lifted_amount, lifted_atom, lifted_term, lifted_where, members_of, parameter_in}
 pub use Rattle.mp_lifted.specs.Start.{is_private, is_so, is_true_at_start}
-pub use Rattle.mp_lifted.specs.Texts.{fact_text}
-pub use Rattle.mp_lifted.specs.Views.{is_changed, setting_of}
-pub use Rattle.mp_lifted.specs.Vocabulary.{vocabulary_of}
+pub use Rattle.mp_lifting.specs.Texts.{fact_text}
+pub use Rattle.mp_lifting.specs.Views.{is_changed, setting_of}
+pub use Rattle.mp_lifting.specs.Vocabulary.{vocabulary_of}
 pub use Rattle.mp_lifted.specs.declared.lifted.GroundAtom.{GroundAtom}
 pub use Rattle.mp_lifted.specs.declared.lifted.GroundValue.{GroundValue}
 pub use Rattle.mp_lifted.specs.declared.lifted.LiftedAction.{LiftedAction}
 pub use Rattle.mp_lifted.specs.declared.lifted.LiftedAtom.{LiftedAtom}
 pub use Rattle.mp_lifted.specs.declared.lifted.LiftedFactor.{LiftedFactor}
-pub use Rattle.mp_lifted.specs.declared.view.OpenView.{OpenView}
-pub use Rattle.mp_lifted.specs.declared.vocabulary.Vocabulary.{Vocabulary}
+pub use Rattle.mp_lifting.specs.declared.view.OpenView.{OpenView}
+pub use Rattle.mp_lifting.specs.declared.vocabulary.Vocabulary.{Vocabulary}
 pub use Rattle.mp_list.proofs.Bools.{same_tests}
 pub use Rattle.mp_sexp.proofs.NamesAt.{name_at_number}
 pub use Rattle.mp_sexp.proofs.Places.{swapped}

@@ -3,7 +3,7 @@ use Rattle.mp_ground_laws.proofs.Basics.{◌≡◌, ℕ, true, ◌||◌, List, [
 use Rattle.mp_ground_laws.proofs.Basics.{Factor, NamedFact, objects_of, GroundAtom, vocabulary_of, same_atom, is_among, named_fact, IsInRange}
 use Rattle.mp_joint.specs.Fact as joint
 use Rattle.mp_joint.proofs.SameFacts.{same_fact_is, fact_itself}
-use Rattle.mp_lifted.specs.Factors.{ground_with}
+use Rattle.mp_lifting.specs.Factors.{ground_with}
 use Rattle.mp_ground_laws.proofs.Distinct.{AreDistinct, first_distinct}
 use Rattle.mp_ground_laws.proofs.Numbered.{number_at, numbers_again}
 use Rattle.mp_ground_laws.proofs.Parts.{HasParts}

@@ -7,7 +7,7 @@ use Rattle.std.proofs.lemmas.Simd.{map-map}
 use Rattle.mp_ground_facts.specs.Facts.{fact_of}
 use Rattle.mp_joint.specs.Fact as joint
 use Rattle.mp_joint.specs.Grounded as named
-use Rattle.mp_lifted.specs.Views.{has_complements}
+use Rattle.mp_lifting.specs.Views.{has_complements}
 use Rattle.mp_ground_laws.proofs.Atoms.{AreFacts, atoms_stand, ground_atoms_stand, some_stand}
 use Rattle.mp_ground_laws.proofs.Facts.{same_among}
 use Rattle.mp_ground_laws.proofs.Lists.{filter_of_map, filter_where}

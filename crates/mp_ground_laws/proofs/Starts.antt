@@ -3,8 +3,8 @@ use Rattle.mp_ground_laws.proofs.Basics.{◌≡◌, ℕ, Bool, true, false, not,
 use Rattle.mp_ground_laws.proofs.Basics.{NamedFact, GroundAtom, OpenView, lifted_factor, ground_atom, known_atoms, fact_text, vocabulary_of, is_among, is_so, is_private, is_true_at_start, IsChecked, named_objects, named_fact, IsInRange}
 use Rattle.std.proofs.lemmas.List.Elements.{All-filter}
 use Rattle.mp_joint.specs.Fact as joint
-use Rattle.mp_lifted.specs.Privates.{is_private_atom}
-use Rattle.mp_lifted.specs.Views.{is_initial}
+use Rattle.mp_lifting.specs.Privates.{is_private_atom}
+use Rattle.mp_lifting.specs.Views.{is_initial}
 use Rattle.mp_ground_laws.proofs.Atoms.{ground_atoms_stand}
 use Rattle.mp_ground_laws.proofs.Facts.{same_among}
 use Rattle.mp_ground_laws.proofs.Needed.{flag_at}

@@ -12,8 +12,8 @@ use Rattle.mp_forms.specs.Words.{is_name_byte, begins_with_letter}
 use Rattle.mp_forms.specs.Uses.{IsName}
 use Rattle.mp_forms.proofs.TakenFiles.{predicates_named, constants_named, objects_named}
 use Rattle.mp_joint.specs.Fact.{is_listed}
-use Rattle.mp_lifted.specs.Factors.{between_brackets, has_brackets, words_of, can_be_named, named_atom, known_atom}
-use Rattle.mp_lifted.specs.Texts.{bracketed}
+use Rattle.mp_lifting.specs.Factors.{between_brackets, has_brackets, words_of, can_be_named, named_atom, known_atom}
+use Rattle.mp_lifting.specs.Texts.{bracketed}
 use Rattle.mp_ground_laws.proofs.Facts.{atom_again}
 use Rattle.std.proofs.lemmas.Bool.{both_ways, false_from_ne_true}
 use Rattle.std.proofs.lemmas.List.Elements.{All-filter, All-weaker}

@@ -10,7 +10,7 @@ use Rattle.mp_joint.specs.declared.fact.SignedFact.{SignedFact}
 use Rattle.mp_joint.specs.Fact.{plain, complement}
 use Rattle.mp_joint.specs.FactorContribution.{factor_contribution}
 use Rattle.mp_joint.specs.Grounded.{Setting}
-use Rattle.mp_lifted.specs.Vocabulary.{vocabulary_of}
+use Rattle.mp_lifting.specs.Vocabulary.{vocabulary_of}
 use Rattle.mp_ground_laws.specs.Grounding.{GroundedInstance, grounded, grounded_instance}
 
 -- what an instance touches

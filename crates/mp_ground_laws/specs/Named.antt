@@ -4,7 +4,7 @@ use Rattle.mp_forms.specs.declared.factor.Factor.{Factor}
 use Rattle.mp_sexp.specs.Numbers.{name_at}
 use Rattle.mp_joint.specs.declared.plan.PlanStep.{PlanStep}
 use Rattle.mp_joint.specs.Fact.{Text}
-use Rattle.mp_lifted.specs.Vocabulary.{vocabulary_of}
+use Rattle.mp_lifting.specs.Vocabulary.{vocabulary_of}
 use Rattle.mp_lifted.specs.Binding.{ActionBinding}
 
 -- the names of the actions, in the order of the file

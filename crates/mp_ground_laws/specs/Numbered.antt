@@ -12,11 +12,11 @@ use Rattle.mp_joint.specs.FactorContribution.{privates_of}
 use Rattle.mp_lifted.specs.declared.lifted.GroundAtom.{GroundAtom}
 use Rattle.mp_lifted.specs.declared.lifted.LiftedAction.{LiftedAction}
 use Rattle.mp_lifted.specs.declared.lifted.LiftedFactor.{LiftedFactor}
-use Rattle.mp_lifted.specs.declared.view.OpenView.{OpenView}
-use Rattle.mp_lifted.specs.Factors.{lifted_factor}
-use Rattle.mp_lifted.specs.Lifting.{lifted_action}
-use Rattle.mp_lifted.specs.Views.{is_changed}
-use Rattle.mp_lifted.specs.Vocabulary.{vocabulary_of}
+use Rattle.mp_lifting.specs.declared.view.OpenView.{OpenView}
+use Rattle.mp_lifting.specs.Factors.{lifted_factor}
+use Rattle.mp_lifting.specs.Lifting.{lifted_action}
+use Rattle.mp_lifting.specs.Views.{is_changed}
+use Rattle.mp_lifting.specs.Vocabulary.{vocabulary_of}
 use Rattle.mp_lifted.specs.Binding.{ActionBinding}
 use Rattle.mp_lifted.specs.Start.{is_private}
 use Rattle.mp_instances.specs.Instances.{instances}

@@ -35,11 +35,11 @@ pub use Rattle.mp_instances.specs.Instances.{instances}
 pub use Rattle.mp_joint.specs.Fact.{Text}
 pub use Rattle.mp_joint.specs.declared.fact.SignedFact.{SignedFact}
 pub use Rattle.mp_lifted.specs.Binding.{ActionBinding}
-pub use Rattle.mp_lifted.specs.Factors.{lifted_factor}
-pub use Rattle.mp_lifted.specs.Vocabulary.{declared_names}
+pub use Rattle.mp_lifting.specs.Factors.{lifted_factor}
+pub use Rattle.mp_lifting.specs.Vocabulary.{declared_names}
 pub use Rattle.mp_lifted.specs.declared.lifted.LiftedAction.{LiftedAction}
 pub use Rattle.mp_lifted.specs.declared.lifted.LiftedFactor.{LiftedFactor}
-pub use Rattle.mp_lifted.specs.declared.view.OpenView.{OpenView}
+pub use Rattle.mp_lifting.specs.declared.view.OpenView.{OpenView}
 pub use Rattle.mp_list.proofs.Bools.{same_tests}
 pub use Rattle.mp_list.proofs.Members.{any_from, contains_head, contains_tail, some_member}
 pub use Rattle.mp_sexp.specs.Bytes.{folded}

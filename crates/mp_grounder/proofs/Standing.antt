@@ -19,8 +19,8 @@ use Rattle.std.proofs.lemmas.Map.Made.{is_member-Decides, length-from_keys}
 use Rattle.std.proofs.lemmas.Simd.{map-map}
 use Rattle.mp_joint.specs.Instance.{holds}
 use Rattle.mp_task.specs.Limits.{ActFits, AllLess}
-use Rattle.mp_lifted.specs.Texts.{signed_text}
-use Rattle.mp_lifted.specs.Views.{setting_of}
+use Rattle.mp_lifting.specs.Texts.{signed_text}
+use Rattle.mp_lifting.specs.Views.{setting_of}
 use Rattle.mp_instances.specs.Counts.{tries as tries_of}
 use Rattle.mp_ground_facts.specs.Facts.{atom_of, is_initial}
 use Rattle.mp_ground_facts.specs.Ground.{number_of, numbers_of, ground_factor}

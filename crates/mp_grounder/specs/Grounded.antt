@@ -5,8 +5,8 @@ use Rattle.mp_joint.specs.declared.fact.SignedFact.{SignedFact}
 use Rattle.mp_joint.specs.Fact.{Text}
 use Rattle.mp_joint.specs.Grounded.{Setting}
 use Rattle.mp_joint.specs.Instance.{holds}
-use Rattle.mp_lifted.specs.declared.view.OpenView.{OpenView}
-use Rattle.mp_lifted.specs.Views.{setting_of}
+use Rattle.mp_lifting.specs.declared.view.OpenView.{OpenView}
+use Rattle.mp_lifting.specs.Views.{setting_of}
 use Rattle.mp_typing.specs.Places.{numbers_where}
 use Rattle.mp_task.specs.declared.act.Act.{Act}
 use Rattle.mp_views.specs.Public.{public_texts}

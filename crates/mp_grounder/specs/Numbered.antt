@@ -6,8 +6,8 @@ use Rattle.mp_forms.specs.declared.factor.Factor.{Factor}
 use Rattle.mp_sexp.specs.Numbers.{name_at, number_in}
 use Rattle.mp_joint.specs.Fact.{Text}
 use Rattle.mp_task.specs.declared.act.Act.{Act}
-use Rattle.mp_lifted.specs.Texts.{signed_text}
-use Rattle.mp_lifted.specs.Vocabulary.{vocabulary_of}
+use Rattle.mp_lifting.specs.Texts.{signed_text}
+use Rattle.mp_lifting.specs.Vocabulary.{vocabulary_of}
 use Rattle.mp_lifted.specs.Binding.{ActionBinding}
 use Rattle.mp_ground_facts.specs.declared.fact.GroundFact.{GroundFact}
 use Rattle.mp_ground_facts.specs.Ground.{GroundAction, GroundFactor, ground_with}

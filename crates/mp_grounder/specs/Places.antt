@@ -4,7 +4,7 @@ use Rattle.std.specs.List.{list_any}
 use Rattle.mp_typing.specs.Places.{numbers_where}
 use Rattle.mp_joint.specs.declared.fact.SignedFact.{SignedFact}
 use Rattle.mp_joint.specs.Fact.{Text, is_listed, same_fact}
-use Rattle.mp_lifted.specs.Texts.{signed_text}
+use Rattle.mp_lifting.specs.Texts.{signed_text}
 use Rattle.mp_views.specs.Public.{is_public}
 
 -- two are the same fact, or the complements of the same

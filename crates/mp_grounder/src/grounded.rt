@@ -2,7 +2,8 @@
 
 ghost use Rattle.std.specs.Prelude.{◌≡◌};
 
-use mp_lifted::{ActionBindingList, FactTexts};
+use mp_lifted::ActionBindingList;
+use mp_lifting::FactTexts;
 use mp_sets::{Agent, FactList};
 use mp_task::ActList;
 

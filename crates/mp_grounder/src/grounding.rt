@@ -11,14 +11,15 @@ ghost use Rattle.mp_grounder.specs.Numbered.{ground_factor_of};
 ghost use Rattle.mp_grounder.specs.Refusals.{IsRefusedAt};
 
 use crate::grounded::Ground;
-use crate::names::fact_names;
+use crate::names::name_facts;
 use crate::refusal::GroundRefusal;
 use crate::turning::{NumberedFactor, turned};
 use indexmap::IndexSet;
 use mp_ground_facts::{FactRefusal, GroundFact, numbered_facts, start_numbers};
 use mp_ground_laws::laws::checked_factor_is_checked;
 use mp_instances::{InstanceRefusal, instances};
-use mp_lifted::{ActionBindingList, OpenView, StartFacts, lift};
+use mp_lifted::{ActionBindingList, StartFacts};
+use mp_lifting::{OpenView, lift};
 use mp_sets::Agent;
 use mp_typing::CheckedFactor;
 use std::alloc::Global;
@@ -109,6 +110,6 @@ pub fn ground(
     let lifted = lift(alloc, factor, known)?;
     let start = StartFacts::new(alloc, &lifted)?;
     let in_numbers = numbered(alloc, me, start)?;
-    let names = fact_names(alloc, factor.factor(), lifted.private_objects.len())?;
+    let names = name_facts(alloc, factor.factor(), lifted.private_objects.len())?;
     Ok(turned(alloc, me, &names, in_numbers)?)
 }

@@ -2,9 +2,9 @@
 
 ghost use Rattle.std.specs.Prelude.{◌≡◌, ◌++◌, map, length, slice_get, IfOk, OnOk};
 ghost use Rattle.std.specs.Option.{option_map};
-ghost use Rattle.mp_lifted.specs.Vocabulary.{declared_names};
+ghost use Rattle.mp_lifting.specs.Vocabulary.{declared_names};
 ghost use Rattle.mp_sexp.specs.Numbers.{name_at};
-ghost use Rattle.mp_grounder.specs.Numbered.{fact_names as names_of_facts};
+ghost use Rattle.mp_grounder.specs.Numbered.{fact_names};
 
 use mp_forms::{Factor, SignatureList, TypedList};
 use mp_list::{Copied, List, OutOfMemory};
@@ -75,7 +75,7 @@ fn names_in_order<'a>(
 ) -> Result<Names<'a>, OutOfMemory>
     ensures { IfOk result (λ names. names ≡ declared_names (constants.now ++ objects.now)) }
 {
-    let table = mp_lifted::object_names(alloc, constants, objects)?;
+    let table = mp_lifting::object_names(alloc, constants, objects)?;
     Ok(Names {
         names: Vec::from_slice(alloc, table.as_slice())?,
     })
@@ -116,19 +116,19 @@ fn predicate_names<'a>(
 
 /// The names of a factor's objects.
 pub fn object_names<'a>(alloc: Global, factor: &'a Factor) -> Result<Names<'a>, OutOfMemory>
-    ensures { IfOk result (λ names. names ≡ (names_of_facts factor.now).objects) }
+    ensures { IfOk result (λ names. names ≡ (fact_names factor.now).objects) }
 {
     names_in_order(alloc, &factor.domain.constants, &factor.problem.objects)
 }
 
 /// The names of a factor's predicates and of its objects, of which so many have different names.
-pub fn fact_names<'a>(
+pub fn name_facts<'a>(
     alloc: Global,
     factor: &'a Factor,
     count: usize,
 ) -> Result<FactNames<'a>, OutOfMemory>
-    requires { count ≡ length (names_of_facts factor.now).objects }
-    ensures { IfOk result (λ names. names ≡ names_of_facts factor.now) }
+    requires { count ≡ length (fact_names factor.now).objects }
+    ensures { IfOk result (λ names. names ≡ fact_names factor.now) }
 {
     let predicates = predicate_names(alloc, &factor.domain.predicates)?;
     let constants = &factor.domain.constants;

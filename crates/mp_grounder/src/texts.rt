@@ -3,15 +3,15 @@
 ghost use Rattle.std.specs.Prelude.{◌≡◌, ◌≤◌, ◌++◌, ◌∷◌, codes, length, map, not, IfOk, OnOk};
 ghost use Rattle.mp_sexp.specs.Numbers.{name_at, number_in};
 ghost use Rattle.mp_sexp.specs.Bytes.{folded};
-ghost use Rattle.mp_lifted.specs.Texts.{bracketed};
+ghost use Rattle.mp_lifting.specs.Texts.{bracketed};
 ghost use Rattle.mp_views.specs.Lines.{spaced};
 ghost use Rattle.mp_views.specs.Sorted.{sorted_once as once_sorted};
-ghost use Rattle.mp_grounder.specs.Numbered.{text_at, count_private as count_of_private, public_texts_at, places_of};
+ghost use Rattle.mp_grounder.specs.Numbered.{text_at, count_private, public_texts_at, places_of};
 
 use crate::names::{FactNames, Names};
 use crate::places::Places;
 use mp_ground_facts::GroundFact;
-use mp_lifted::FactTexts;
+use mp_lifting::FactTexts;
 use mp_list::{Copied, List, OutOfMemory};
 use mp_sexp::{Name, NameList, NameTable};
 use mp_views::{push_name, sorted_once};
@@ -110,8 +110,8 @@ fn texts_of(
 }
 
 /// How many of some facts are private.
-fn count_private(facts: &[GroundFact]) -> usize
-    ensures count { result ≡ count_of_private facts.now }
+fn private_count(facts: &[GroundFact]) -> usize
+    ensures count { result ≡ count_private facts.now }
     ensures within { result ≤ length facts.now }
 {
     facts.iter().filter(|fact| !fact.is_public).count()
@@ -157,7 +157,7 @@ pub fn publics_of(
       places = places_of names.now facts.now;
     }) }
 {
-    let privates = count_private(facts);
+    let privates = private_count(facts);
     let spelled = texts_of(alloc, names, &facts[privates..])?;
     let texts = sorted_once(alloc, Name::copy_all(alloc, spelled.as_slice())?)?;
     let publics = numbers_in(alloc, &texts, spelled.as_slice())?;

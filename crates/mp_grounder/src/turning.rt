@@ -18,7 +18,7 @@ use mp_task::{Act, ActList};
 use std::alloc::Global;
 
 /// An action with these facts, by their places.
-fn act_of(
+fn make_act(
     alloc: Global,
     scratch: &mut Vec<u32>,
     places: &Places,
@@ -64,18 +64,9 @@ fn own_acts(
             cost,
         } = instances.at(at);
         numbers.number(&mut scratch, Binding { factor, objects }, action)?;
-        acts.push(act_of(alloc, &mut scratch, places, &numbers, cost)?)?;
+        acts.push(make_act(alloc, &mut scratch, places, &numbers, cost)?)?;
     }
     Ok(acts)
-}
-
-/// The private ones of the facts that are true at the start, by their places.
-fn start_of(alloc: Global, places: &Places, numbers: List<u32>) -> Result<FactList, OutOfMemory>
-    ensures { IfOk result (λ start. start ≡ rising (private_numbers places.now numbers)) }
-{
-    let mut scratch = Vec::new(alloc);
-    let start = private_places(alloc, &mut scratch, places, numbers.as_slice())?;
-    Ok(start)
 }
 
 /// What the goals ask for, by its places: the public facts, and the private ones.
@@ -111,6 +102,47 @@ pub struct NumberedFactor<'a> {
     pub start: List<u32>,
 }
 
+/// The start, goals and actions of a factor, with its facts by their places.
+#[derive(Drop)]
+struct Placed {
+    start: FactList,
+    goal_pub: FactList,
+    goal_priv: FactList,
+    acts: ActList,
+}
+
+/// The start, goals and actions of a factor with instances in numbers, by these places of its facts.
+fn placed_by(
+    alloc: Global,
+    places: &Places,
+    numbered: &NumberedFactor<'_>,
+) -> Result<Placed, OutOfMemory>
+    requires { length numbered.now.facts.keys ≤ 65535 }
+    ensures start { IfOk result (λ made. made.start ≡ rising (private_numbers places.now numbered.now.start)) }
+    ensures goal_pub { IfOk result (λ made. made.goal_pub
+        ≡ rising (public_numbers places.now (numbers_of numbered.now.facts.keys (goal_facts numbered.now.factor.now)))) }
+    ensures goal_priv { IfOk result (λ made. made.goal_priv
+        ≡ rising (private_numbers places.now (numbers_of numbered.now.facts.keys (goal_facts numbered.now.factor.now)))) }
+    ensures acts { IfOk result (λ made. made.acts ≡ map (act_at places.now)
+        (map (ground_action numbered.now.factor.now numbered.now.facts.keys) numbered.now.instances)) }
+{
+    let mut scratch = Vec::new(alloc);
+    let start = private_places(alloc, &mut scratch, places, numbered.start.as_slice())?;
+    let (goal_pub, goal_priv) = goals_of(alloc, places, &numbered.facts, numbered.factor)?;
+    Ok(Placed {
+        start,
+        goal_pub,
+        goal_priv,
+        acts: own_acts(
+            alloc,
+            places,
+            &numbered.facts,
+            numbered.factor,
+            &numbered.instances,
+        )?,
+    })
+}
+
 /// The factor of an agent that is grounded in numbers, with its facts by their places.
 #[tactic(auto, using(crate::proofs::Steps::instances_stay))]
 pub fn turned(
@@ -122,25 +154,16 @@ pub fn turned(
     requires { length numbered.facts.keys ≤ 65535 }
     ensures { IfOk result (λ made. made ≡ ground_at me names.now (ground_factor_of numbered.entry)) }
 {
-    let NumberedFactor {
-        factor,
-        instances,
-        facts,
-        start,
-    } = numbered;
-    let publics = publics_of(alloc, names, facts.as_slice())?;
-    let places = &publics.places;
-    let start = start_of(alloc, places, start)?;
-    let (goal_pub, goal_priv) = goals_of(alloc, places, &facts, factor)?;
-    let acts = own_acts(alloc, places, &facts, factor, &instances)?;
+    let publics = publics_of(alloc, names, numbered.facts.as_slice())?;
+    let placed = placed_by(alloc, &publics.places, &numbered)?;
     Ok(Ground {
         me,
         privates: publics.places.privates,
         publics: publics.texts,
-        start,
-        goal_pub,
-        goal_priv,
-        acts,
-        steps: instances,
+        start: placed.start,
+        goal_pub: placed.goal_pub,
+        goal_priv: placed.goal_priv,
+        acts: placed.acts,
+        steps: numbered.instances,
     })
 }

@@ -1,7 +1,7 @@
 //! What an action costs with objects for its parameters.
 
 ghost use Rattle.std.specs.Prelude.{◌≡◌, IfOk};
-ghost use Rattle.mp_instances.specs.Costs.{amount_at as amount_of, cost_at as cost_of};
+ghost use Rattle.mp_instances.specs.Costs.{amount_at, cost_at};
 
 use crate::values::FunctionValues;
 use mp_lifted::{Amount, add_objects};
@@ -9,13 +9,13 @@ use mp_list::{OutOfMemory, does_not_fit};
 use std::alloc::Global;
 
 /// What an amount is with these objects: none where a value is missing.
-fn amount_at(
+fn find_amount(
     alloc: Global,
     values: &FunctionValues<'_>,
     objects: &[u32],
     amount: &Amount,
 ) -> Result<Option<u64>, OutOfMemory>
-    ensures { IfOk result (λ cost. cost ≡ amount_of values.now objects.now amount.now) }
+    ensures { IfOk result (λ cost. cost ≡ amount_at values.now objects.now amount.now) }
 {
     match amount {
         Amount::Number(cost) => Ok(Some(*cost)),
@@ -30,17 +30,17 @@ fn amount_at(
 
 /// The sum of amounts with these objects: none where a value is missing. A sum that is no number of
 /// 64 bits is taken for want of memory.
-pub fn cost_at(
+pub fn sum_amounts(
     alloc: Global,
     values: &FunctionValues<'_>,
     objects: &[u32],
     amounts: &[Amount],
 ) -> Result<Option<u64>, OutOfMemory>
-    ensures { IfOk result (λ cost. cost ≡ cost_of values.now objects.now amounts.now) }
+    ensures { IfOk result (λ cost. cost ≡ cost_at values.now objects.now amounts.now) }
 {
     let mut sum = 0_u64;
     for amount in amounts {
-        let Some(cost) = amount_at(alloc, values, objects, amount)? else {
+        let Some(cost) = find_amount(alloc, values, objects, amount)? else {
             return Ok(None);
         };
         let Some(more) = sum.checked_add(cost) else {

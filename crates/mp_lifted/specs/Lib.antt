@@ -1,9 +1,3 @@
-pub mod Texts
-pub mod Views
-pub mod Vocabulary
-pub mod Privates
-pub mod Lifting
-pub mod Factors
 pub mod Atoms
 pub mod Start
 pub mod Held

@@ -1,7 +1,7 @@
 //! Bytes of a text by their kinds, and letters folded.
 
 ghost use Rattle.std.specs.Prelude.{◌≡◌, ◌↔◌, IsTrue};
-ghost use Rattle.mp_sexp.specs.Bytes.{folded_byte, is_space as space_of};
+ghost use Rattle.mp_sexp.specs.Bytes.{folded_byte, is_space};
 ghost use Rattle.mp_sexp.specs.Kinds.{kind_of};
 ghost use Rattle.mp_sexp.specs.Name.{IsCapital, same_bytes};
 ghost use Rattle.mp_sexp.specs.Reading.{is_word};
@@ -23,8 +23,8 @@ pub enum Kind {
 
 /// Whether a byte stands between words.
 #[inline]
-pub fn is_space(byte: u8) -> bool
-    ensures { result ≡ space_of byte }
+pub fn is_between_words(byte: u8) -> bool
+    ensures { result ≡ is_space byte }
 {
     byte == 9 || byte == b'\n' || byte == b'\r' || byte == b' '
 }
@@ -41,7 +41,7 @@ pub fn kind_of_byte(byte: u8) -> Kind
         Kind::Close
     } else if byte == b';' {
         Kind::Comment
-    } else if is_space(byte) {
+    } else if is_between_words(byte) {
         Kind::Space
     } else if 33 <= byte && byte <= 126 {
         Kind::Word

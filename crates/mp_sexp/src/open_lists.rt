@@ -3,7 +3,7 @@
 ghost use Rattle.std.specs.Prelude.{◌≡◌, [], Ok, IfOk, IfErr, OnOk, ◌++◌, ◌∷◌};
 ghost use Rattle.mp_sexp.specs.Bytes.{folded};
 ghost use Rattle.mp_sexp.specs.Node.{node_of, nodes_in, nodes_from, list, word};
-ghost use Rattle.mp_sexp.specs.Reading.{Gives, Fails, state_of, levels_in, opened, closed, misplaced as misplaced_of, only_list};
+ghost use Rattle.mp_sexp.specs.Reading.{Gives, Fails, state_of, levels_in, opened, closed, misplaced, only_list};
 
 use crate::name::Name;
 use crate::refusal::ReadRefusal;
@@ -45,8 +45,8 @@ fn list_tree(members: Vec<Tree>, place: Place) -> Tree
 }
 
 /// The fault of what is neither in brackets nor opens one.
-pub fn misplaced(members: &[Tree], place: Place) -> ReadRefusal
-    ensures { result ≡ misplaced_of (nodes_in members.now) place }
+pub fn refuse_misplaced(members: &[Tree], place: Place) -> ReadRefusal
+    ensures { result ≡ misplaced (nodes_in members.now) place }
 {
     match members {
         [] => ReadRefusal::Unbalanced(place),
@@ -119,7 +119,7 @@ impl Lists {
         ensures err { IfErr result (λ e. Fails e (closed place (nodes_in self.old.members.items) (levels_in self.old.around.items))) }
     {
         match self.around.pop() {
-            None => Err(misplaced(self.members.as_slice(), place)),
+            None => Err(refuse_misplaced(self.members.as_slice(), place)),
             Some(open) => {
                 let OpenList { members, inner } = open;
                 let inside = gathered(alloc, &mut self.members)?;

@@ -3,20 +3,20 @@
 ghost use Rattle.std.specs.Prelude.{◌≡◌, ◌+◌, ◌^◌, ◌<◌, ◌≤◌, ◌∷◌, [], Ok, length, drop, IfOk, IfErr};
 ghost use Rattle.std.specs.List.{prefix_len};
 ghost use Rattle.mp_sexp.specs.Node.{node_of};
-ghost use Rattle.mp_sexp.specs.Spelling.{next_place as place_after_byte};
-ghost use Rattle.mp_sexp.specs.Reading.{Gives, Fails, GoesOn, state_of, run, node_at, is_word, is_within_line, further as place_further};
+ghost use Rattle.mp_sexp.specs.Spelling.{next_place};
+ghost use Rattle.mp_sexp.specs.Reading.{Gives, Fails, GoesOn, state_of, run, node_at, is_word, is_within_line, further};
 
 use crate::bytes::{Kind, is_word_byte, kind_of_byte};
-use crate::open_lists::{Lists, misplaced};
+use crate::open_lists::{Lists, refuse_misplaced};
 use crate::refusal::ReadRefusal;
 use crate::tree::{Place, Tree};
 use std::alloc::Global;
 
 /// The place after this byte, which stands at this place.
-fn next_place(place: Place, byte: u8) -> Place
+fn place_behind(place: Place, byte: u8) -> Place
     requires line { place.line + 1 < 2 ^ 32 }
     requires column { place.column + 1 < 2 ^ 32 }
-    ensures { result ≡ place_after_byte place byte }
+    ensures { result ≡ next_place place byte }
 {
     if byte == b'\n' {
         Place {
@@ -58,9 +58,9 @@ fn line_len(text: &[u8]) -> usize
 }
 
 /// The place so many bytes further on in a line.
-fn further(place: Place, len: usize) -> Place
+fn place_further_on(place: Place, len: usize) -> Place
     requires { place.column + len < 2 ^ 32 }
-    ensures { result ≡ place_further place len }
+    ensures { result ≡ further place len }
 {
     Place {
         line: place.line,
@@ -71,12 +71,12 @@ fn further(place: Place, len: usize) -> Place
 /// What stands behind a comment, whose text this is: from the line feed that ends it.
 fn after_comment(place: Place, text: &[u8]) -> (Place, &[u8])
     requires { place.column + length text.now < 2 ^ 32 }
-    ensures place { result.0 ≡ place_further place (prefix_len is_within_line text.now) }
+    ensures place { result.0 ≡ further place (prefix_len is_within_line text.now) }
     ensures rest { result.1.now ≡ drop (prefix_len is_within_line text.now) text.now }
 {
     let len = line_len(text);
     let (_, rest) = text.split_at(len);
-    (further(place, len), rest)
+    (place_further_on(place, len), rest)
 }
 
 /// The word that stands first in a text is read.
@@ -92,12 +92,12 @@ fn after_word<'t>(
     ensures err { IfErr result (λ e. Fails e (run (state_of lists.old) place text.now)) }
 {
     if lists.around.is_empty() {
-        return Err(misplaced(lists.members.as_slice(), place));
+        return Err(refuse_misplaced(lists.members.as_slice(), place));
     }
     let len = word_len(text);
     let (word, rest) = text.split_at(len);
     lists.add_word(alloc, word, place)?;
-    Ok((further(place, len), rest))
+    Ok((place_further_on(place, len), rest))
 }
 
 /// The word, bracket, space or comment that stands first in a text is read: where the rest of the text stands, and the rest.
@@ -118,13 +118,13 @@ fn after_first<'t>(
         [byte, rest @ ..] => {
             match kind_of_byte(*byte) {
                 Kind::Space => {}
-                Kind::Comment => return Ok(after_comment(next_place(place, *byte), rest)),
+                Kind::Comment => return Ok(after_comment(place_behind(place, *byte), rest)),
                 Kind::Open => lists.open(alloc, place)?,
                 Kind::Close => lists.close(alloc, place)?,
                 Kind::Word => return after_word(lists, alloc, place, text),
                 Kind::Foreign => return Err(ReadRefusal::Char(place)),
             }
-            Ok((next_place(place, *byte), rest))
+            Ok((place_behind(place, *byte), rest))
         }
     }
 }

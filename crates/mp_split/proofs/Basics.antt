@@ -23,7 +23,7 @@ pub use Rattle.mp_grounder.specs.Limits.{IsRefusedBy, IsWithin, KeepsLimits}
 pub use Rattle.mp_grounder.specs.Places.{text_places_in}
 pub use Rattle.mp_grounder.specs.declared.grounded.Ground.{Ground}
 pub use Rattle.mp_joint.specs.Fact.{Text, is_listed}
-pub use Rattle.mp_lifted.specs.declared.view.OpenView.{OpenView}
+pub use Rattle.mp_lifting.specs.declared.view.OpenView.{OpenView}
 pub use Rattle.mp_sexp.proofs.Places.{has_place}
 unfoldable pub use Rattle.mp_sexp.specs.Numbers.{number_in}
 pub use Rattle.mp_task.specs.Limits.{ActFits, AllLess, FarFits}

@@ -1,7 +1,7 @@
 -- The tasks of a team from the factors of its agents.
 use Rattle.std.specs.Prelude.{◌≡◌, ◌<◌, ℕ, ◌+◌, List, map, length, Some, slice_get}
 use Rattle.mp_forms.specs.declared.factor.Factor.{Factor}
-use Rattle.mp_lifted.specs.declared.view.OpenView.{OpenView}
+use Rattle.mp_lifting.specs.declared.view.OpenView.{OpenView}
 use Rattle.mp_views.specs.Lines.{view_text}
 use Rattle.mp_views.specs.Opened.{joined, open_view}
 use Rattle.mp_grounder.specs.declared.grounded.Ground.{Ground}

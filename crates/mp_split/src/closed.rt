@@ -2,13 +2,13 @@
 
 ghost use Rattle.std.specs.Prelude.{◌≡◌, ◌++◌, ◌∷◌, [], List, true, false, not, map, filter, option_copied, slice_index_or, Decides, IfOk, IsSomeAnd, OnOk};
 ghost use Rattle.mp_joint.specs.Fact.{Text};
-ghost use Rattle.mp_task.specs.Public.{is_public as is_public_act};
+ghost use Rattle.mp_task.specs.Public.{is_public};
 ghost use Rattle.mp_views.specs.Parts.{sorted_parts as parts_in_order};
 ghost use Rattle.mp_grounder.specs.Limits.{KeepsLimits};
-ghost use Rattle.mp_split.specs.Closed.{texts_at as texts_of, is_number_in, part_of as part_of_act, is_met as are_met, closed_view as view_of};
+ghost use Rattle.mp_split.specs.Closed.{texts_at, is_number_in, part_of, is_met, closed_view as view_of};
 
 use mp_grounder::Ground;
-use mp_lifted::FactTexts;
+use mp_lifting::FactTexts;
 use mp_list::{Copied, List, OutOfMemory};
 use mp_sets::Bits;
 use mp_sexp::Name;
@@ -27,8 +27,8 @@ fn text_at(alloc: Global, table: &[Name], place: u32) -> Result<Name, OutOfMemor
 }
 
 /// The texts at some places of a table.
-fn texts_at(alloc: Global, table: &[Name], places: &[u32]) -> Result<FactTexts, OutOfMemory>
-    ensures { IfOk result (λ texts. texts ≡ texts_of table.now places.now) }
+fn copy_texts(alloc: Global, table: &[Name], places: &[u32]) -> Result<FactTexts, OutOfMemory>
+    ensures { IfOk result (λ texts. texts ≡ texts_at table.now places.now) }
 {
     let mut texts = List::with_capacity(alloc, places.len())?;
     for place in places {
@@ -53,7 +53,7 @@ fn add_delete(
     delete: u32,
 ) -> Result<(), OutOfMemory>
     ensures { OnOk result (texts.new ≡ texts.old
-        ++ texts_of table.now (filter (λ n. not (is_number_in add.now n)) (delete ∷ []))) }
+        ++ texts_at table.now (filter (λ n. not (is_number_in add.now n)) (delete ∷ []))) }
 {
     if !is_one_of(delete, add) {
         texts.push(text_at(alloc, table, delete)?)?;
@@ -69,7 +69,7 @@ fn deleted(
     del: &[u32],
 ) -> Result<FactTexts, OutOfMemory>
     ensures { IfOk result (λ texts. texts
-        ≡ texts_of table.now (filter (λ n. not (is_number_in add.now n)) del.now)) }
+        ≡ texts_at table.now (filter (λ n. not (is_number_in add.now n)) del.now)) }
 {
     let mut texts = List::new(alloc);
     for delete in del {
@@ -79,21 +79,21 @@ fn deleted(
 }
 
 /// The public part of an action.
-fn part_of(alloc: Global, table: &[Name], act: &Act) -> Result<Part, OutOfMemory>
-    ensures { IfOk result (λ part. part ≡ part_of_act table.now act.now) }
+fn make_part(alloc: Global, table: &[Name], act: &Act) -> Result<Part, OutOfMemory>
+    ensures { IfOk result (λ part. part ≡ part_of table.now act.now) }
 {
     let add = act.add_pub.as_slice();
     Ok(Part {
         cost: act.cost,
-        pre: texts_at(alloc, table, act.pre_pub.as_slice())?,
-        add: texts_at(alloc, table, add)?,
+        pre: copy_texts(alloc, table, act.pre_pub.as_slice())?,
+        add: copy_texts(alloc, table, add)?,
         del: deleted(alloc, table, add, act.del_pub.as_slice())?,
     })
 }
 
 /// Whether an action has a public precondition, add or delete.
-fn is_public(act: &Act) -> bool
-    ensures { result ≡ is_public_act act.now }
+fn has_public_facts(act: &Act) -> bool
+    ensures { result ≡ is_public act.now }
 {
     act.pre_pub.len() > 0 || act.add_pub.len() > 0 || act.del_pub.len() > 0
 }
@@ -108,11 +108,11 @@ fn shows_same(a: &Act, b: &Act) -> bool
 
 /// Whether an action is public and shows another part than the last one that was shown, if there is one.
 fn is_new(last: Option<&Act>, act: &Act) -> bool
-    ensures public { result ≡ true → is_public_act act.now ≡ true }
-    ensures repeated { result ≡ false → is_public_act act.now ≡ true → IsSomeAnd (option_copied last.entry)
-        (λ b. (table : List Text) → part_of_act table b ≡ part_of_act table act.now) }
+    ensures public { result ≡ true → is_public act.now ≡ true }
+    ensures repeated { result ≡ false → is_public act.now ≡ true → IsSomeAnd (option_copied last.entry)
+        (λ b. (table : List Text) → part_of table b ≡ part_of table act.now) }
 {
-    if !is_public(act) {
+    if !has_public_facts(act) {
         return false;
     }
     match last {
@@ -125,13 +125,13 @@ fn is_new(last: Option<&Act>, act: &Act) -> bool
 /// same part have it made once.
 fn parts_of(alloc: Global, table: &[Name], acts: &[Act]) -> Result<Vec<Part>, OutOfMemory>
     ensures { IfOk result (λ parts. parts_in_order parts.items
-        ≡ parts_in_order (map (part_of_act table.now) (filter is_public_act acts.now))) }
+        ≡ parts_in_order (map (part_of table.now) (filter is_public acts.now))) }
 {
     let mut parts = Vec::new(alloc);
     let mut last = None;
     for act in acts {
         if is_new(last, act) {
-            parts.push(part_of(alloc, table, act)?)?;
+            parts.push(make_part(alloc, table, act)?)?;
             last = Some(act);
         }
     }
@@ -139,9 +139,9 @@ fn parts_of(alloc: Global, table: &[Name], acts: &[Act]) -> Result<Vec<Part>, Ou
 }
 
 /// Whether the private goals hold at the start.
-fn is_met(alloc: Global, ground: &Ground) -> Result<bool, OutOfMemory>
+fn are_goals_met(alloc: Global, ground: &Ground) -> Result<bool, OutOfMemory>
     requires { KeepsLimits ground.now }
-    ensures { IfOk result (λ met. met ≡ are_met ground.now) }
+    ensures { IfOk result (λ met. met ≡ is_met ground.now) }
 {
     let start = Bits::from_list(alloc, ground.privates, &ground.start)?;
     Ok(start.holds(&ground.goal_priv))
@@ -155,8 +155,8 @@ pub fn closed_view(alloc: Global, ground: &Ground) -> Result<View, OutOfMemory>
 {
     let table = ground.publics.as_slice();
     let parts = parts_of(alloc, table, ground.acts.as_slice())?;
-    let met = is_met(alloc, ground)?;
-    let goals = texts_at(alloc, table, ground.goal_pub.as_slice())?;
+    let met = are_goals_met(alloc, ground)?;
+    let goals = copy_texts(alloc, table, ground.goal_pub.as_slice())?;
     let acts = sorted_parts(alloc, parts)?;
     Ok(View {
         facts: ground.publics.copy()?,

@@ -8,11 +8,11 @@ ghost use Rattle.std.specs.Ordering.{nat_cmp};
 ghost use Rattle.mp_joint.specs.Fact.{is_listed};
 ghost use Rattle.mp_typing.specs.Places.{numbers_where};
 ghost use Rattle.mp_views.specs.Sorted.{sorted_once as once_sorted};
-ghost use Rattle.mp_split.specs.TaskOf.{far_in, is_complement as is_complement_text, is_true as is_true_text};
-ghost use Rattle.mp_split.specs.Common.{PartFits, ShowsFit, parts_in, common_of as common_of_team};
+ghost use Rattle.mp_split.specs.TaskOf.{far_in, is_complement, is_true};
+ghost use Rattle.mp_split.specs.Common.{PartFits, ShowsFit, parts_in, common_of};
 
 use crate::numbers::{add_place, numbers_of};
-use mp_lifted::FactTexts;
+use mp_lifting::FactTexts;
 use mp_list::{Copied, List, OutOfMemory};
 use mp_sets::{Agent, FactList};
 use mp_sexp::{Name, NameTable};
@@ -65,14 +65,14 @@ fn front(text: &[u8]) -> &[u8]
 }
 
 /// Whether a text is that of a complement.
-fn is_complement(text: &[u8]) -> bool
-    ensures { result ≡ is_complement_text text.now }
+fn is_complement_text(text: &[u8]) -> bool
+    ensures { result ≡ is_complement text.now }
 {
     front(text) == b"(not (".as_slice()
 }
 
 /// The text of the fact whose complement this is.
-fn complemented(text: &[u8]) -> &[u8]
+fn complement_text(text: &[u8]) -> &[u8]
     ensures { result.now ≡ take (length text.now - 6) (drop 5 text.now) }
 {
     if text.len() < 6 {
@@ -89,12 +89,12 @@ fn is_no_name(names: &NameTable<'_>, text: &[u8]) -> bool
 }
 
 /// Whether a fact or complement is true at the start.
-fn is_true(init: &NameTable<'_>, text: &Name) -> bool
-    ensures { result ≡ is_true_text init.now text.now }
+fn is_true_text(init: &NameTable<'_>, text: &Name) -> bool
+    ensures { result ≡ is_true init.now text.now }
 {
     let bytes = text.as_slice();
-    if is_complement(bytes) {
-        is_no_name(init, complemented(bytes))
+    if is_complement_text(bytes) {
+        is_no_name(init, complement_text(bytes))
     } else {
         init.contains(text)
     }
@@ -119,14 +119,14 @@ fn start_and_goals(
     table: &[Name],
 ) -> Result<(FactList, FactList), OutOfMemory>
     requires { length table.now ≤ 1048560 }
-    ensures start { IfOk result (λ r. r.0 ≡ numbers_where 0 (is_true_text init.now) table.now) }
+    ensures start { IfOk result (λ r. r.0 ≡ numbers_where 0 (is_true init.now) table.now) }
     ensures goals { IfOk result (λ r. r.1 ≡ numbers_where 0 (λ text. is_listed text goals.now) table.now) }
 {
     let mut start = FactList::new(alloc);
     let mut wanted = FactList::new(alloc);
     let mut place = 0;
     for text in table {
-        add_place(&mut start, place, is_true(init, text))?;
+        add_place(&mut start, place, is_true_text(init, text))?;
         add_place(&mut wanted, place, goals.contains(text))?;
         place += 1;
     }
@@ -211,7 +211,7 @@ fn add_all_parts(
 }
 
 /// What the tasks of a team have in common, from what its agents show and the table of their public facts.
-pub(crate) fn common_of(
+pub(crate) fn make_common(
     alloc: Global,
     table: &[Name],
     names: &NameTable<'_>,
@@ -220,7 +220,7 @@ pub(crate) fn common_of(
 ) -> Result<Common, OutOfMemory>
     requires names { names.now ≡ table.now }
     requires fit { ShowsFit table.now views.now }
-    ensures { IfOk result (λ common. common ≡ common_of_team table.now init.now views.now) }
+    ensures { IfOk result (λ common. common ≡ common_of table.now init.now views.now) }
 {
     let (start, goals) = start_and_goals(
         alloc,

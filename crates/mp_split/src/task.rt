@@ -12,7 +12,7 @@ use crate::common::Common;
 use crate::numbers::{numbers_at, numbers_of};
 use crate::team::{Tasks, Views};
 use mp_grounder::Ground;
-use mp_lifted::FactTexts;
+use mp_lifting::FactTexts;
 use mp_list::{Copied, List, OutOfMemory};
 use mp_sets::{Agent, FactList};
 use mp_sexp::NameTable;
@@ -136,7 +136,7 @@ fn task_from_parts(
 
 /// The task of an agent with these own actions, where these are the public facts of the team. The actions of the grounded
 /// factor itself are not looked at.
-fn task_of(
+fn make_task(
     alloc: Global,
     table: &NameTable<'_>,
     common: &Common,
@@ -166,7 +166,7 @@ fn add_task(
 {
     let acts = mem::replace(&mut ground.acts, List::new(alloc));
     out.tasks
-        .push(task_of(alloc, table, common, &ground, acts)?)?;
+        .push(make_task(alloc, table, common, &ground, acts)?)?;
     out.steps.push(ground.into_steps())?;
     Ok(())
 }

@@ -9,15 +9,15 @@ ghost use Rattle.mp_grounder.specs.Limits.{IsWithin, KeepsLimits};
 ghost use Rattle.mp_split.specs.Begun.{AreBegun};
 ghost use Rattle.mp_split.specs.Closed.{closed_view as closed_view_of};
 ghost use Rattle.mp_split.specs.Common.{IsReady};
-ghost use Rattle.mp_split.specs.TaskOf.{task_of as task_of_team};
-ghost use Rattle.mp_split.specs.Team.{AreTasksOf, IsFirstRefusal, known_at, open_views as open_views_of};
+ghost use Rattle.mp_split.specs.TaskOf.{task_of};
+ghost use Rattle.mp_split.specs.Team.{AreTasksOf, IsFirstRefusal, known_at, open_views};
 
 use crate::closed::closed_view;
-use crate::common::{common_of, table_of};
+use crate::common::{make_common, table_of};
 use crate::task::tasks_of;
 use crate::team::{Tasks, Views};
 use mp_grounder::{Ground, GroundRefusal, ground};
-use mp_lifted::{FactTexts, OpenView};
+use mp_lifting::{FactTexts, OpenView};
 use mp_list::{List, OutOfMemory};
 use mp_sets::Agent;
 use mp_sexp::NameTable;
@@ -26,7 +26,7 @@ use mp_views::{View, join, open_view, view_bytes};
 use std::alloc::Global;
 
 /// What each agent shows before grounding.
-fn open_views(alloc: Global, factors: &[CheckedFactor]) -> Result<Vec<OpenView>, OutOfMemory>
+fn make_open_views(alloc: Global, factors: &[CheckedFactor]) -> Result<Vec<OpenView>, OutOfMemory>
     ensures { IfOk result (λ views. views.items ≡ map open_view_of factors.now) }
 {
     let mut views = Vec::with_capacity(alloc, factors.len())?;
@@ -64,10 +64,10 @@ fn add_ground(
 ) -> Result<(), GroundRefusal>
     requires { length grounds.old.items < 16 }
     ensures length { OnOk result (length grounds.new.items ≡ length grounds.old.items + 1) }
-    ensures begun { (team : List Factor) → known.now ≡ open_views_of team
+    ensures begun { (team : List Factor) → known.now ≡ open_views team
         → slice_get team (length grounds.old.items) ≡ Some factor.now → AreBegun team grounds.old.items
         → OnOk result (AreBegun team grounds.new.items) }
-    ensures refused { (team : List Factor) → known.now ≡ open_views_of team
+    ensures refused { (team : List Factor) → known.now ≡ open_views team
         → slice_get team (length grounds.old.items) ≡ Some factor.now → AreBegun team grounds.old.items
         → IfErr result (IsFirstRefusal team) }
 {
@@ -84,7 +84,7 @@ fn ground_all(
     known: &OpenView,
 ) -> Result<Vec<Ground>, GroundRefusal>
     requires agents { length factors.now ≤ 16 }
-    requires shown { known.now ≡ open_views_of factors.now }
+    requires shown { known.now ≡ open_views factors.now }
     ensures length { IfOk result (λ grounds. length grounds.items ≡ length factors.now) }
     ensures begun { IfOk result (λ grounds. AreBegun factors.now grounds.items) }
     ensures refused { 1 ≤ length factors.now → IfErr result (IsFirstRefusal factors.now) }
@@ -141,7 +141,7 @@ fn tasks_shown(
     requires ready { All (IsReady (length grounds.items)) grounds.items }
     requires views { views.items ≡ map closed_view_of grounds.items }
     ensures tasks { IfOk result (λ t. t.tasks
-        ≡ map (task_of_team (record { init = init; views = map closed_view_of grounds.items })) grounds.items) }
+        ≡ map (task_of (record { init = init; views = map closed_view_of grounds.items })) grounds.items) }
     ensures steps { IfOk result (λ t. t.steps ≡ map (λ g. g.steps) grounds.items) }
     ensures views { IfOk result (λ t. t.views ≡ bytes) }
 {
@@ -149,7 +149,7 @@ fn tasks_shown(
     let table = table_of(alloc, shown)?;
     let texts = table.as_slice();
     let names = NameTable::of(alloc, texts)?;
-    let common = common_of(alloc, texts, &names, init.as_slice(), shown)?;
+    let common = make_common(alloc, texts, &names, init.as_slice(), shown)?;
     drop(views);
     tasks_of(alloc, &names, &common, grounds, bytes)
 }
@@ -164,7 +164,7 @@ fn split(
     requires agents { length grounds.items ≤ 16 }
     requires ready { All (IsReady (length grounds.items)) grounds.items }
     ensures tasks { IfOk result (λ t. t.tasks
-        ≡ map (task_of_team (record { init = init; views = map closed_view_of grounds.items })) grounds.items) }
+        ≡ map (task_of (record { init = init; views = map closed_view_of grounds.items })) grounds.items) }
     ensures steps { IfOk result (λ t. t.steps ≡ map (λ g. g.steps) grounds.items) }
     ensures views { IfOk result (λ t. t.views
         ≡ zip2 view_text before.items (map closed_view_of grounds.items)) }
@@ -187,7 +187,7 @@ pub fn tasks(alloc: Global, factors: &[CheckedFactor]) -> Result<Tasks, GroundRe
         → IsWithin (known_at factors.now place factor)) }
     ensures refused { IfErr result (IsFirstRefusal factors.now) }
 {
-    let before = open_views(alloc, factors)?;
+    let before = make_open_views(alloc, factors)?;
     let known = join(alloc, before.as_slice())?;
     let grounds = ground_all(alloc, factors, &known)?;
     Ok(split(alloc, before, known.init, grounds)?)

@@ -5,9 +5,9 @@ use Rattle.mp_forms.specs.declared.factor.Factor.{Factor}
 use Rattle.mp_forms.specs.declared.schema_values.Schema.{Schema}
 use Rattle.mp_joint.specs.Fact.{Text}
 use Rattle.mp_lifted.specs.declared.lifted.LiftedFactor.{LiftedFactor}
-use Rattle.mp_lifted.specs.declared.view.OpenView.{OpenView}
-use Rattle.mp_lifted.specs.Factors.{lifted_factor}
-use Rattle.mp_lifted.specs.Vocabulary.{vocabulary_of}
+use Rattle.mp_lifting.specs.declared.view.OpenView.{OpenView}
+use Rattle.mp_lifting.specs.Factors.{lifted_factor}
+use Rattle.mp_lifting.specs.Vocabulary.{vocabulary_of}
 use Rattle.mp_ground_laws.specs.Checked.{IsChecked}
 use Rattle.mp_ground_laws.specs.Named.{action_names}
 use Rattle.mp_ground_laws.proofs.Parts.{parts_of}

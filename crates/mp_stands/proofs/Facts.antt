@@ -9,11 +9,11 @@ use Rattle.mp_sexp.specs.Numbers.{name_at}
 use Rattle.mp_joint.specs.declared.fact.NamedFact.{NamedFact}
 use Rattle.mp_joint.specs.declared.fact.SignedFact.{SignedFact}
 use Rattle.mp_joint.specs.Fact.{is_listed}
-use Rattle.mp_lifted.specs.declared.view.OpenView.{OpenView}
-use Rattle.mp_lifted.specs.Factors.{lifted_factor}
-use Rattle.mp_lifted.specs.Texts.{signed_text}
-use Rattle.mp_lifted.specs.Views.{setting_of}
-use Rattle.mp_lifted.specs.Vocabulary.{vocabulary_of}
+use Rattle.mp_lifting.specs.declared.view.OpenView.{OpenView}
+use Rattle.mp_lifting.specs.Factors.{lifted_factor}
+use Rattle.mp_lifting.specs.Texts.{signed_text}
+use Rattle.mp_lifting.specs.Views.{setting_of}
+use Rattle.mp_lifting.specs.Vocabulary.{vocabulary_of}
 use Rattle.mp_instances.specs.Instances.{instances}
 use Rattle.mp_ground_facts.specs.Touched.{counted}
 use Rattle.mp_list.proofs.Members.{from_map}

@@ -16,7 +16,7 @@ use Rattle.mp_joint.specs.Fact.{Text, is_listed}
 use Rattle.mp_joint.specs.FactorContribution.{team_of}
 use Rattle.mp_joint.specs.Instance.{holds}
 use Rattle.mp_joint.specs.Plan.{joint_start}
-use Rattle.mp_lifted.specs.Texts.{signed_text}
+use Rattle.mp_lifting.specs.Texts.{signed_text}
 use Rattle.mp_views.specs.Public.{is_public}
 use Rattle.mp_views.specs.declared.view.View.{View}
 use Rattle.mp_stands.specs.Numbering.{AreNumbersOf, HasNumberAmong, StandsForOneOf}

@@ -7,11 +7,11 @@ use Rattle.mp_forms.specs.declared.factor.Factor.{Factor}
 use Rattle.mp_joint.specs.Grounding.{asked_atoms, negated_atoms}
 use Rattle.mp_lifted.specs.declared.lifted.LiftedAtom.{LiftedAtom}
 use Rattle.mp_lifted.specs.declared.lifted.LiftedAction.{LiftedAction}
-use Rattle.mp_lifted.specs.declared.view.OpenView.{OpenView}
-use Rattle.mp_lifted.specs.Factors.{lifted_factor}
-use Rattle.mp_lifted.specs.Lifting.{members_of, lifted_where, is_not}
-use Rattle.mp_lifted.specs.Views.{is_changed}
-use Rattle.mp_lifted.specs.Vocabulary.{vocabulary_of}
+use Rattle.mp_lifting.specs.declared.view.OpenView.{OpenView}
+use Rattle.mp_lifting.specs.Factors.{lifted_factor}
+use Rattle.mp_lifting.specs.Lifting.{members_of, lifted_where, is_not}
+use Rattle.mp_lifting.specs.Views.{is_changed}
+use Rattle.mp_lifting.specs.Vocabulary.{vocabulary_of}
 use Rattle.mp_bindings.specs.Bindings.{product}
 use Rattle.mp_lifted.specs.Atoms.{atom_at, atoms_at}
 use Rattle.mp_lifted.specs.Start.{is_true_at_start}

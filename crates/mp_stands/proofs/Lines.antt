@@ -10,7 +10,7 @@ use Rattle.std.specs.Prelude.{codes, decimal}
 use Rattle.std.specs.Str.Parse.{AllDigits}
 use Rattle.std.proofs.lemmas.Str.Parse.{digit_from_value}
 use Rattle.mp_joint.specs.Fact.{Text}
-use Rattle.mp_lifted.specs.Texts.{bracketed}
+use Rattle.mp_lifting.specs.Texts.{bracketed}
 use Rattle.mp_stands.proofs.Words.{AreSpelled, complement_text, not_joined}
 
 -- ---- texts of facts

@@ -21,7 +21,7 @@ use Rattle.mp_typing.proofs.Passing.{taken_from_passes}
 use Rattle.mp_joint.specs.Fact.{Text, is_listed}
 use Rattle.mp_joint.specs.FactorContribution.{may_stand, may_stand_for}
 use Rattle.mp_joint.specs.Grounding.{standing_for, object_of, objects_of}
-use Rattle.mp_lifted.specs.Vocabulary.{vocabulary_of}
+use Rattle.mp_lifting.specs.Vocabulary.{vocabulary_of}
 use Rattle.mp_bindings.specs.Bindings.{product}
 use Rattle.mp_stands.proofs.MemberLists.{found_in}
 use Rattle.mp_ground_laws.specs.Grounding.{members_by_name}

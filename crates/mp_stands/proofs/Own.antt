@@ -10,7 +10,7 @@ use Rattle.std.specs.Prelude.{Contains}
 use Rattle.mp_forms.specs.declared.factor.Factor.{Factor}
 use Rattle.mp_sexp.specs.Numbers.{number_in}
 use Rattle.mp_joint.specs.declared.fact.SignedFact.{SignedFact}
-use Rattle.mp_lifted.specs.Vocabulary.{vocabulary_of}
+use Rattle.mp_lifting.specs.Vocabulary.{vocabulary_of}
 use Rattle.mp_stands.specs.Stands.{AreCounted}
 use Rattle.mp_stands.specs.Touched.{factor_of}
 use Rattle.mp_stands.proofs.Owners.{owner_is, same_agent}

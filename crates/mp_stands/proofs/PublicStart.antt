@@ -13,7 +13,7 @@ use Rattle.mp_joint.specs.Fact.{Text, is_listed}
 use Rattle.mp_joint.specs.FactorContribution.{team_of}
 use Rattle.mp_joint.specs.Instance.{holds}
 use Rattle.mp_joint.specs.Plan.{joint_start}
-use Rattle.mp_lifted.specs.Texts.{bracketed, fact_text, signed_text}
+use Rattle.mp_lifting.specs.Texts.{bracketed, fact_text, signed_text}
 use Rattle.mp_stands.specs.Stands.{AreTrueAtStart}
 use Rattle.mp_ground_laws.specs.Checked.{IsChecked}
 use Rattle.mp_grounder.specs.declared.grounded.Ground.{Ground}

@@ -12,10 +12,10 @@ use Rattle.mp_joint.specs.Fact.{Text, is_listed}
 use Rattle.mp_joint.specs.FactorContribution.{privates_of}
 use Rattle.mp_lifted.specs.declared.lifted.GroundAtom.{GroundAtom}
 use Rattle.mp_lifted.specs.declared.lifted.LiftedFactor.{LiftedFactor}
-use Rattle.mp_lifted.specs.declared.view.OpenView.{OpenView}
-use Rattle.mp_lifted.specs.Factors.{lifted_factor}
-use Rattle.mp_lifted.specs.Texts.{bracketed, fact_text}
-use Rattle.mp_lifted.specs.Vocabulary.{vocabulary_of}
+use Rattle.mp_lifting.specs.declared.view.OpenView.{OpenView}
+use Rattle.mp_lifting.specs.Factors.{lifted_factor}
+use Rattle.mp_lifting.specs.Texts.{bracketed, fact_text}
+use Rattle.mp_lifting.specs.Vocabulary.{vocabulary_of}
 use Rattle.mp_lifted.specs.Atoms.{is_among}
 use Rattle.mp_lifted.specs.Start.{is_so, is_private, is_true_at_start}
 use Rattle.mp_ground_laws.specs.Checked.{IsChecked}

@@ -9,8 +9,8 @@ use Rattle.mp_forms.specs.declared.factor.Factor.{Factor}
 use Rattle.mp_joint.specs.Fact.{Text, is_listed}
 use Rattle.mp_joint.specs.Grounding.{negated_atoms}
 use Rattle.mp_joint.specs.Static.{is_changed_in, is_under_not_in, is_private_in, is_so_in_team}
-use Rattle.mp_lifted.specs.declared.view.OpenView.{OpenView}
-use Rattle.mp_lifted.specs.Views.{predicates_of, changed_predicates, negated_predicates, is_changed, has_complements}
+use Rattle.mp_lifting.specs.declared.view.OpenView.{OpenView}
+use Rattle.mp_lifting.specs.Views.{predicates_of, changed_predicates, negated_predicates, is_changed, has_complements}
 use Rattle.mp_views.specs.Opened.{is_public_predicate, public_predicates, open_view}
 use Rattle.mp_views.specs.Sorted.{sorted_once}
 use Rattle.mp_views.proofs.SortedLaws.{same_texts}

@@ -16,7 +16,7 @@ use Rattle.mp_task.specs.Limits.{ActFits}
 use Rattle.mp_task.specs.Public.{is_public as is_public_act}
 use Rattle.mp_joint.specs.declared.fact.SignedFact.{SignedFact}
 use Rattle.mp_joint.specs.Fact.{Text}
-use Rattle.mp_lifted.specs.Texts.{signed_text}
+use Rattle.mp_lifting.specs.Texts.{signed_text}
 use Rattle.mp_views.specs.declared.view.Part.{Part}
 use Rattle.mp_views.specs.Lines.{part_line}
 use Rattle.mp_views.specs.Parts.{part_cmp, sorted_parts}

@@ -15,7 +15,7 @@ use Rattle.mp_forms.specs.declared.factor.Factor.{Factor}
 use Rattle.mp_typing.specs.ObjectList.{first_declared, object_list}
 use Rattle.mp_typing.proofs.Passing.{taken_passes}
 use Rattle.mp_joint.specs.Fact.{Text, is_listed}
-use Rattle.mp_lifted.specs.Vocabulary.{vocabulary_of}
+use Rattle.mp_lifting.specs.Vocabulary.{vocabulary_of}
 use Rattle.mp_ground_laws.specs.Checked.{IsChecked}
 use Rattle.mp_stands.specs.Declared.{AreDeclared}
 use Rattle.mp_stands.proofs.JoinedLists.{listed_member}

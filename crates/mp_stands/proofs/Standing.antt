@@ -5,7 +5,7 @@ use Rattle.std.specs.Prelude.{Contains}
 use Rattle.mp_forms.specs.declared.factor.Factor.{Factor}
 use Rattle.mp_task.specs.AgentTask.{AgentTask}
 use Rattle.mp_joint.specs.declared.fact.SignedFact.{SignedFact}
-use Rattle.mp_lifted.specs.Texts.{signed_text}
+use Rattle.mp_lifting.specs.Texts.{signed_text}
 use Rattle.mp_stands.specs.Numbering.{Numbering, AreNumbersOf, AreNumbersFor, privates_of}
 use Rattle.mp_stands.specs.Stands.{AreCounted, AreActionsOf, AreTrueAtStart, is_known_to}
 use Rattle.mp_stands.specs.Touched.{goals}

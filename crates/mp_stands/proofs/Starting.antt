@@ -17,8 +17,8 @@ use Rattle.mp_joint.specs.Fact.{Text, named, same_owner, same_fact, is_among, is
 use Rattle.mp_joint.specs.FactorContribution.{privates_of, facts_of, factor_contribution, contributions_from, team_of}
 use Rattle.mp_joint.specs.Grounding.{fact_of, objects_of}
 use Rattle.mp_joint.specs.Plan.{Contribution, joint_start}
-use Rattle.mp_lifted.specs.Texts.{bracketed, fact_text}
-use Rattle.mp_lifted.specs.Views.{is_initial}
+use Rattle.mp_lifting.specs.Texts.{bracketed, fact_text}
+use Rattle.mp_lifting.specs.Views.{is_initial}
 use Rattle.mp_views.specs.Opened.{open_view, public_init}
 use Rattle.mp_views.proofs.SortedLaws.{same_texts}
 use Rattle.mp_stands.specs.Touched.{factor_of}

@@ -11,7 +11,7 @@ use Rattle.mp_typing.proofs.Passing.{taken_passes, taken_from_passes}
 use Rattle.mp_task.proofs.Agreeing.{Contains-slice_get}
 use Rattle.mp_joint.specs.declared.fact.SignedFact.{SignedFact}
 use Rattle.mp_joint.specs.Fact.{Text, is_listed}
-use Rattle.mp_lifted.specs.Texts.{signed_text}
+use Rattle.mp_lifting.specs.Texts.{signed_text}
 use Rattle.mp_views.specs.Public.{is_public}
 use Rattle.mp_stands.specs.Numbering.{HasNumberAmong, StandsForOneOf, AreNumbersOf}
 use Rattle.mp_stands.proofs.MemberLists.{has_place, mapped}

@@ -6,7 +6,7 @@ use Rattle.std.proofs.lemmas.Option.{get_or_from_slice_get, same_Some, slice_get
 use Rattle.std.specs.Option.{option_map}
 use Rattle.mp_forms.specs.declared.factor.Factor.{Factor}
 use Rattle.mp_joint.specs.declared.plan.PlanStep.{PlanStep}
-use Rattle.mp_lifted.specs.declared.view.OpenView.{OpenView}
+use Rattle.mp_lifting.specs.declared.view.OpenView.{OpenView}
 use Rattle.mp_lifted.specs.Binding.{ActionBinding}
 use Rattle.mp_views.specs.Lines.{view_text}
 use Rattle.mp_views.specs.Opened.{joined, open_view}

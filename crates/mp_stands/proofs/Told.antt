@@ -2,9 +2,9 @@
 -- public it has the same text.
 use Rattle.std.proofs.Common.{◌≡◌, ℕ, Bool, true, false, not, None, if◌then◌else◌, refl, sym, ap, ◌∙◌}
 use Rattle.mp_forms.specs.declared.factor.Factor.{Factor}
-use Rattle.mp_lifted.specs.declared.view.OpenView.{OpenView}
-use Rattle.mp_lifted.specs.Factors.{lifted_factor}
-use Rattle.mp_lifted.specs.Texts.{signed_text}
+use Rattle.mp_lifting.specs.declared.view.OpenView.{OpenView}
+use Rattle.mp_lifting.specs.Factors.{lifted_factor}
+use Rattle.mp_lifting.specs.Texts.{signed_text}
 use Rattle.mp_lifted.specs.Start.{is_private}
 use Rattle.mp_ground_facts.specs.declared.fact.GroundFact.{GroundFact}
 use Rattle.mp_ground_facts.specs.Facts.{atom_of, is_initial}

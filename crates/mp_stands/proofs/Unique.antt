@@ -6,7 +6,7 @@ use Rattle.mp_forms.specs.declared.factor.Factor.{Factor}
 use Rattle.mp_sexp.specs.Numbers.{number_in}
 use Rattle.mp_joint.specs.declared.fact.SignedFact.{SignedFact}
 use Rattle.mp_joint.specs.Instance.{holds}
-use Rattle.mp_lifted.specs.Vocabulary.{vocabulary_of}
+use Rattle.mp_lifting.specs.Vocabulary.{vocabulary_of}
 use Rattle.mp_typing.specs.Places.{numbers_where}
 use Rattle.mp_ground_laws.specs.Counted.{named_goals, signed_cmp}
 use Rattle.mp_grounder.specs.declared.grounded.Ground.{Ground}

@@ -13,7 +13,7 @@ use Rattle.std.specs.Str.{bytes_eq}
 use Rattle.mp_list.proofs.Bools.{same_tests}
 use Rattle.mp_forms.specs.Words.{is_name_byte}
 use Rattle.mp_joint.specs.Fact.{Text}
-use Rattle.mp_lifted.specs.Texts.{bracketed}
+use Rattle.mp_lifting.specs.Texts.{bracketed}
 
 -- ---- bytes of names
 

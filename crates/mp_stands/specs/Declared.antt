@@ -3,7 +3,7 @@ use Rattle.std.specs.Prelude.{◌≡◌, true, List}
 use Rattle.std.specs.List.{list_all}
 use Rattle.mp_forms.specs.declared.factor.Factor.{Factor}
 use Rattle.mp_joint.specs.Fact.{Text, is_listed}
-use Rattle.mp_lifted.specs.Vocabulary.{vocabulary_of}
+use Rattle.mp_lifting.specs.Vocabulary.{vocabulary_of}
 
 -- a predicate of the factor, and objects of it
 pub record AreDeclared (factor : Factor) (predicate : Text) (args : List Text) : Type 0 where

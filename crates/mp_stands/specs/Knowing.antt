@@ -3,7 +3,7 @@ use Rattle.std.specs.Prelude.{◌≡◌, ℕ, List, Some, Contains}
 use Rattle.mp_forms.specs.declared.factor.Factor.{Factor}
 use Rattle.mp_joint.specs.declared.fact.SignedFact.{SignedFact}
 use Rattle.mp_joint.specs.Grounded.{Setting}
-use Rattle.mp_lifted.specs.Views.{setting_of}
+use Rattle.mp_lifting.specs.Views.{setting_of}
 use Rattle.mp_stands.specs.Touched.{factor_of}
 use Rattle.mp_ground_laws.specs.Counted.{counted_facts, named_goals}
 use Rattle.mp_split.specs.Team.{open_views}

@@ -3,7 +3,7 @@ use Rattle.std.specs.Prelude.{◌≡◌, ℕ, ◌+◌, true, List, map, Some, Co
 use Rattle.mp_forms.specs.declared.factor.Factor.{Factor}
 use Rattle.mp_joint.specs.declared.fact.SignedFact.{SignedFact}
 use Rattle.mp_joint.specs.declared.plan.PlanStep.{PlanStep}
-use Rattle.mp_lifted.specs.Texts.{signed_text}
+use Rattle.mp_lifting.specs.Texts.{signed_text}
 use Rattle.mp_stands.specs.Numbering.{Numbering, privates_of, steps_of}
 use Rattle.mp_views.specs.Public.{is_public}
 use Rattle.mp_ground_laws.specs.Named.{step_of}

@@ -3,7 +3,8 @@
 use crate::lacking::{tell_unmet, tell_unpriced};
 use crate::objects::object_names;
 use mp_forms::{Factor, Schema};
-use mp_lifted::{LiftedAction, LiftedFactor, OpenView, StartFacts, lift};
+use mp_lifted::{LiftedAction, LiftedFactor, StartFacts};
+use mp_lifting::{OpenView, lift};
 use mp_list::OutOfMemory;
 use mp_sexp::NameTable;
 use mp_team_bindings::{

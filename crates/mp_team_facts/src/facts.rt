@@ -8,7 +8,7 @@ use crate::grounds::grounds_of;
 use crate::shown::shown_by_all;
 use mp_grounder::{Ground, GroundRefusal};
 use mp_hints::text_of;
-use mp_lifted::{FactTexts, OpenView};
+use mp_lifting::{FactTexts, OpenView};
 use mp_list::{Copied, OutOfMemory};
 use mp_sexp::Name;
 use mp_typing::CheckedFactor;

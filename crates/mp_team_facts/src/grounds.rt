@@ -3,7 +3,7 @@
 ghost use Rattle.std.specs.Prelude.{◌≡◌, ◌+◌, IfSome};
 
 use mp_grounder::{Ground, GroundRefusal, ground};
-use mp_lifted::OpenView;
+use mp_lifting::OpenView;
 use mp_list::OutOfMemory;
 use mp_sets::Agent;
 use mp_typing::CheckedFactor;

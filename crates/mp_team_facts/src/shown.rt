@@ -3,7 +3,7 @@
 ghost use Rattle.std.specs.Prelude.{◌≡◌, map, IfOk};
 ghost use Rattle.mp_views.specs.Opened.{joined, open_view as open_view_of};
 
-use mp_lifted::OpenView;
+use mp_lifting::OpenView;
 use mp_list::OutOfMemory;
 use mp_typing::CheckedFactor;
 use mp_views::{join, open_view};

@@ -3,7 +3,7 @@
 use crate::goals::tell_no_goals;
 use crate::metrics::tell_metrics;
 use mp_hint_lines::{FileNames, files_of};
-use mp_lifted::OpenView;
+use mp_lifting::OpenView;
 use mp_list::OutOfMemory;
 use mp_sets::Agent;
 use mp_team_actions::explain_actions;

@@ -4,7 +4,7 @@ ghost use Rattle.std.specs.Prelude.{IfErr, IfOk};
 ghost use Rattle.mp_grounder.specs.Limits.{IsRefusedBy, IsWithin};
 
 use mp_grounder::{Ground, GroundRefusal, ground};
-use mp_lifted::OpenView;
+use mp_lifting::OpenView;
 use mp_list::OutOfMemory;
 use mp_sets::Agent;
 use mp_task::Act;

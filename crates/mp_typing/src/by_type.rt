@@ -2,7 +2,7 @@
 
 ghost use Rattle.std.specs.Prelude.{◌≡◌, ◌++◌, ◌∷◌, [], ℕ, List as ListOf, if◌then◌else◌, OnOk};
 ghost use Rattle.std.specs.Str.{bytes_eq};
-ghost use Rattle.mp_typing.specs.ByType.{items_of as items_in, listed_by};
+ghost use Rattle.mp_typing.specs.ByType.{items_of, listed_by};
 
 use mp_forms::WordList;
 use mp_list::{Copied, List, OutOfMemory};
@@ -14,8 +14,8 @@ use std::collections::HashMap;
 pub type ByType<T> = HashMap<Name, List<T>>;
 
 /// The items that are written with a type.
-pub fn items_of<'m, T>(items: &'m ByType<T>, name: &Name) -> &'m [T]
-    ensures { result.now ≡ items_in items.now.entries name.now }
+pub fn items_under<'m, T>(items: &'m ByType<T>, name: &Name) -> &'m [T]
+    ensures { result.now ≡ items_of items.now.entries name.now }
 {
     match items.get(name) {
         Some(all) => all.as_slice(),
@@ -30,9 +30,9 @@ fn add_item<T: Drop>(
     name: &Name,
     item: T,
 ) -> Result<(), OutOfMemory>
-    ensures { OnOk result ((other : ListOf ℕ) → items_in items.new.entries other
-        ≡ (if bytes_eq name.now other then items_in items.old.entries other ++ item ∷ []
-        else items_in items.old.entries other)) }
+    ensures { OnOk result ((other : ListOf ℕ) → items_of items.new.entries other
+        ≡ (if bytes_eq name.now other then items_of items.old.entries other ++ item ∷ []
+        else items_of items.old.entries other)) }
 {
     if let Some(all) = items.get_mut(name) {
         all.push(item)?;
@@ -51,8 +51,8 @@ pub fn add_to_each<T: Copied + Drop>(
     types: &WordList,
     item: &T,
 ) -> Result<(), OutOfMemory>
-    ensures { OnOk result ((name : ListOf ℕ) → items_in items.new.entries name
-        ≡ items_in items.old.entries name ++ listed_by item.now types.now name) }
+    ensures { OnOk result ((name : ListOf ℕ) → items_of items.new.entries name
+        ≡ items_of items.old.entries name ++ listed_by item.now types.now name) }
 {
     for word in types.as_slice() {
         add_item(alloc, items, &word.name, item.copy()?)?;

@@ -6,7 +6,7 @@ ghost use Rattle.mp_typing.specs.Faults.{leftmost};
 ghost use Rattle.mp_typing.specs.Hierarchy.{IsHierarchy};
 ghost use Rattle.mp_typing.specs.Lookups.{factor_of, objects_of};
 ghost use Rattle.mp_typing.specs.ObjectList.{object_list};
-ghost use Rattle.mp_typing.specs.CheckFaults.{owner_faults, schema_faults as faults_of_schema, declared_faults as faults_of_declared, value_faults as faults_of_value, problem_faults as faults_of_problem, check_faults};
+ghost use Rattle.mp_typing.specs.CheckFaults.{owner_faults, schema_faults, declared_faults, value_faults, problem_faults, check_faults};
 ghost use Rattle.mp_typing.specs.Repeats.{object_faults};
 ghost use Rattle.mp_typing.specs.Refused.{RestsOn, refusal_of};
 
@@ -47,7 +47,7 @@ struct Actions<'s, 'd> {
 
 #[tactic(auto, using(mp_list::proofs::FirstLemmas::leftmost_append), unfolding(crate::specs::CheckFaults::schema_faults))]
 impl<'s, 'd> Check<Schema> for Actions<'s, 'd> {
-    ghost faults = { λ actions schema. faults_of_schema actions.declared.now schema };
+    ghost faults = { λ actions schema. schema_faults actions.declared.now schema };
 
     fn fault(&self, least: Option<Fault>, schema: &Schema) -> Result<Option<Fault>, OutOfMemory> {
         let params = schema.params.as_slice();
@@ -70,7 +70,7 @@ fn schemas_fault(
     declared: &Declared,
     schemas: &[Schema],
 ) -> Result<Option<Fault>, OutOfMemory>
-    ensures { IfOk result (λ first. first ≡ leftmost least (flat_map (faults_of_schema declared.now) schemas.now)) }
+    ensures { IfOk result (λ first. first ≡ leftmost least (flat_map (schema_faults declared.now) schemas.now)) }
 {
     each_fault(least, &Actions { declared }, schemas)
 }
@@ -83,7 +83,7 @@ fn declared_fault(
     declared: &Declared,
     domain: &Domain,
 ) -> Result<Option<Fault>, OutOfMemory>
-    ensures { IfOk result (λ first. first ≡ leftmost least (faults_of_declared (objects_of declared.now) domain.now)) }
+    ensures { IfOk result (λ first. first ≡ leftmost least (declared_faults (objects_of declared.now) domain.now)) }
 {
     let file = File::Domain;
     let unlike = Unlike { file, declared };
@@ -99,7 +99,7 @@ fn values_fault(
     declared: &Declared,
     values: &[Value],
 ) -> Result<Option<Fault>, OutOfMemory>
-    ensures { IfOk result (λ first. first ≡ leftmost least (flat_map (faults_of_value declared.now) values.now)) }
+    ensures { IfOk result (λ first. first ≡ leftmost least (flat_map (value_faults declared.now) values.now)) }
 {
     let scope = Scope {
         file: File::Problem,
@@ -138,7 +138,7 @@ fn problem_fault(
     problem: &Problem,
 ) -> Result<Option<Fault>, OutOfMemory>
     requires { declared.now.problem ≡ problem.now }
-    ensures { IfOk result (λ first. first ≡ leftmost least (faults_of_problem declared.now)) }
+    ensures { IfOk result (λ first. first ≡ leftmost least (problem_faults declared.now)) }
 {
     let scope = Scope {
         file: File::Problem,

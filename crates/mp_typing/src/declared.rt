@@ -1,6 +1,6 @@
 //! What the two files of a factor declare.
 
-ghost use Rattle.std.specs.Prelude.{◌≡◌, ◌==◌, ◌+◌, ◌<◌, ◌^◌, ◌++◌, ◌∷◌, [], List, map, length, slice_get, find as find_in, IfOk, OnOk};
+ghost use Rattle.std.specs.Prelude.{◌≡◌, ◌==◌, ◌+◌, ◌<◌, ◌^◌, ◌++◌, ◌∷◌, [], List, map, length, slice_get, find, IfOk, OnOk};
 ghost use Rattle.std.specs.Option.{option_copied};
 ghost use Rattle.std.specs.Str.{bytes_eq};
 ghost use Rattle.mp_forms.specs.declared.typed_values.Typed.{Typed as TypedValue};
@@ -164,7 +164,7 @@ impl<'a> Declared<'a> {
 
     /// The first object that has this name, constants before objects.
     pub fn object(&self, name: &Name) -> Option<&'a Typed>
-        ensures { option_copied result ≡ find_in (λ o. bytes_eq o.word.name name.now) (objects_of self.now) }
+        ensures { option_copied result ≡ find (λ o. bytes_eq o.word.name name.now) (objects_of self.now) }
     {
         let domain = self.domain;
         let problem = self.problem;

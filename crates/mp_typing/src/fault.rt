@@ -68,7 +68,7 @@ fn order(kind: FaultKind, file: File, at: Place) -> [u32; 5]
 }
 
 /// Whether a fault of this word comes before a known one: by the numbers, and by the name where they are the same.
-fn is_before(kind: FaultKind, file: File, word: &Word, known: &Fault) -> bool
+fn comes_before(kind: FaultKind, file: File, word: &Word, known: &Fault) -> bool
     ensures { result ≡ is_earlier (fault_at kind file word.now) known.now }
 {
     let order_of_known = order(known.kind, known.found.file, known.found.at);
@@ -103,7 +103,7 @@ pub fn with(
 {
     match least {
         Some(known) => {
-            if is_before(kind, file, word, &known) {
+            if comes_before(kind, file, word, &known) {
                 Ok(Some(at_word(kind, file, word)?))
             } else {
                 Ok(Some(known))

@@ -64,7 +64,7 @@ fn lower_of(alloc: Global, types: &TypedList) -> Result<ByType<Name>, OutOfMemor
 }
 
 /// For each type the places of the objects that are written with it.
-fn objects_of(alloc: Global, objects: &[&Typed]) -> Result<ByType<u64>, OutOfMemory>
+fn objects_by_type(alloc: Global, objects: &[&Typed]) -> Result<ByType<u64>, OutOfMemory>
     ensures { IfOk result (λ listed. HasObjects (map (λ o. o.now) objects.now) listed.entries) }
 {
     let mut listed = HashMap::new(alloc);
@@ -95,7 +95,7 @@ impl Hierarchy {
         Ok(Hierarchy {
             lower: lower_of(alloc, types)?,
             count: objects.len(),
-            listed: objects_of(alloc, objects)?,
+            listed: objects_by_type(alloc, objects)?,
         })
     }
 

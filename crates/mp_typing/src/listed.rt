@@ -3,9 +3,9 @@
 ghost use Rattle.std.specs.Prelude.{◌≡◌, ◌↔◌, ℕ, Contains, IfOk};
 ghost use Rattle.std.specs.List.{flat_map, range_with_len};
 ghost use Rattle.std.specs.List.Sorted.{IsStrictlyIncreasing};
-ghost use Rattle.mp_typing.specs.ByType.{items_of as items_in};
+ghost use Rattle.mp_typing.specs.ByType.{items_of};
 
-use crate::by_type::{ByType, items_of};
+use crate::by_type::{ByType, items_under};
 use indexmap::IndexSet;
 use mp_list::{List, OutOfMemory};
 use mp_sexp::Name;
@@ -16,11 +16,11 @@ pub type ObjectList = List<u64>;
 
 /// All that is listed with these types, in their order.
 fn listed_with(alloc: Global, listed: &ByType<u64>, types: &[Name]) -> Result<Vec<u64>, OutOfMemory>
-    ensures { IfOk result (λ numbers. numbers.items ≡ flat_map (items_in listed.now.entries) types.now) }
+    ensures { IfOk result (λ numbers. numbers.items ≡ flat_map (items_of listed.now.entries) types.now) }
 {
     let mut numbers = Vec::new(alloc);
     for name in types {
-        numbers.extend_from_slice(items_of(listed, name))?;
+        numbers.extend_from_slice(items_under(listed, name))?;
     }
     Ok(numbers)
 }
@@ -54,7 +54,7 @@ pub fn listed_under(
     types: &IndexSet<Name>,
 ) -> Result<ObjectList, OutOfMemory>
     ensures { IfOk result (λ list. IsStrictlyIncreasing list
-        × ((number : ℕ) → Contains list number ↔ Contains (flat_map (items_in listed.now.entries) types.now.keys) number)) }
+        × ((number : ℕ) → Contains list number ↔ Contains (flat_map (items_of listed.now.entries) types.now.keys) number)) }
 {
     let mut numbers = listed_with(alloc, listed, types.as_slice())?;
     in_order(alloc, &mut numbers)

@@ -7,7 +7,7 @@ ghost use Rattle.mp_typing.specs.IsA.{object_name};
 ghost use Rattle.mp_typing.specs.Names.{is_among};
 ghost use Rattle.mp_typing.specs.Under.{lower, with_lower, with_types};
 
-use crate::by_type::{ByType, items_of};
+use crate::by_type::{ByType, items_under};
 use crate::hierarchy::TypeList;
 use indexmap::IndexSet;
 use mp_forms::TypedList;
@@ -36,7 +36,7 @@ fn add_lower(
 {
     match found.get_index(place) {
         Some(name) => {
-            let names = items_of(under, name);
+            let names = items_under(under, name);
             add_types(found, names)
         }
         None => Ok(()),

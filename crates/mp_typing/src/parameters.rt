@@ -4,7 +4,7 @@ ghost use Rattle.std.specs.Prelude.{◌≡◌, ◌&&◌, [], not, IfOk};
 ghost use Rattle.std.specs.List.{list_any};
 ghost use Rattle.mp_forms.specs.declared.files.File.TheVariants.{Domain as DomainFile};
 ghost use Rattle.mp_typing.specs.Faults.{leftmost};
-ghost use Rattle.mp_typing.specs.Repeats.{is_before, is_same, is_second as second, parameter_faults, twice_if};
+ghost use Rattle.mp_typing.specs.Repeats.{is_before, is_same, is_second, parameter_faults, twice_if};
 
 use crate::fault::{Fault, FaultKind, with};
 use crate::repeats::is_same_name;
@@ -42,7 +42,7 @@ fn parameter_fault(
     param: &Typed,
     later: &[Typed],
 ) -> Result<Option<Fault>, OutOfMemory>
-    ensures { IfOk result (λ first. first ≡ leftmost least (twice_if (second earlier.now param.now later.now) DomainFile param.now.word)) }
+    ensures { IfOk result (λ first. first ≡ leftmost least (twice_if (is_second earlier.now param.now later.now) DomainFile param.now.word)) }
 {
     if has_one_not_behind(earlier, param) || has_one_before(later, param) {
         with(least, FaultKind::Twice, File::Domain, &param.word)

@@ -7,7 +7,7 @@ ghost use Rattle.mp_forms.specs.declared.word.Word.{Word};
 ghost use Rattle.mp_typing.specs.Faults.{leftmost};
 ghost use Rattle.std.specs.Option.{option_copied};
 ghost use Rattle.mp_typing.specs.Lookups.{objects_of};
-ghost use Rattle.mp_typing.specs.Repeats.{is_same as same_word, is_alike, repeated_faults as faults_of_repeats, object_faults as faults_of_object, unlike_faults, twice_if};
+ghost use Rattle.mp_typing.specs.Repeats.{is_same, is_alike, repeated_faults, object_faults, unlike_faults, twice_if};
 
 use crate::declared::Declared;
 use crate::each::{Check, each_fault};
@@ -73,7 +73,7 @@ pub fn repeated_fault<T: Named>(
     file: File,
     items: &[T],
 ) -> Result<Option<Fault>, OutOfMemory>
-    ensures { IfOk result (λ first. first ≡ leftmost least (faults_of_repeats file T.called items.now)) }
+    ensures { IfOk result (λ first. first ≡ leftmost least (repeated_faults file T.called items.now)) }
 {
     let mut before = NameSet::new(alloc);
     let mut first = least;
@@ -87,14 +87,14 @@ pub fn repeated_fault<T: Named>(
 
 /// Whether two words have the same name.
 pub fn is_same_name(a: &Word, b: &Word) -> bool
-    ensures { result ≡ same_word a.now b.now }
+    ensures { result ≡ is_same a.now b.now }
 {
     a.name.as_slice() == b.name.as_slice()
 }
 
 /// Whether two lists have the same names in the same order.
 fn is_same_list(a: &[Word], b: &[Word]) -> bool
-    ensures { result ≡ pointwise same_word a.now b.now }
+    ensures { result ≡ pointwise is_same a.now b.now }
 {
     if a.len() != b.len() {
         return false;
@@ -145,7 +145,7 @@ pub struct Unlike<'s, 'd> {
 
 #[tactic(auto, unfolding(crate::specs::Repeats::object_faults))]
 impl<'s, 'd> Check<Typed> for Unlike<'s, 'd> {
-    ghost faults = { λ unlike object. faults_of_object unlike.file (objects_of unlike.declared.now) object };
+    ghost faults = { λ unlike object. object_faults unlike.file (objects_of unlike.declared.now) object };
 
     fn fault(&self, least: Option<Fault>, object: &Typed) -> Result<Option<Fault>, OutOfMemory> {
         let first = self.declared.object(&object.word.name);
@@ -161,7 +161,7 @@ pub fn objects_fault(
     listed: &[Typed],
 ) -> Result<Option<Fault>, OutOfMemory>
     ensures { IfOk result (λ first. first
-        ≡ leftmost least (flat_map (faults_of_object unlike.now.file (objects_of unlike.now.declared.now)) listed.now)) }
+        ≡ leftmost least (flat_map (object_faults unlike.now.file (objects_of unlike.now.declared.now)) listed.now)) }
 {
     each_fault(least, unlike, listed)
 }

@@ -5,7 +5,7 @@ ghost use Rattle.std.specs.List.{flat_map, list_any};
 ghost use Rattle.std.specs.Str.{bytes_eq};
 ghost use Rattle.mp_typing.specs.Faults.{leftmost};
 ghost use Rattle.mp_typing.specs.Lookups.{arity_of};
-ghost use Rattle.mp_typing.specs.Uses.{is_declared, term_faults as faults_of_term, applied_faults as faults_applied, called_faults as faults_called, atom_faults as faults_of_atom, literal_faults as faults_of_literal, function_faults as faults_of_function, increase_faults as faults_of_increase};
+ghost use Rattle.mp_typing.specs.Uses.{is_declared, term_faults, applied_faults, called_faults, atom_faults, literal_faults, function_faults, increase_faults};
 
 use crate::declared::Declared;
 use crate::each::{Check, each_fault};
@@ -44,7 +44,7 @@ fn is_known(params: &[Typed], declared: &Declared, term: &Term) -> bool
 
 #[tactic(auto, unfolding(crate::specs::Uses::term_faults))]
 impl<'s, 'd> Check<Term> for Scope<'s, 'd> {
-    ghost faults = { λ scope term. faults_of_term scope.file scope.params.now scope.declared.now term };
+    ghost faults = { λ scope term. term_faults scope.file scope.params.now scope.declared.now term };
 
     fn fault(&self, least: Option<Fault>, term: &Term) -> Result<Option<Fault>, OutOfMemory> {
         if is_known(self.params, self.declared, term) {
@@ -67,7 +67,7 @@ fn applied_fault(
     count: usize,
     declared: Option<usize>,
 ) -> Result<Option<Fault>, OutOfMemory>
-    ensures { IfOk result (λ first. first ≡ leftmost least (faults_applied file word.now count declared)) }
+    ensures { IfOk result (λ first. first ≡ leftmost least (applied_faults file word.now count declared)) }
 {
     match declared {
         None => with(least, FaultKind::Unknown, file, word),
@@ -91,14 +91,14 @@ fn numbered_fault(
     atom: &Atom,
 ) -> Result<Option<Fault>, OutOfMemory>
     requires { number ≡ arity_of scope.now.declared.now.domain.predicates atom.now.word.name }
-    ensures { IfOk result (λ first. first ≡ leftmost least (faults_of_atom scope.now.file scope.now.params.now scope.now.declared.now atom.now)) }
+    ensures { IfOk result (λ first. first ≡ leftmost least (atom_faults scope.now.file scope.now.params.now scope.now.declared.now atom.now)) }
 {
     let applied = applied_fault(least, scope.file, &atom.word, atom.terms.len(), number)?;
     each_fault(applied, scope, atom.terms.as_slice())
 }
 
 impl<'s, 'd> Check<Atom> for Scope<'s, 'd> {
-    ghost faults = { λ scope atom. faults_of_atom scope.file scope.params.now scope.declared.now atom };
+    ghost faults = { λ scope atom. atom_faults scope.file scope.params.now scope.declared.now atom };
 
     fn fault(&self, least: Option<Fault>, atom: &Atom) -> Result<Option<Fault>, OutOfMemory> {
         let number = self.declared.predicate(&atom.word.name);
@@ -115,7 +115,7 @@ fn atoms_fault_from(
     atoms: &[Atom],
 ) -> Result<Option<Fault>, OutOfMemory>
     ensures { IfOk result (λ first. first
-        ≡ leftmost least (flat_map (faults_of_atom scope.now.file scope.now.params.now scope.now.declared.now) atoms.now)) }
+        ≡ leftmost least (flat_map (atom_faults scope.now.file scope.now.params.now scope.now.declared.now) atoms.now)) }
 {
     let declared = scope.declared;
     let mut first = least;
@@ -136,7 +136,7 @@ pub fn atoms_fault(
     atoms: &[Atom],
 ) -> Result<Option<Fault>, OutOfMemory>
     ensures { IfOk result (λ first. first
-        ≡ leftmost least (flat_map (faults_of_atom scope.now.file scope.now.params.now scope.now.declared.now) atoms.now)) }
+        ≡ leftmost least (flat_map (atom_faults scope.now.file scope.now.params.now scope.now.declared.now) atoms.now)) }
 {
     match atoms {
         [] => Ok(least),
@@ -147,7 +147,7 @@ pub fn atoms_fault(
 /// A literal's atom is checked, whatever its sign.
 #[tactic(auto, unfolding(crate::specs::Uses::literal_faults))]
 impl<'s, 'd> Check<Literal> for Scope<'s, 'd> {
-    ghost faults = { λ scope literal. faults_of_literal scope.file scope.params.now scope.declared.now literal };
+    ghost faults = { λ scope literal. literal_faults scope.file scope.params.now scope.declared.now literal };
 
     fn fault(&self, least: Option<Fault>, literal: &Literal) -> Result<Option<Fault>, OutOfMemory> {
         self.fault(least, &literal.atom)
@@ -171,7 +171,7 @@ fn called_fault(
     count: usize,
     declared: Option<usize>,
 ) -> Result<Option<Fault>, OutOfMemory>
-    ensures { IfOk result (λ first. first ≡ leftmost least (faults_called file word.now count declared)) }
+    ensures { IfOk result (λ first. first ≡ leftmost least (called_faults file word.now count declared)) }
 {
     if is_total_cost(&word.name) && declared.is_none() {
         Ok(least)
@@ -188,7 +188,7 @@ fn function_fault(
     function: &Atom,
 ) -> Result<Option<Fault>, OutOfMemory>
     ensures { IfOk result (λ first. first
-        ≡ leftmost least (faults_of_function scope.now.file scope.now.params.now scope.now.declared.now function.now)) }
+        ≡ leftmost least (function_faults scope.now.file scope.now.params.now scope.now.declared.now function.now)) }
 {
     let number = scope.declared.function(&function.word.name);
     let count = function.terms.len();
@@ -198,7 +198,7 @@ fn function_fault(
 
 #[tactic(auto, unfolding(crate::specs::Uses::increase_faults))]
 impl<'s, 'd> Check<Increase> for Scope<'s, 'd> {
-    ghost faults = { λ scope increase. faults_of_increase scope.file scope.params.now scope.declared.now increase };
+    ghost faults = { λ scope increase. increase_faults scope.file scope.params.now scope.declared.now increase };
 
     fn fault(
         &self,
@@ -213,7 +213,7 @@ impl<'s, 'd> Check<Increase> for Scope<'s, 'd> {
 }
 
 impl<'s, 'd> Check<Value> for Scope<'s, 'd> {
-    ghost faults = { λ scope value. faults_of_function scope.file scope.params.now scope.declared.now value.of };
+    ghost faults = { λ scope value. function_faults scope.file scope.params.now scope.declared.now value.of };
 
     fn fault(&self, least: Option<Fault>, value: &Value) -> Result<Option<Fault>, OutOfMemory> {
         function_fault(least, self, &value.of)
@@ -227,7 +227,7 @@ pub fn literals_fault(
     literals: &[Literal],
 ) -> Result<Option<Fault>, OutOfMemory>
     ensures { IfOk result (λ first. first
-        ≡ leftmost least (flat_map (faults_of_literal scope.now.file scope.now.params.now scope.now.declared.now) literals.now)) }
+        ≡ leftmost least (flat_map (literal_faults scope.now.file scope.now.params.now scope.now.declared.now) literals.now)) }
 {
     each_fault(least, scope, literals)
 }
@@ -239,7 +239,7 @@ pub fn increases_fault(
     increases: &[Increase],
 ) -> Result<Option<Fault>, OutOfMemory>
     ensures { IfOk result (λ first. first
-        ≡ leftmost least (flat_map (faults_of_increase scope.now.file scope.now.params.now scope.now.declared.now) increases.now)) }
+        ≡ leftmost least (flat_map (increase_faults scope.now.file scope.now.params.now scope.now.declared.now) increases.now)) }
 {
     each_fault(least, scope, increases)
 }

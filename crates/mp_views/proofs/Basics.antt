@@ -23,9 +23,9 @@ pub use Rattle.mp_joint.specs.Fact.{Text, is_listed}
 pub use Rattle.mp_joint.specs.FactorContribution.{privates_of}
 pub use Rattle.mp_joint.specs.Grounding.{fact_of, negated_atoms, objects_of}
 pub use Rattle.mp_joint.specs.declared.fact.NamedFact.{NamedFact}
-pub use Rattle.mp_lifted.specs.Texts.{fact_text}
-pub use Rattle.mp_lifted.specs.Views.{changed_predicates, negated_predicates, predicates_of}
-pub use Rattle.mp_lifted.specs.declared.view.OpenView.{OpenView}
+pub use Rattle.mp_lifting.specs.Texts.{fact_text}
+pub use Rattle.mp_lifting.specs.Views.{changed_predicates, negated_predicates, predicates_of}
+pub use Rattle.mp_lifting.specs.declared.view.OpenView.{OpenView}
 pub use Rattle.mp_sexp.specs.Bytes.{folded}
 pub use Rattle.mp_views.specs.Lines.{part_line, spaced, text_of_lines}
 pub use Rattle.mp_views.specs.Sorted.{sorted_once, with_nothing}

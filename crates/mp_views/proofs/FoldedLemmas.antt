@@ -6,7 +6,7 @@ use Rattle.std.proofs.lemmas.Bool.{leb-true}
 use Rattle.std.proofs.lemmas.List.Elements.{All-head, All-tail}
 use Rattle.mp_sexp.specs.Bytes.{folded_byte}
 use Rattle.mp_sexp.specs.Name.{IsCapital, HasNoCapitals}
-use Rattle.mp_lifted.specs.Texts.{bracketed}
+use Rattle.mp_lifting.specs.Texts.{bracketed}
 
 same_byte : (b : ℕ) → (IsCapital b → ⊥) → folded_byte b ≡ b
 same_byte b small = by (leb 65 b) (leb b 90) refl refl

@@ -2,7 +2,7 @@
 use Rattle.std.specs.Prelude.{Bool, List, [], ◌∷◌, ◌++◌, map, codes, decimal, if◌then◌else◌}
 use Rattle.std.specs.List.{flat_map}
 use Rattle.mp_joint.specs.Fact.{Text}
-use Rattle.mp_lifted.specs.declared.view.OpenView.{OpenView}
+use Rattle.mp_lifting.specs.declared.view.OpenView.{OpenView}
 use Rattle.mp_views.specs.declared.view.Part.{Part}
 use Rattle.mp_views.specs.declared.view.View.{View}
 

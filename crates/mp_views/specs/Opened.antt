@@ -6,9 +6,9 @@ use Rattle.mp_forms.specs.declared.factor.Factor.{Factor}
 use Rattle.mp_joint.specs.declared.fact.NamedFact.{NamedFact}
 use Rattle.mp_joint.specs.Fact.{Text, is_listed}
 use Rattle.mp_joint.specs.FactorContribution.{facts_of, privates_of}
-use Rattle.mp_lifted.specs.declared.view.OpenView.{OpenView}
-use Rattle.mp_lifted.specs.Texts.{fact_text}
-use Rattle.mp_lifted.specs.Views.{changed_predicates, negated_predicates}
+use Rattle.mp_lifting.specs.declared.view.OpenView.{OpenView}
+use Rattle.mp_lifting.specs.Texts.{fact_text}
+use Rattle.mp_lifting.specs.Views.{changed_predicates, negated_predicates}
 use Rattle.mp_views.specs.Sorted.{sorted_once}
 
 -- a predicate is public in a factor

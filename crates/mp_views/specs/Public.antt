@@ -3,7 +3,7 @@ use Rattle.std.specs.Prelude.{Bool, List, map, filter}
 use Rattle.std.specs.Option.{is_none}
 use Rattle.mp_joint.specs.declared.fact.SignedFact.{SignedFact}
 use Rattle.mp_joint.specs.Fact.{Text}
-use Rattle.mp_lifted.specs.Texts.{signed_text}
+use Rattle.mp_lifting.specs.Texts.{signed_text}
 use Rattle.mp_views.specs.Sorted.{sorted_once}
 
 -- a fact, or the complement of one, is public

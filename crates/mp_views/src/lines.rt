@@ -5,7 +5,7 @@ ghost use Rattle.mp_views.specs.Lines.{labelled, spaced, part_line, met_line, op
 
 use crate::view::{Part, View};
 use itoa::Buffer;
-use mp_lifted::OpenView;
+use mp_lifting::OpenView;
 use mp_list::OutOfMemory;
 use mp_messages::Bytes;
 use mp_sexp::Name;

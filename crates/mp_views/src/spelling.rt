@@ -3,11 +3,11 @@
 ghost use Rattle.std.specs.Prelude.{◌≡◌, ◌++◌, ◌∷◌, [], IfOk, OnOk};
 ghost use Rattle.mp_sexp.specs.Bytes.{folded};
 ghost use Rattle.mp_joint.specs.Grounding.{objects_of};
-ghost use Rattle.mp_lifted.specs.Texts.{bracketed};
+ghost use Rattle.mp_lifting.specs.Texts.{bracketed};
 ghost use Rattle.mp_views.specs.Lines.{spaced};
 
 use mp_forms::{Atom, Term};
-use mp_lifted::term_name;
+use mp_lifting::term_name;
 use mp_list::OutOfMemory;
 use mp_sexp::Name;
 use std::alloc::Global;

@@ -1,6 +1,6 @@
 //! What an agent shows of its factor once it is grounded.
 
-use mp_lifted::FactTexts;
+use mp_lifting::FactTexts;
 use mp_list::List;
 
 /// The public part of a public action.

@@ -7,11 +7,11 @@ use Rattle.mp_forms.specs.declared.factor.Factor.{Factor}
 use Rattle.mp_joint.specs.Fact.{Text}
 use Rattle.mp_joint.specs.Grounding.{asked_atoms, negated_atoms}
 use Rattle.mp_lifted.specs.declared.lifted.Amount.TheVariants.{Number}
-use Rattle.mp_lifted.specs.declared.view.OpenView.{OpenView}
-use Rattle.mp_lifted.specs.declared.vocabulary.Vocabulary.{Vocabulary}
-use Rattle.mp_lifted.specs.Lifting.{amounts_of, is_not, lifted_action, lifted_atom, lifted_where, members_of}
-use Rattle.mp_lifted.specs.Views.{is_changed}
-use Rattle.mp_lifted.specs.Vocabulary.{vocabulary_of}
+use Rattle.mp_lifting.specs.declared.view.OpenView.{OpenView}
+use Rattle.mp_lifting.specs.declared.vocabulary.Vocabulary.{Vocabulary}
+use Rattle.mp_lifting.specs.Lifting.{amounts_of, is_not, lifted_action, lifted_atom, lifted_where, members_of}
+use Rattle.mp_lifting.specs.Views.{is_changed}
+use Rattle.mp_lifting.specs.Vocabulary.{vocabulary_of}
 use Rattle.mp_ground_laws.proofs.Parts.{IsAtom, IsSchema}
 use Rattle.mp_stands.specs.Renaming.{Renaming, IsRenaming, public_signatures, kept_typed, renamed, renamed_fact, renamed_schema}
 use Rattle.mp_stands.proofs.Naming.Atoms.{amounts_same, asked_same, atoms_same, negated_same, where_same}

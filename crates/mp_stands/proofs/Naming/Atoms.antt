@@ -18,9 +18,9 @@ use Rattle.mp_joint.specs.Fact.{Text}
 use Rattle.mp_joint.specs.Grounding.{asked_atoms, negated_atoms, object_of}
 use Rattle.mp_lifted.specs.declared.lifted.LiftedTerm.TheVariants.{Parameter, Object}
 use Rattle.mp_lifted.specs.declared.lifted.Amount.TheVariants.{Value, Missing}
-use Rattle.mp_lifted.specs.declared.vocabulary.Vocabulary.{Vocabulary}
-use Rattle.mp_lifted.specs.Factors.{ground_with}
-use Rattle.mp_lifted.specs.Lifting.{parameter_in, lifted_term, lifted_with, lifted_atom, lifted_amount, lifted_where}
+use Rattle.mp_lifting.specs.declared.vocabulary.Vocabulary.{Vocabulary}
+use Rattle.mp_lifting.specs.Factors.{ground_with}
+use Rattle.mp_lifting.specs.Lifting.{parameter_in, lifted_term, lifted_with, lifted_atom, lifted_amount, lifted_where}
 use Rattle.mp_ground_laws.proofs.Lists.{filter_of_map}
 use Rattle.mp_ground_laws.proofs.Parts.{IsDeclared}
 use Rattle.mp_stands.specs.Renaming.{Renaming, IsOneToOne, IsRenamingOf, kept_typed, renamed_term, renamed_atom, renamed_fact, renamed_literal, renamed_increase}

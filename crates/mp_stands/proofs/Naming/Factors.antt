@@ -9,13 +9,13 @@ use Rattle.mp_sexp.specs.Numbers.{name_at}
 use Rattle.mp_joint.specs.Fact.{Text, is_listed}
 use Rattle.mp_joint.specs.FactorContribution.{privates_of}
 use Rattle.mp_joint.specs.Grounding.{asked_atoms, negated_atoms}
-use Rattle.mp_lifted.specs.declared.view.OpenView.{OpenView}
-use Rattle.mp_lifted.specs.declared.vocabulary.Vocabulary.{Vocabulary}
-use Rattle.mp_lifted.specs.Factors.{ground_atom, ground_value, lifted_factor}
-use Rattle.mp_lifted.specs.Lifting.{is_total_cost}
-use Rattle.mp_lifted.specs.Privates.{is_private_atom}
-use Rattle.mp_lifted.specs.Views.{has_complements}
-use Rattle.mp_lifted.specs.Vocabulary.{vocabulary_of}
+use Rattle.mp_lifting.specs.declared.view.OpenView.{OpenView}
+use Rattle.mp_lifting.specs.declared.vocabulary.Vocabulary.{Vocabulary}
+use Rattle.mp_lifting.specs.Factors.{ground_atom, ground_value, lifted_factor}
+use Rattle.mp_lifting.specs.Lifting.{is_total_cost}
+use Rattle.mp_lifting.specs.Privates.{is_private_atom}
+use Rattle.mp_lifting.specs.Views.{has_complements}
+use Rattle.mp_lifting.specs.Vocabulary.{vocabulary_of}
 use Rattle.mp_ground_laws.proofs.Lists.{filter_of_map}
 use Rattle.mp_ground_laws.proofs.Parts.{HasParts, IsAtom, IsValue}
 use Rattle.mp_stands.specs.Renaming.{Renaming, IsOneToOne, IsRenaming, public_signatures, renamed, renamed_fact, renamed_value}

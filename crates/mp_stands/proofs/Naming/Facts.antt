@@ -14,7 +14,7 @@ use Rattle.mp_joint.specs.declared.fact.NamedFact.{NamedFact}
 use Rattle.mp_joint.specs.Fact.{Text, Privates, is_listed, is_private}
 use Rattle.mp_joint.specs.FactorContribution.{declared_objects, facts_of, privates_of}
 use Rattle.mp_joint.specs.Grounding.{fact_of, object_of, objects_of}
-use Rattle.mp_lifted.specs.Privates.{is_private_atom}
+use Rattle.mp_lifting.specs.Privates.{is_private_atom}
 use Rattle.mp_ground_laws.proofs.Parts.{IsAtom, IsDeclared}
 use Rattle.mp_ground_laws.proofs.Starts.{nobody}
 use Rattle.mp_views.specs.Opened.{public_init}

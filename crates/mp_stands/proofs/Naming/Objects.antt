@@ -14,7 +14,7 @@ use Rattle.mp_typing.specs.Places.{numbers_where}
 use Rattle.mp_typing.specs.Under.{is_of_type}
 use Rattle.mp_joint.specs.Fact.{Text, is_listed}
 use Rattle.mp_joint.specs.FactorContribution.{declared_objects}
-use Rattle.mp_lifted.specs.Lifting.{members_of}
+use Rattle.mp_lifting.specs.Lifting.{members_of}
 use Rattle.mp_ground_laws.proofs.Lists.{filter_of_map}
 use Rattle.mp_stands.specs.Renaming.{Renaming, IsOneToOne, kept_typed, renamed, renamed_domain, renamed_problem, renamed_typed}
 use Rattle.mp_stands.proofs.Naming.Lists.{any_of_map, numbers_of_map}

@@ -5,8 +5,8 @@ use Rattle.std.proofs.lemmas.List.Elements.{filter_agree}
 use Rattle.mp_forms.specs.declared.factor.Factor.{Factor}
 use Rattle.mp_joint.specs.Fact.{Text, is_listed}
 use Rattle.mp_joint.specs.FactorContribution.{privates_of}
-use Rattle.mp_lifted.specs.Texts.{fact_text}
-use Rattle.mp_lifted.specs.Views.{changed_predicates, negated_predicates}
+use Rattle.mp_lifting.specs.Texts.{fact_text}
+use Rattle.mp_lifting.specs.Views.{changed_predicates, negated_predicates}
 use Rattle.mp_ground_laws.proofs.Lists.{filter_of_map}
 use Rattle.mp_ground_laws.proofs.Parts.{HasParts}
 use Rattle.mp_views.specs.Opened.{is_public_predicate, public_predicates, open_view}

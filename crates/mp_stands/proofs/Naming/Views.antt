@@ -8,9 +8,9 @@ use Rattle.mp_forms.specs.declared.factor.Factor.{Factor}
 use Rattle.mp_joint.specs.Fact.{Text, is_listed}
 use Rattle.mp_joint.specs.FactorContribution.{privates_of}
 use Rattle.mp_joint.specs.Grounding.{negated_atoms}
-use Rattle.mp_lifted.specs.declared.view.OpenView.{OpenView}
-use Rattle.mp_lifted.specs.Views.{predicates_of, changed_predicates, negated_predicates, is_of, is_changed, has_complements}
-use Rattle.mp_lifted.specs.Vocabulary.{vocabulary_of}
+use Rattle.mp_lifting.specs.declared.view.OpenView.{OpenView}
+use Rattle.mp_lifting.specs.Views.{predicates_of, changed_predicates, negated_predicates, is_of, is_changed, has_complements}
+use Rattle.mp_lifting.specs.Vocabulary.{vocabulary_of}
 use Rattle.mp_ground_laws.proofs.Parts.{HasParts, IsAtom, IsSchema}
 use Rattle.mp_stands.specs.Renaming.{Renaming, IsOneToOne, IsRenaming, renamed, renamed_fact, renamed_schema}
 use Rattle.mp_stands.proofs.Naming.Atoms.{negated_same}

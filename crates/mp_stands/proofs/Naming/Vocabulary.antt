@@ -6,9 +6,9 @@ use Rattle.mp_forms.specs.declared.factor.Factor.{Factor}
 use Rattle.mp_typing.specs.ObjectList.{object_list}
 use Rattle.mp_joint.specs.Fact.{Text, Privates, is_listed}
 use Rattle.mp_joint.specs.FactorContribution.{declared_objects, privates_of}
-use Rattle.mp_lifted.specs.declared.vocabulary.Vocabulary.{Vocabulary}
-use Rattle.mp_lifted.specs.Vocabulary.{vocabulary_of}
-use Rattle.mp_lifted.proofs.DeclaredNames.{first_named}
+use Rattle.mp_lifting.specs.declared.vocabulary.Vocabulary.{Vocabulary}
+use Rattle.mp_lifting.specs.Vocabulary.{vocabulary_of}
+use Rattle.mp_lifting.proofs.DeclaredNames.{first_named}
 use Rattle.mp_stands.specs.Renaming.{Renaming, IsOneToOne, IsRenaming, renamed, renamed_signature, renamed_typed}
 use Rattle.mp_stands.proofs.Naming.Names.{listed_other, names_of_all, names_of_some}
 use Rattle.mp_stands.proofs.Naming.Objects.{declared_same, name_of, objects_same}

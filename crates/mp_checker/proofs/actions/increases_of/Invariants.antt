@@ -1,6 +1,6 @@
 use Rattle.std.proofs.Common.{◌≡◌, map, take}
 use Rattle.mp_checker.specs.Numbering.{amount}
-use Rattle.mp_lifted.specs.Privates.{private_in}
+use Rattle.mp_lifting.specs.Privates.{private_in}
 use Rattle.mp_checker.proofs.actions.increases_of.Given as goal
 
 abbrev pub invariant-loop-increase : goal.invariant-loop-increase

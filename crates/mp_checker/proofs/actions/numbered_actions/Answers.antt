@@ -1,6 +1,6 @@
 use Rattle.std.proofs.Common.{◌≡◌, ◌<◌, ◌∙◌, ◌∷◌, [], ◌++◌, ap, subst, length, get_or, List}
 use Rattle.mp_forms.specs.declared.schema_values.Schema.{Schema}
-use Rattle.mp_lifted.proofs.Growing.{mapped_more}
+use Rattle.mp_lifting.proofs.Growing.{mapped_more}
 use Rattle.mp_checker.specs.declared.numbered.NumberedAction.{NumberedAction}
 use Rattle.mp_checker.specs.Numbering.{numbered_action}
 use Rattle.mp_checker.proofs.actions.numbered_actions.Goals as goal

@@ -1,5 +1,5 @@
 use Rattle.std.proofs.Common.{◌≡◌, map, take}
-use Rattle.mp_lifted.specs.Privates.{private_in}
+use Rattle.mp_lifting.specs.Privates.{private_in}
 use Rattle.mp_checker.specs.Numbering.{numbered_literal}
 use Rattle.mp_checker.proofs.atoms.numbered_literals.Given as goal
 

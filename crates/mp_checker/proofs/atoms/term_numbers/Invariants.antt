@@ -1,5 +1,5 @@
 use Rattle.std.proofs.Common.{◌≡◌, map, take}
-use Rattle.mp_lifted.specs.Privates.{private_in}
+use Rattle.mp_lifting.specs.Privates.{private_in}
 use Rattle.mp_checker.specs.Numbering.{term_number}
 use Rattle.mp_checker.proofs.atoms.term_numbers.Given as goal
 

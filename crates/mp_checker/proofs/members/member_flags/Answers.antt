@@ -1,7 +1,7 @@
 use Rattle.std.proofs.Common.{◌∙◌, List, ℕ, subst}
 use Rattle.mp_typing.specs.Members.{Members}
 use Rattle.mp_typing.specs.ObjectList.{object_list}
-use Rattle.mp_lifted.proofs.MemberPlaces.{members_are}
+use Rattle.mp_lifting.proofs.MemberPlaces.{members_are}
 use Rattle.mp_checker.specs.Numbering.{flags_at}
 use Rattle.mp_checker.proofs.members.member_flags.Goals as goal
 

@@ -1,9 +1,9 @@
 use Rattle.std.proofs.Common.{Bor, [], ◌∷◌, ◌++◌, ap, ◌∙◌}
 use Rattle.mp_joint.specs.Fact.{Text}
-use Rattle.mp_lifted.proofs.Growing.{mapped_more}
+use Rattle.mp_lifting.proofs.Growing.{mapped_more}
 use Rattle.mp_checker.specs.declared.numbered.ObjectNumber.{ObjectNumber}
 use Rattle.mp_checker.specs.Numbering.{object_number}
-use Rattle.mp_lifted.specs.Privates.{private_in}
+use Rattle.mp_lifting.specs.Privates.{private_in}
 use Rattle.mp_checker.proofs.objects.numbers_of.Goals as goal
 
 pub loop-object-preserved : goal.loop-object-preserved

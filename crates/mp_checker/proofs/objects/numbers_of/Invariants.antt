@@ -1,7 +1,7 @@
 use Rattle.std.proofs.Common.{◌≡◌, Bor, map, take}
 use Rattle.mp_joint.specs.Fact.{Text}
 use Rattle.mp_checker.specs.Numbering.{object_number}
-use Rattle.mp_lifted.specs.Privates.{private_in}
+use Rattle.mp_lifting.specs.Privates.{private_in}
 use Rattle.mp_checker.proofs.objects.numbers_of.Given as goal
 
 abbrev pub invariant-loop-object : goal.invariant-loop-object

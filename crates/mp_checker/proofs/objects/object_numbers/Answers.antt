@@ -1,8 +1,8 @@
 use Rattle.std.proofs.Common.{List, map, ap, ◌∙◌}
 use Rattle.mp_joint.specs.Fact.{Text}
-use Rattle.mp_lifted.proofs.Growing.{of_borrowed}
+use Rattle.mp_lifting.proofs.Growing.{of_borrowed}
 use Rattle.mp_checker.specs.Numbering.{object_number}
-use Rattle.mp_lifted.specs.Privates.{private_in}
+use Rattle.mp_lifting.specs.Privates.{private_in}
 use Rattle.mp_checker.proofs.objects.object_numbers.Goals as goal
 
 pub returns : goal.returns

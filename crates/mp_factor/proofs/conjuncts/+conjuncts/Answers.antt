@@ -11,12 +11,12 @@ add_conjuncts-returns-in-empty t c =
     sym (append-nil before) ∙ ap (λ (ns : List Node). before ++ ns)
     (sym (of_nothing c.args.tree.now c.in-List.list.items c.in-List.field-1 c.as_slice.result.now record { is = c.in-List.is; members = c.as_slice.ensures.value } c.in-empty.len_below))
 
-pub add_conjuncts-returns-then-is_word : goal.add_conjuncts-returns-then-is_word
-add_conjuncts-returns-then-is_word t c =
+pub add_conjuncts-returns-then-is_keyword : goal.add_conjuncts-returns-then-is_keyword
+add_conjuncts-returns-then-is_keyword t c =
     rw (of_and c.args.tree.now c.in-List.list.items c.in-List.field-1 c.as_slice.result.now record { is = c.in-List.is; members = c.as_slice.ensures.value }
-    c.head-item.result c.in-len1-up.len_at_least c.head-item.is (sym c.is_word.ensures ∙ c.if-is_word.true)) c.add_all_conjuncts.ensures
+    c.head-item.result c.in-len1-up.len_at_least c.head-item.is (sym c.is_keyword.ensures ∙ c.if-is_keyword.true)) c.add_all_conjuncts.ensures
 
-pub add_conjuncts-returns-else-is_word : goal.add_conjuncts-returns-else-is_word
-add_conjuncts-returns-else-is_word t c =
+pub add_conjuncts-returns-else-is_keyword : goal.add_conjuncts-returns-else-is_keyword
+add_conjuncts-returns-else-is_keyword t c =
     rw (of_other c.args.tree.now c.in-List.list.items c.in-List.field-1 c.as_slice.result.now record { is = c.in-List.is; members = c.as_slice.ensures.value }
-    c.head-item.result c.in-len1-up.len_at_least c.head-item.is (sym c.is_word.ensures ∙ c.if-is_word.false)) c.add_tree-else-is_word.ensures
+    c.head-item.result c.in-len1-up.len_at_least c.head-item.is (sym c.is_keyword.ensures ∙ c.if-is_keyword.false)) c.add_tree-else-is_keyword.ensures

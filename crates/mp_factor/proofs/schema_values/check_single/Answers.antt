@@ -6,7 +6,7 @@ pub loop-key-preserved : goal.loop-key-preserved
 loop-key-preserved c =
     counts_on key_nodes (λ k. is_word c.args.keyword.now k.key) (λ k. misshapen (place_of k.key)) (λ k. place_of k.key) Shape
     record { gives = λ k. refl } c.loop-key.room.found _ _ c.loop-key.room.left _ _ _ c.args.keys.now c.loop-key.key-index c.key-item.result c.loop-key-test.true c.key-item.is
-    c.is_word-is_one.ensures c.place.ensures c.counted-room.ensures.found c.counted-room.ensures.left c.loop-key.invariant
+    c.is_keyword-is_one.ensures c.place.ensures c.counted-room.ensures.found c.counted-room.ensures.left c.loop-key.invariant
 
 pub returns : goal.returns
 returns c =

@@ -1,6 +1,6 @@
 use Rattle.mp_ground_facts.proofs.Basics.{ℕ, ◌+◌, ◌++◌, List, drop, sym, ap, ◌∙◌, numbers_where, is_initial}
 use Rattle.mp_typing.proofs.Placing.{placed, skipped, all_placed}
-use Rattle.mp_ground_facts.proofs.numbering.start_numbers.Goals.{then-is_initial+in_ok-push, else-is_initial}
+use Rattle.mp_ground_facts.proofs.numbering.start_numbers.Goals.{then-is_start_fact+in_ok-push, else-is_start_fact}
 use Rattle.mp_ground_facts.proofs.numbering.start_numbers.Goals as goal
 
 pub loop-fact-preserved : goal.loop-fact-preserved
@@ -12,15 +12,15 @@ loop-fact-preserved c =
     let rest = numbers_where (l.number + 1) test (drop (l.fact-index + 1) facts) in
     record {
       counted = ap (λ (n : ℕ). n + 1) l.invariant.counted;
-      left = elim c.if-is_initial.branch [
-        | then-is_initial+in_ok-push w ↦
+      left = elim c.if-is_start_fact.branch [
+        | then-is_start_fact+in_ok-push w ↦
             ap (λ (ns : List ℕ). ns ++ rest) (w.out-is ∙ w.in_ok-push.ensures.ok)
             ∙ placed test l.out whole l.number l.fact-index facts c.fact-item.result c.loop-fact-test.true c.fact-item.is
-            (sym c.is_initial.ensures ∙ w.if-is_initial.true) l.invariant.left
-        | else-is_initial w ↦
+            (sym c.is_start_fact.ensures ∙ w.if-is_start_fact.true) l.invariant.left
+        | else-is_start_fact w ↦
             ap (λ (ns : List ℕ). ns ++ rest) w.out-is
             ∙ skipped test l.out whole l.number l.fact-index facts c.fact-item.result c.loop-fact-test.true c.fact-item.is
-            (sym c.is_initial.ensures ∙ w.if-is_initial.false) l.invariant.left
+            (sym c.is_start_fact.ensures ∙ w.if-is_start_fact.false) l.invariant.left
       ];
     }
 

@@ -17,8 +17,8 @@ numbered-requires c =
 as_many : (factor : Factor) (view : OpenView) → length (lifted_factor factor view).private_objects ≡ length (fact_names factor).objects
 as_many factor view = length-map (fact_names factor).objects (λ o. is_listed o (privates_of factor).objects)
 
-pub fact_names-requires : goal.fact_names-requires
-fact_names-requires c =
+pub name_facts-requires : goal.name_facts-requires
+name_facts-requires c =
     c.len.ensures ∙ ap (λ (l : LiftedFactor). length l.private_objects) c.in_ok-lifted.ensures ∙ as_many c.args.factor.now c.args.known.now
     ∙ ap (λ (f : Factor). length (fact_names f).objects) (sym c.factor.ensures.same)
 

@@ -7,5 +7,5 @@ numbers_in-requires c =
     let short = count_in_order c.in_ok-copy_all.field-0.items in
     let same = ap length (c.in_ok-copy_all.ensures ∙ c.as_slice.ensures) in
     let long = ap length c.in_ok-spelled.ensures ∙ length-map _ (text_at c.args.names.now) in
-    let rest = length-drop c.count_private-privates.result c.args.facts.now in
+    let rest = length-drop c.private_count-privates.result c.args.facts.now in
     omega (arith, short, same, long, rest, ap length c.in_ok-texts.ensures, c.requires)

@@ -9,7 +9,7 @@ use Rattle.mp_sexp.proofs.reader.after_first.Goals.{in-Space, in-Open+in_ok-open
 pub returns-in-Comment-clause-ok : goal.returns-in-Comment-clause-ok
 returns-in-Comment-clause-ok c =
     let lists = c.args.lists.now in
-    rw (c.after_comment.ensures.place, c.after_comment.ensures.rest, c.next_place.ensures)
+    rw (c.after_comment.ensures.place, c.after_comment.ensures.rest, c.place_behind.ensures)
     (comment_read (nodes_in lists.members.items) (levels_in lists.around.items) c.args.place c.args.text.now c.requires.some (sym c.kind_of_byte.ensures ∙ c.in-Comment.is))
 
 pub returns-in_err-open-in-Open-clause-err : goal.returns-in_err-open-in-Open-clause-err
@@ -39,7 +39,7 @@ returns-after-kind_of_byte-clause-ok c =
     let some = c.requires.some in
     let kind = sym c.kind_of_byte.ensures in
     elim c.match-kind_of_byte.branch [
-      | in-Space w ↦ rw (w.lists-is, c.next_place-in-len1-up.ensures) (space_read members around at text some (kind ∙ w.in-Space.is))
-      | in-Open+in_ok-open-in-Open w ↦ rw (w.lists-is, c.next_place-in-len1-up.ensures) (open_read members around _ at text some (kind ∙ w.in-Open.is) w.in_ok-open-in-Open.ensures.ok)
-      | in-Close+in_ok-close-in-Close w ↦ rw (w.lists-is, c.next_place-in-len1-up.ensures) (close_read members around _ at text some (kind ∙ w.in-Close.is) w.in_ok-close-in-Close.ensures.ok)
+      | in-Space w ↦ rw (w.lists-is, c.place_behind-in-len1-up.ensures) (space_read members around at text some (kind ∙ w.in-Space.is))
+      | in-Open+in_ok-open-in-Open w ↦ rw (w.lists-is, c.place_behind-in-len1-up.ensures) (open_read members around _ at text some (kind ∙ w.in-Open.is) w.in_ok-open-in-Open.ensures.ok)
+      | in-Close+in_ok-close-in-Close w ↦ rw (w.lists-is, c.place_behind-in-len1-up.ensures) (close_read members around _ at text some (kind ∙ w.in-Close.is) w.in_ok-close-in-Close.ensures.ok)
     ]

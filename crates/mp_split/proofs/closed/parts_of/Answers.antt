@@ -2,7 +2,7 @@ use Rattle.mp_split.proofs.Basics.{arith, ◌∷◌, ◌++◌, ◌+◌, drop, op
 use Rattle.std.proofs.lemmas.List.{drop_all, drop_more}
 use Rattle.mp_split.proofs.Repeated.{added, repeated, shown}
 use Rattle.mp_split.proofs.closed.parts_of.Goals as goal
-use Rattle.mp_split.proofs.closed.parts_of.Goals.{then-is_new+in_ok-part_of+in_ok-push, else-is_new}
+use Rattle.mp_split.proofs.closed.parts_of.Goals.{then-is_new+in_ok-make_part+in_ok-push, else-is_new}
 
 pub loop-act-preserved : goal.loop-act-preserved
 loop-act-preserved c =
@@ -16,9 +16,9 @@ loop-act-preserved c =
     let whole = sorted_parts (shown table acts) in
     let before = drop l.act-index acts in
     elim c.if-is_new.branch [
-      | then-is_new+in_ok-part_of+in_ok-push w ↦
+      | then-is_new+in_ok-make_part+in_ok-push w ↦
           added table whole l.parts.items now.parts.items before left act (option_copied l.last) (option_copied now.last) l.invariant next
-          w.in_ok-part_of.field-0 (c.is_new.ensures.public w.if-is_new.true) w.in_ok-part_of.ensures
+          w.in_ok-make_part.field-0 (c.is_new.ensures.public w.if-is_new.true) w.in_ok-make_part.ensures
           (ap (λ v. v.items) w.parts-is ∙ w.in_ok-push.ensures.items) (ap option_copied w.last-is)
       | else-is_new w ↦
           repeated table whole l.parts.items now.parts.items before left act (option_copied l.last) (option_copied now.last) l.invariant next

@@ -10,7 +10,7 @@ loop-text-preserved c =
     let l = c.loop-text in
     let is_start = is_true c.args.init.now in
     let is_goal = λ (text : Text). is_listed text c.args.goals.now in
-    let start = c.in_ok-add_place.ensures.added ∙ ap (λ b. l.start ++ cond b (l.place ∷ []) []) c.is_true.ensures in
+    let start = c.in_ok-add_place.ensures.added ∙ ap (λ b. l.start ++ cond b (l.place ∷ []) []) c.is_true_text.ensures in
     let wanted = c.in_ok-add_place-2.ensures.added ∙ ap (λ b. l.wanted ++ cond b (l.place ∷ []) []) c.contains.ensures in
     record {
       counted = ap (λ (n : ℕ). n + 1) l.invariant.counted;

@@ -1,7 +1,7 @@
 use Rattle.mp_split.proofs.Basics.{List, subst, sym, Act, IsOfTeam}
 use Rattle.mp_split.proofs.task.add_task.Goals as goal
 
-pub task_of-requires : goal.task_of-requires
-task_of-requires c =
+pub make_task-requires : goal.make_task-requires
+make_task-requires c =
     subst (λ (acts : List Act). IsOfTeam c.args.table.now c.args.common.now (record c.args.ground { acts = acts }))
     (sym c.replace-acts.ensures.value) c.requires

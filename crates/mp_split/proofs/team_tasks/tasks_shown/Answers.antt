@@ -2,8 +2,8 @@ use Rattle.mp_split.proofs.Basics.{◌≡◌, List, ap, map, ◌∙◌, IfOk-wea
 use Rattle.mp_split.proofs.Together.{shown_of, tasks_are, team_is_one, views_fit}
 use Rattle.mp_split.proofs.team_tasks.tasks_shown.Goals as goal
 
-pub common_of-requires-clause-fit : goal.common_of-requires-clause-fit
-common_of-requires-clause-fit c =
+pub make_common-requires-clause-fit : goal.make_common-requires-clause-fit
+make_common-requires-clause-fit c =
     views_fit c.args.init c.args.grounds.items c.requires.agents c.requires.ready c.as_slice-shown.result.now c.as_slice-texts.result.now
     (c.as_slice-shown.ensures.value ∙ c.requires.views) (c.as_slice-texts.ensures ∙ c.in_ok-table.ensures)
 

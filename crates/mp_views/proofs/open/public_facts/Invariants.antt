@@ -1,5 +1,5 @@
 use Rattle.mp_views.proofs.Basics.{◌≡◌, [], map, take, filter, is_none, NamedFact, fact_of, fact_text}
-use Rattle.mp_lifted.specs.Privates.{private_in}
+use Rattle.mp_lifting.specs.Privates.{private_in}
 use Rattle.mp_views.proofs.open.public_facts.Given as goal
 
 abbrev pub invariant-loop-atom : goal.invariant-loop-atom

@@ -1,5 +1,0 @@
-use Rattle.mp_lifted.proofs.Basics.{◌≡◌, take}
-use Rattle.mp_lifted.proofs.members.short_numbers.Given as goal
-
-abbrev pub invariant-loop-number : goal.invariant-loop-number
-invariant-loop-number l = l.made ≡ take l.number-index l.numbers

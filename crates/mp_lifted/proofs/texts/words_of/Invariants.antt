@@ -1,9 +1,0 @@
-use Rattle.mp_lifted.proofs.Basics.{◌≡◌, ◌++◌, map, length, slice_split}
-use Rattle.mp_lifted.proofs.Words.{is_space}
-use Rattle.mp_lifted.proofs.texts.words_of.Given as goal
-
-abbrev pub invariant-loop-word : goal.invariant-loop-word
-invariant-loop-word l = map (λ w. w.now) l.words.items ++ slice_split is_space l.rest ≡ slice_split is_space l.text
-
-abbrev pub decreases-loop-word : goal.decreases-loop-word
-decreases-loop-word l = length l.rest

@@ -1,0 +1,6 @@
+pub mod Texts
+pub mod Views
+pub mod Vocabulary
+pub mod Privates
+pub mod Lifting
+pub mod Factors
