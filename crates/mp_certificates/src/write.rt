@@ -16,12 +16,22 @@ use mp_messages::Bytes;
 use mp_sets::FactList;
 use std::alloc::Global;
 
+/// Appends the digits of a number, one after another, since most numbers have one or two.
+fn push_digits(text: &mut Bytes, digits: &[u8]) -> Result<(), OutOfMemory>
+    ensures { OnOk result (text.new ≡ text.old ++ digits.now) }
+{
+    for digit in digits {
+        text.push(*digit)?;
+    }
+    Ok(())
+}
+
 /// Appends a number in decimal.
 fn push_number(text: &mut Bytes, number: u64) -> Result<(), OutOfMemory>
     ensures { OnOk result (text.new ≡ text.old ++ decimal number) }
 {
     let mut buffer = Buffer::new();
-    text.extend_from_slice(buffer.format(number).as_bytes())
+    push_digits(text, buffer.format(number).as_bytes())
 }
 
 /// Appends numbers, each after a blank.
@@ -29,7 +39,7 @@ fn push_numbers(text: &mut Bytes, numbers: &[u32]) -> Result<(), OutOfMemory>
     ensures { OnOk result (text.new ≡ text.old ++ flat_map blank_number numbers.now) }
 {
     for number in numbers {
-        text.extend_from_slice(b" ")?;
+        text.push(b' ')?;
         push_number(text, u64::from(*number))?;
     }
     Ok(())
@@ -54,7 +64,7 @@ fn push_facts(text: &mut Bytes, facts: &FactList) -> Result<(), OutOfMemory>
 {
     text.extend_from_slice(b" [")?;
     push_spaced(text, facts.as_slice())?;
-    text.extend_from_slice(b"]")
+    text.push(b']')
 }
 
 /// Appends lists of facts.
@@ -72,11 +82,11 @@ fn push_entry(text: &mut Bytes, entry: &Bound) -> Result<(), OutOfMemory>
     ensures { OnOk result (text.new ≡ text.old ++ (entry_line entry.now ++ 10 ∷ [])) }
 {
     push_number(text, u64::from(entry.agent.number()))?;
-    text.extend_from_slice(b" ")?;
+    text.push(b' ')?;
     push_number(text, entry.bound)?;
     push_facts(text, &entry.publics)?;
     push_lists(text, entry.privates.as_slice())?;
-    text.extend_from_slice(b"\n")
+    text.push(b'\n')
 }
 
 /// Appends the lines of entries.
@@ -95,7 +105,7 @@ fn push_cost(text: &mut Bytes, cost: u64) -> Result<(), OutOfMemory>
 {
     text.extend_from_slice(b"bound ")?;
     push_number(text, cost)?;
-    text.extend_from_slice(b"\n")
+    text.push(b'\n')
 }
 
 /// The text of a certificate, whatever it says.

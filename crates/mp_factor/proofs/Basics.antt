@@ -1,6 +1,6 @@
 -- What proofs about shapes cite of the standard library, of the crates below, and of the definitions here, under one name.
 pub use Rattle.std.proofs.Common.{Bool, Err, List, None, Ok, Option, Ordering, Result, Some, [], ap, arith, drop, drop-cons, false, get_or, inr, length}
-pub use Rattle.std.proofs.Common.{cond, map, not, refl, subst, suc, sym, take, true, true≢false, zero, ℕ, ◌&&◌, ◌*◌, ◌++◌, ◌+◌, ◌-◌, ◌<◌, ◌||◌, ◌∙◌, ◌∷◌, ◌≡◌, ◌≤◌}
+pub use Rattle.std.proofs.Common.{add-one, cond, map, not, refl, subst, suc, sym, take, true, true≢false, zero, ℕ, ◌&&◌, ◌*◌, ◌++◌, ◌+◌, ◌-◌, ◌<◌, ◌||◌, ◌∙◌, ◌∷◌, ◌≡◌, ◌≤◌}
 pub use Rattle.std.proofs.Math.ListN.{drop_of_length-le}
 pub use Rattle.std.proofs.lemmas.Bool.{eqb-true}
 pub use Rattle.std.proofs.lemmas.List.{append-nil, append_assoc, map-append}

@@ -1,5 +1,5 @@
 -- The conjuncts of a tree, by the members of its list, and what is said of each of them.
-use Rattle.mp_factor.proofs.Basics.{◌≡◌, ◌<◌, ◌≤◌, Bool, true, false, List, [], ◌∷◌, ◌++◌, length, get_or, refl, sym, ap, ◌∙◌, arith, codes, if◌then◌else◌, Vec, Place, Tree, Node, list, node_of, nodes_in}
+use Rattle.mp_factor.proofs.Basics.{◌≡◌, ◌<◌, ◌≤◌, true, false, List, [], ◌∷◌, ◌++◌, length, get_or, refl, ap, ◌∙◌, arith, codes, if◌then◌else◌, Vec, Place, Tree, Node, list, node_of, nodes_in}
 use Rattle.mp_factor.proofs.Basics.{node_of-list, is_word, conjuncts, conjuncts_of_all}
 use Rattle.std.proofs.Common.{flat_map}
 use Rattle.std.specs.Prelude.{ℕ}
@@ -29,9 +29,7 @@ pub record IsListOf (tree : Tree) (items : Vec Tree) (place : Place) (trees : Li
 
 of_list : (tree : Tree) (items : Vec Tree) (place : Place) (trees : List Tree) → IsListOf tree items place trees
     → conjuncts (node_of tree) ≡ of_members place (nodes_in trees)
-of_list tree items place trees l =
-    ap (λ (t : Tree). conjuncts (node_of t)) l.is ∙ ap conjuncts (node_of-list items place)
-    ∙ members-from place (nodes_in items.items) ∙ ap (λ (ts : List Tree). of_members place (nodes_in ts)) (sym l.members)
+of_list tree items place trees l = rw (l.is, node_of-list, l.members) (members-from place (nodes_in items.items))
 
 nothing : (place : Place) (trees : List Tree) → length trees < 1 → of_members place (nodes_in trees) ≡ []
 nothing place [] lt = refl
@@ -44,24 +42,18 @@ of_nothing tree items place trees l lt = of_list tree items place trees l ∙ no
 pub of_and : (tree : Tree) (items : Vec Tree) (place : Place) (trees : List Tree) → IsListOf tree items place trees
     → (head : Tree) → 1 ≤ length trees → head ≡ get_or trees 0 head → is_word (codes "and") (node_of head) ≡ true
     → conjuncts (node_of tree) ≡ flat_map conjuncts (nodes_in (behind 1 trees))
-of_and tree items place trees l head le is word =
-    of_list tree items place trees l ∙ ap (of_members place) (first_and_others trees head le is)
-    ∙ ap (λ (b : Bool). (if b then flat_map conjuncts (nodes_in (behind 1 trees)) else list (nodes_from (node_of head ∷ nodes_in (behind 1 trees))) place ∷ [])) word
+of_and tree items place trees l head le is word = rw (of_list tree items place trees l, first_and_others trees head le is, word) refl
 
 -- this list as it stands
 as_list : (tree : Tree) (items : Vec Tree) (place : Place) (trees : List Tree) → IsListOf tree items place trees
     → list (nodes_from (nodes_in trees)) place ≡ node_of tree
-as_list tree items place trees l =
-    ap (λ (ts : List Tree). list (nodes_from (nodes_in ts)) place) l.members ∙ sym (node_of-list items place) ∙ sym (ap node_of l.is)
+as_list tree items place trees l = rw (l.is, node_of-list, l.members) refl
 
 pub of_other : (tree : Tree) (items : Vec Tree) (place : Place) (trees : List Tree) → IsListOf tree items place trees
     → (head : Tree) → 1 ≤ length trees → head ≡ get_or trees 0 head → is_word (codes "and") (node_of head) ≡ false
     → conjuncts (node_of tree) ≡ node_of tree ∷ []
 of_other tree items place trees l head le is word =
-    of_list tree items place trees l ∙ ap (of_members place) (first_and_others trees head le is)
-    ∙ ap (λ (b : Bool). (if b then flat_map conjuncts (nodes_in (behind 1 trees)) else list (nodes_from (node_of head ∷ nodes_in (behind 1 trees))) place ∷ [])) word
-    ∙ ap (λ (ns : List Node). list (nodes_from ns) place ∷ []) (sym (first_and_others trees head le is))
-    ∙ ap (λ (n : Node). n ∷ []) (as_list tree items place trees l)
+    rw (of_list tree items place trees l, first_and_others trees head le is, word, ← as_list tree items place trees l, first_and_others trees head le is) refl
 
 pub of_word : (tree : Tree) (name : List ℕ) (place : Place) → tree ≡ tree_word name place → conjuncts (node_of tree) ≡ node_of tree ∷ []
 unfolding conjuncts conjuncts_of_all

@@ -1,8 +1,8 @@
 -- What may stand at most so many times, as a loop counts it.
-use Rattle.mp_factor.proofs.Basics.{◌≡◌, ℕ, zero, suc, ◌+◌, ◌-◌, ◌<◌, ◌≤◌, Bool, true, false, ◌&&◌, List, [], ◌∷◌, ◌++◌, length, get_or, drop, map, Result, Err, refl, sym, ap, ◌∙◌, drop-cons, arith, ◌==◌, if◌then◌else◌, filter, flat_map}
+use Rattle.mp_factor.proofs.Basics.{◌≡◌, ℕ, zero, suc, ◌+◌, ◌-◌, ◌<◌, ◌≤◌, Bool, true, false, ◌&&◌, List, [], ◌∷◌, ◌++◌, length, get_or, drop, map, Result, Err, sym, ◌∙◌, arith, ◌==◌, if◌then◌else◌, filter, flat_map}
 use Rattle.mp_factor.proofs.Basics.{drop_of_length-le, Place, Fault, FaultKind, fault_at, Reading, all_right, at_most, found_in, second_found, nothing_found}
 use Rattle.std.proofs.Math.Dec.{eqb-suc-zero}
-use Rattle.mp_factor.proofs.FoundLemmas.{checks_begin, found_all_right, nothing_second, second_assoc}
+use Rattle.mp_factor.proofs.FoundLemmas.{checks_begin, drop_next, found_all_right, nothing_second, second_assoc}
 
 -- what is found of one that is counted, or not
 abbrev pub here : Bool → ℕ → Result (Unit {0}) Fault → Result (Unit {0}) Fault
@@ -30,8 +30,7 @@ at_most_on {A} left test wrong x xs =
 
 pub none_counted : {A : Type 0} → (left : ℕ) (test : A → Bool) (wrong : A → Reading (Unit {0})) → found_in (at_most left test wrong []) ≡ nothing_found
 unfolding at_most all_right
-none_counted zero test wrong = refl
-none_counted (suc left) test wrong = refl
+none_counted left test wrong = grind arith
 
 -- how what is counted is wrong: each with a fault of one kind at its place
 pub record Counts {A : Type 0} (wrong : A → Reading (Unit {0})) (at : A → Place) (kind : FaultKind) : Type 0 where
@@ -46,17 +45,8 @@ counts_one : {B : Type 0} → (test : B → Bool) (wrong : B → Reading (Unit {
     → second_found o (found_in (at_most left test wrong (x ∷ rest))) ≡ whole
     → second_found o' (found_in (at_most left' test wrong rest)) ≡ whole
 counts_one test wrong at kind counts o o' whole left left' is_one place x rest is_test is_place found counted so_far =
-    let one = here (test x) left (found_in (wrong x)) in
-    let same : here is_one left (Err (fault_at place kind)) ≡ one =
-    ap (λ (p : Place). here is_one left (Err (fault_at p kind))) is_place
-    ∙ ap (λ (r : Result (Unit {0}) Fault). here is_one left r) (sym (counts.gives x))
-    ∙ ap (λ (b : Bool). here b left (found_in (wrong x))) is_test in
-    ap (λ (n : ℕ). second_found o' (found_in (at_most n test wrong rest))) (counted ∙ ap (λ (b : Bool). left_behind b left) is_test)
-    ∙ ap (λ (r : Result (Unit {0}) Fault). second_found r (found_in (at_most (left_behind (test x) left) test wrong rest)))
-    (found ∙ ap (λ (r : Result (Unit {0}) Fault). second_found o r) same)
-    ∙ second_assoc o one (found_in (at_most (left_behind (test x) left) test wrong rest))
-    ∙ ap (λ (r : Result (Unit {0}) Fault). second_found o r) (sym (at_most_on left test wrong x rest))
-    ∙ so_far
+    let known = rw (at_most_on, counts.gives, ← second_assoc) at so_far in
+    rw (found, counted, is_test, is_place) known
 
 -- one item of a list is counted, before others behind the list
 pub counts_more : {A B : Type 0} → (f : A → B) (test : B → Bool) (wrong : B → Reading (Unit {0})) (at : B → Place) (kind : FaultKind) → Counts wrong at kind
@@ -68,12 +58,9 @@ pub counts_more : {A B : Type 0} → (f : A → B) (test : B → Bool) (wrong : 
     → (others : List B)
     → second_found o (found_in (at_most left test wrong (map f (drop i xs) ++ others))) ≡ whole
     → second_found o' (found_in (at_most left' test wrong (map f (drop (i + 1) xs) ++ others))) ≡ whole
-counts_more {A} {B} f test wrong at kind counts o o' whole left left' is_one place xs i x lt is is_test is_place found counted others so_far =
-    let next : suc i ≡ i + 1 = omega arith in
-    let split : map f (drop i xs) ++ others ≡ f x ∷ (map f (drop (suc i) xs) ++ others) = rw (drop-cons xs i x, ← is) refl in
-    ap (λ (n : ℕ). second_found o' (found_in (at_most left' test wrong (map f (drop n xs) ++ others)))) (sym next)
-    ∙ counts_one test wrong at kind counts o o' whole left left' is_one place (f x) (map f (drop (suc i) xs) ++ others) is_test is_place found counted
-    (ap (λ (ts : List B). second_found o (found_in (at_most left test wrong ts))) (sym split) ∙ so_far)
+counts_more f test wrong at kind counts o o' whole left left' is_one place xs i x lt is is_test is_place found counted others so_far =
+    let known = rw (drop_next xs i x lt is) at so_far in
+    counts_one test wrong at kind counts o o' whole left left' is_one place (f x) (map f (drop (i + 1) xs) ++ others) is_test is_place found counted known
 
 -- one item of a list is counted
 pub counts_on : {A B : Type 0} → (f : A → B) (test : B → Bool) (wrong : B → Reading (Unit {0})) (at : B → Place) (kind : FaultKind) → Counts wrong at kind
@@ -84,12 +71,9 @@ pub counts_on : {A B : Type 0} → (f : A → B) (test : B → Bool) (wrong : B 
     → left' ≡ left_behind is_one left
     → second_found o (found_in (at_most left test wrong (map f (drop i xs)))) ≡ whole
     → second_found o' (found_in (at_most left' test wrong (map f (drop (i + 1) xs)))) ≡ whole
-counts_on {A} {B} f test wrong at kind counts o o' whole left left' is_one place xs i x lt is is_test is_place found counted so_far =
-    let next : suc i ≡ i + 1 = omega arith in
-    let split : map f (drop i xs) ≡ f x ∷ map f (drop (suc i) xs) = rw (drop-cons xs i x, ← is) refl in
-    ap (λ (n : ℕ). second_found o' (found_in (at_most left' test wrong (map f (drop n xs))))) (sym next)
-    ∙ counts_one test wrong at kind counts o o' whole left left' is_one place (f x) (map f (drop (suc i) xs)) is_test is_place found counted
-    (ap (λ (ts : List B). second_found o (found_in (at_most left test wrong ts))) (sym split) ∙ so_far)
+counts_on f test wrong at kind counts o o' whole left left' is_one place xs i x lt is is_test is_place found counted so_far =
+    let known = rw (drop_next xs i x lt is) at so_far in
+    counts_one test wrong at kind counts o o' whole left left' is_one place (f x) (map f (drop (i + 1) xs)) is_test is_place found counted known
 
 -- the items that some members name are counted
 pub counts_part : {A B C : Type 0} → (f : A → C) (members : C → List B) (test : B → Bool) (wrong : B → Reading (Unit {0}))
@@ -98,39 +82,23 @@ pub counts_part : {A B C : Type 0} → (f : A → C) (members : C → List B) (t
     → ((others : List B) → second_found o' (found_in (at_most left' test wrong others)) ≡ second_found o (found_in (at_most left test wrong (part ++ others))))
     → second_found o (found_in (at_most left test wrong (flat_map members (map f (drop i xs))))) ≡ whole
     → second_found o' (found_in (at_most left' test wrong (flat_map members (map f (drop (i + 1) xs))))) ≡ whole
-counts_part {A} {B} f members test wrong o o' whole left left' xs i x part lt is is_part counted so_far =
-    let next : suc i ≡ i + 1 = omega arith in
-    let rest = flat_map members (map f (drop (suc i) xs)) in
-    let split : flat_map members (map f (drop i xs)) ≡ members (f x) ++ rest = rw (drop-cons xs i x, ← is) refl in
-    ap (λ (n : ℕ). second_found o' (found_in (at_most left' test wrong (flat_map members (map f (drop n xs)))))) (sym next)
-    ∙ counted rest
-    ∙ ap (λ (ts : List B). second_found o (found_in (at_most left test wrong (ts ++ rest)))) is_part
-    ∙ ap (λ (ts : List B). second_found o (found_in (at_most left test wrong ts))) (sym split)
-    ∙ so_far
+counts_part f members test wrong o o' whole left left' xs i x part lt is is_part counted so_far =
+    let known = rw (drop_next xs i x lt is, ← is_part) at so_far in
+    counted (flat_map members (map f (drop (i + 1) xs))) ∙ known
 
 -- all parts are counted
 pub counts_parts_end : {A B C : Type 0} → (f : A → C) (members : C → List B) (test : B → Bool) (wrong : B → Reading (Unit {0}))
     → (o whole : Result (Unit {0}) Fault) (left : ℕ) (xs : List A) (i : ℕ)
     → length xs ≤ i → second_found o (found_in (at_most left test wrong (flat_map members (map f (drop i xs))))) ≡ whole → o ≡ whole
-counts_parts_end {A} f members test wrong o whole left xs i le so_far =
-    let all_read : drop i xs ≡ [] = drop_of_length-le xs le in
-    sym (nothing_second o)
-    ∙ sym (ap (λ (r : Result (Unit {0}) Fault). second_found o r) (none_counted left test wrong))
-    ∙ sym (ap (λ (ts : List A). second_found o (found_in (at_most left test wrong (flat_map members (map f ts))))) all_read) ∙ so_far
+counts_parts_end f members test wrong o whole left xs i le so_far = grind (arith, drop_of_length-le, none_counted, nothing_second)
 
 -- all items are counted, before others
 pub counts_done : {A B : Type 0} → (f : A → B) (test : B → Bool) (wrong : B → Reading (Unit {0})) (o whole : Result (Unit {0}) Fault) (left : ℕ) (xs : List A) (i : ℕ)
     → length xs ≤ i → (others : List B) → second_found o (found_in (at_most left test wrong (map f (drop i xs) ++ others))) ≡ whole
     → second_found o (found_in (at_most left test wrong others)) ≡ whole
-counts_done {A} f test wrong o whole left xs i le others so_far =
-    let all_read : drop i xs ≡ [] = drop_of_length-le xs le in
-    sym (ap (λ (ts : List A). second_found o (found_in (at_most left test wrong (map f ts ++ others)))) all_read) ∙ so_far
+counts_done f test wrong o whole left xs i le others so_far = grind (arith, drop_of_length-le)
 
 -- all items are counted
 pub counts_end : {A B : Type 0} → (f : A → B) (test : B → Bool) (wrong : B → Reading (Unit {0})) (o whole : Result (Unit {0}) Fault) (left : ℕ) (xs : List A) (i : ℕ)
     → length xs ≤ i → second_found o (found_in (at_most left test wrong (map f (drop i xs)))) ≡ whole → o ≡ whole
-counts_end {A} f test wrong o whole left xs i le so_far =
-    let all_read : drop i xs ≡ [] = drop_of_length-le xs le in
-    sym (nothing_second o)
-    ∙ sym (ap (λ (r : Result (Unit {0}) Fault). second_found o r) (none_counted left test wrong))
-    ∙ sym (ap (λ (ts : List A). second_found o (found_in (at_most left test wrong (map f ts)))) all_read) ∙ so_far
+counts_end f test wrong o whole left xs i le so_far = grind (arith, drop_of_length-le, none_counted, nothing_second)

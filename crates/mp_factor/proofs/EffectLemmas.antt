@@ -1,5 +1,5 @@
 -- What an effect does and what the start has, as loops read them.
-use Rattle.mp_factor.proofs.Basics.{◌≡◌, List, ◌++◌, Result, Ok, Err, refl, append_assoc, append-nil, Fault, Change, Effect, Fact, Start, both_found, said_found, atom_in, value_in, empty_start, start_of}
+use Rattle.mp_factor.proofs.Basics.{◌≡◌, List, ◌++◌, Result, Ok, arith, append_assoc, append-nil, Fault, Change, Effect, Fact, Start, both_found, said_found, atom_in, value_in, empty_start, start_of}
 use Rattle.std.proofs.Common.{flat_map}
 use Rattle.mp_factor.specs.FoundForms.{grown, started}
 use Rattle.mp_forms.specs.Rules.Effects.{adds, deletes, increases}
@@ -27,5 +27,4 @@ pub starts : Grows started with_facts
 starts = record { pushed = λ s x xs. simp append_assoc; done = λ s. simp append-nil }
 
 pub starts_begin : (r : Result (List Fact) Fault) → both_found with_facts (Ok empty_start) r ≡ said_found start_of r
-starts_begin (Ok facts) = refl
-starts_begin (Err f) = refl
+starts_begin r = grind arith

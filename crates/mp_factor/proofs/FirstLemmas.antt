@@ -1,5 +1,5 @@
 -- Faults are in a strict and total order, so that the earliest of some is their first.
-use Rattle.mp_factor.proofs.Basics.{◌≡◌, ℕ, zero, suc, Bool, true, false, List, [], ◌∷◌, ◌++◌, Some, refl, sym, ap, ◌∙◌, if◌then◌else◌, is_lt, nat_cmp, ordering_then, slice_cmp, Fault, FaultKind, Shape, Parameters, Cost}
+use Rattle.mp_factor.proofs.Basics.{◌≡◌, ℕ, zero, suc, Bool, true, false, List, [], ◌∷◌, ◌++◌, Some, refl, arith, sym, ap, ◌∙◌, if◌then◌else◌, is_lt, nat_cmp, ordering_then, slice_cmp, Fault, FaultKind, Shape, Parameters, Cost}
 use Rattle.mp_factor.proofs.Basics.{IsFirst, earlier_of, earliest_of}
 use Rattle.std.proofs.Common.{⊎_elim}
 use Rattle.std.specs.Prelude.{Contains}
@@ -19,10 +19,7 @@ kind_of (suc (suc zero)) = Parameters
 kind_of (suc (suc (suc n))) = Cost
 
 kind_of-rank : (k : FaultKind) → kind_of (rank_of k) ≡ k
-kind_of-rank Shape = refl
-kind_of-rank Unsupported = refl
-kind_of-rank Parameters = refl
-kind_of-rank Cost = refl
+kind_of-rank k = grind arith
 
 abbrev fault_of : List ℕ → Fault → Fault
 fault_of (line ∷ column ∷ rank ∷ word) other =
@@ -30,7 +27,7 @@ fault_of (line ∷ column ∷ rank ∷ word) other =
 fault_of _ other = other
 
 of_order : (a b : Fault) → fault_of (order_of a) b ≡ a
-of_order a b = ap (λ (k : FaultKind). record { place = a.place; kind = k; word = a.word }) (kind_of-rank a.kind)
+of_order a b = grind (arith, kind_of-rank)
 
 apart : (a b : Fault) → order_of a ≡ order_of b → a ≡ b
 apart a b e = sym (of_order a a) ∙ ap (λ (ns : List ℕ). fault_of ns a) e ∙ of_order b a

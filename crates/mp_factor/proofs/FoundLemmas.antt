@@ -1,27 +1,20 @@
 -- What is found where readings are put together.
-use Rattle.mp_factor.proofs.Basics.{◌≡◌, ℕ, suc, ◌+◌, ◌<◌, ◌≤◌, List, [], ◌∷◌, ◌++◌, length, get_or, drop, map, Result, Ok, Err, refl, sym, ap, subst, ◌∙◌, drop-cons, arith, drop_of_length-le, append_assoc}
+use Rattle.mp_factor.proofs.Basics.{◌≡◌, ℕ, ◌+◌, ◌<◌, ◌≤◌, List, [], ◌∷◌, ◌++◌, length, get_or, drop, map, Result, Ok, Err, refl, subst, drop-cons, add-one, arith, drop_of_length-le, append_assoc}
 use Rattle.mp_factor.proofs.Basics.{append-nil, Node, Fault, IsFirst, Reading, Says, Wrong, faults_in, said, both, each, all_right, earliest_of, found_in, both_found, said_found, more_found, second_found, nothing_found}
 use Rattle.mp_factor.proofs.FirstLemmas.{earliest_append, earliest_first, earlier_assoc}
 
 pub pair_said : {X Y Z : Type 0} → (f : X → Y → Z) (a : Result X Fault) (b : Result Y Fault)
     → said_found (λ (p : X × Y). f p.0 p.1) (both_found (λ (x : X) (y : Y). (x, y)) a b) ≡ both_found f a b
-pair_said {X} {Y} {Z} f (Ok x) (Ok y) = refl
-pair_said {X} {Y} {Z} f (Ok x) (Err h) = refl
-pair_said {X} {Y} {Z} f (Err g) (Ok y) = refl
-pair_said {X} {Y} {Z} f (Err g) (Err h) = refl
+pair_said f a b = grind arith
 
 pub found_both : {X Y Z : Type 0} → (join : X → Y → Z) (a : Reading X) (b : Reading Y)
     → found_in (both join a b) ≡ both_found join (found_in a) (found_in b)
 unfolding both
-found_both join (Says x) (Says y) = refl
-found_both join (Says x) (Wrong g gs) = refl
-found_both {X} {Y} {Z} join (Wrong f fs) (Says y) = ap (λ (xs : List Fault). Err (earliest_of f xs)) (append-nil fs)
-found_both {X} {Y} {Z} join (Wrong f fs) (Wrong g gs) = ap Err (earliest_append f g fs gs)
+found_both join a b = grind (arith, append-nil, earliest_append)
 
 pub found_said : {X Y : Type 0} → (of : X → Y) (a : Reading X) → found_in (said of a) ≡ said_found of (found_in a)
 unfolding said
-found_said of (Says x) = refl
-found_said of (Wrong f fs) = refl
+found_said of a = grind arith
 
 -- ---- a value that grows
 
@@ -33,18 +26,10 @@ pub record Grows {S X : Type 0} (push : S → X → S) (join : S → List X → 
 pub one_more : {S X : Type 0} → (push : S → X → S) (join : S → List X → S) → Grows push join
     → (a : Result S Fault) (x : Result X Fault) (rest : Result (List X) Fault)
     → both_found join (both_found push a x) rest ≡ both_found join a (both_found (λ x xs. x ∷ xs) x rest)
-one_more push join grows (Ok s) (Ok x) (Ok xs) = ap Ok (grows.pushed s x xs)
-one_more push join grows (Ok s) (Ok x) (Err h) = refl
-one_more push join grows (Ok s) (Err g) (Ok xs) = refl
-one_more push join grows (Ok s) (Err g) (Err h) = refl
-one_more push join grows (Err f) (Ok x) (Ok xs) = refl
-one_more push join grows (Err f) (Ok x) (Err h) = refl
-one_more push join grows (Err f) (Err g) (Ok xs) = refl
-one_more push join grows (Err f) (Err g) (Err h) = ap Err (earlier_assoc f g h)
+one_more push join grows a x rest = grind (arith, earlier_assoc, grows.pushed)
 
 pub none_more : {S X : Type 0} → (push : S → X → S) (join : S → List X → S) → Grows push join → (a : Result S Fault) → both_found join a (Ok []) ≡ a
-none_more push join grows (Ok s) = ap Ok (grows.done s)
-none_more push join grows (Err f) = refl
+none_more push join grows a = grind (arith, grows.done)
 
 pub lists : {X : Type 0} → Grows {S = List X} {X = X} (λ xs x. xs ++ x ∷ []) (λ xs ys. xs ++ ys)
 lists = record { pushed = λ s x xs. append_assoc s (x ∷ []) xs; done = λ s. append-nil s }
@@ -57,16 +42,16 @@ found_each rule a as' = found_both (λ x xs. x ∷ xs) (rule a) (each rule as')
 -- ---- what is found of a reading is its first fault
 
 pub found_wrong : {X : Type 0} → (r : Reading X) (f : Fault) → found_in r ≡ Err f → IsFirst (faults_in r) f
-found_wrong (Says x) f e = absurd (let impossible : ⊥ = cc in impossible)
-found_wrong {X} (Wrong g gs) f e =
-    let same : earliest_of g gs ≡ f = cc in
-    subst (λ (x : Fault). IsFirst (g ∷ gs) x) same (earliest_first g gs)
+found_wrong (Says x) f e = grind arith
+found_wrong (Wrong g gs) f e = let same : earliest_of g gs ≡ f = cc in subst (IsFirst (g ∷ gs)) same (earliest_first g gs)
 
 pub found_says : {X : Type 0} → (r : Reading X) (x : X) → found_in r ≡ Ok x → r ≡ Says x
-found_says (Says y) x e = ap Says (let same : y ≡ x = cc in same)
-found_says (Wrong g gs) x e = absurd (let impossible : ⊥ = cc in impossible)
+found_says r x e = grind arith
 
 -- ---- a loop
+
+pub drop_next : {A : Type 0} → (xs : List A) (i : ℕ) (x : A) → i < length xs → x ≡ get_or xs i x → drop i xs ≡ x ∷ drop (i + 1) xs
+drop_next xs i x lt is = rw (drop-cons xs i x, ← is, add-one) refl
 
 -- one item is read
 pub goes_on : {A S X : Type 0} → (f : A → Node) (rule : Node → Reading X) (push : S → X → S) (join : S → List X → S) → Grows push join
@@ -76,46 +61,28 @@ pub goes_on : {A S X : Type 0} → (f : A → Node) (rule : Node → Reading X) 
     → a' ≡ both_found push a item
     → both_found join a (found_in (each rule (map f (drop i xs)))) ≡ whole
     → both_found join a' (found_in (each rule (map f (drop (i + 1) xs)))) ≡ whole
-goes_on {A} {S} {X} f rule push join grows a a' whole item xs i x lt is read more so_far =
-    let next : suc i ≡ i + 1 = omega arith in
-    let rest = found_in (each rule (map f (drop (suc i) xs))) in
-    let split : found_in (each rule (map f (drop i xs))) ≡ both_found (λ x xs. x ∷ xs) (found_in (rule (f x))) rest =
-    rw (drop-cons xs i x, ← is) (found_each rule (f x) (map f (drop (suc i) xs))) in
-    ap (λ (n : ℕ). both_found join a' (found_in (each rule (map f (drop n xs))))) (sym next)
-    ∙ ap (λ (r : Result S Fault). both_found join r rest) (more ∙ ap (λ (x : Result X Fault). both_found push a x) read)
-    ∙ one_more push join grows a (found_in (rule (f x))) rest
-    ∙ ap (λ (r : Result (List X) Fault). both_found join a r) (sym split)
-    ∙ so_far
+goes_on f rule push join grows a a' whole item xs i x lt is read more so_far =
+    let known = rw (drop_next xs i x lt is, found_each) at so_far in
+    rw (more, read, one_more push join grows) known
 
 -- all items are read
 pub ends : {A S X : Type 0} → (f : A → Node) (rule : Node → Reading X) (push : S → X → S) (join : S → List X → S) → Grows push join
     → (a whole : Result S Fault) (xs : List A) (i : ℕ)
     → length xs ≤ i → both_found join a (found_in (each rule (map f (drop i xs)))) ≡ whole → a ≡ whole
 unfolding each
-ends {A} f rule push join grows a whole xs i le so_far =
-    let all_read : drop i xs ≡ [] = drop_of_length-le xs le in
-    sym (none_more push join grows a) ∙ sym (ap (λ (ts : List A). both_found join a (found_in (each rule (map f ts)))) all_read) ∙ so_far
+ends f rule push join grows a whole xs i le so_far = grind (arith, drop_of_length-le, none_more)
 
 pub begins : {X : Type 0} → (r : Result (List X) Fault) → more_found (Ok []) r ≡ r
-begins (Ok xs) = refl
-begins (Err f) = refl
+begins r = grind arith
 
 -- ---- a loop that says nothing
 
 pub second_assoc : {X Y Z : Type 0} → (a : Result X Fault) (b : Result Y Fault) (c : Result Z Fault)
     → second_found (second_found a b) c ≡ second_found a (second_found b c)
-second_assoc (Ok x) (Ok y) (Ok z) = refl
-second_assoc (Ok x) (Ok y) (Err h) = refl
-second_assoc (Ok x) (Err g) (Ok z) = refl
-second_assoc (Ok x) (Err g) (Err h) = refl
-second_assoc (Err f) (Ok y) (Ok z) = refl
-second_assoc (Err f) (Ok y) (Err h) = refl
-second_assoc (Err f) (Err g) (Ok z) = refl
-second_assoc (Err f) (Err g) (Err h) = ap Err (earlier_assoc f g h)
+second_assoc a b c = grind (arith, earlier_assoc)
 
 pub nothing_second : (a : Result (Unit {0}) Fault) → second_found a nothing_found ≡ a
-nothing_second (Ok tt) = refl
-nothing_second (Err f) = refl
+nothing_second a = grind arith
 
 pub found_all_right : {A : Type 0} → (rule : A → Reading (Unit {0})) (a : A) (as' : List A)
     → found_in (all_right rule (a ∷ as')) ≡ second_found (found_in (rule a)) (found_in (all_right rule as'))
@@ -129,46 +96,29 @@ pub checks_on : {A B : Type 0} → (f : A → B) (rule : B → Reading (Unit {0}
     → a' ≡ second_found a item
     → second_found a (found_in (all_right rule (map f (drop i xs)))) ≡ whole
     → second_found a' (found_in (all_right rule (map f (drop (i + 1) xs)))) ≡ whole
-checks_on {A} f rule a a' whole item xs i x lt is read more so_far =
-    let next : suc i ≡ i + 1 = omega arith in
-    let rest = found_in (all_right rule (map f (drop (suc i) xs))) in
-    let split : found_in (all_right rule (map f (drop i xs))) ≡ second_found (found_in (rule (f x))) rest =
-    rw (drop-cons xs i x, ← is) (found_all_right rule (f x) (map f (drop (suc i) xs))) in
-    ap (λ (n : ℕ). second_found a' (found_in (all_right rule (map f (drop n xs))))) (sym next)
-    ∙ ap (λ (r : Result (Unit {0}) Fault). second_found r rest) (more ∙ ap (λ (x : Result (Unit {0}) Fault). second_found a x) read)
-    ∙ second_assoc a (found_in (rule (f x))) rest
-    ∙ ap (λ (r : Result (Unit {0}) Fault). second_found a r) (sym split)
-    ∙ so_far
+checks_on f rule a a' whole item xs i x lt is read more so_far =
+    let known = rw (drop_next xs i x lt is, found_all_right) at so_far in
+    rw (more, read, second_assoc) known
 
 pub checks_end : {A B : Type 0} → (f : A → B) (rule : B → Reading (Unit {0})) (a whole : Result (Unit {0}) Fault) (xs : List A) (i : ℕ)
     → length xs ≤ i → second_found a (found_in (all_right rule (map f (drop i xs)))) ≡ whole → a ≡ whole
 unfolding all_right
-checks_end {A} f rule a whole xs i le so_far =
-    let all_read : drop i xs ≡ [] = drop_of_length-le xs le in
-    sym (nothing_second a) ∙ sym (ap (λ (ts : List A). second_found a (found_in (all_right rule (map f ts)))) all_read) ∙ so_far
+checks_end f rule a whole xs i le so_far = grind (arith, drop_of_length-le, nothing_second)
 
 pub checks_begin : (r : Result (Unit {0}) Fault) → second_found nothing_found r ≡ r
-checks_begin (Ok x) = refl
-checks_begin (Err f) = refl
+checks_begin r = grind arith
 
 -- ---- part after part
 
 -- the function of what is read first, and its next argument
 pub with_first : {X Y : Type 0} → (f : X → Y) (a : Result X Fault) → both_found (λ f x. f x) (Ok f) a ≡ said_found f a
-with_first f (Ok x) = refl
-with_first f (Err e) = refl
+with_first f a = grind arith
 
 pub with_next : {P X Y : Type 0} → (g : P → X → Y) (p : Result P Fault) (a : Result X Fault)
     → both_found (λ f x. f x) (said_found g p) a ≡ said_found (λ (q : P × X). g q.0 q.1) (both_found (λ a b. (a, b)) p a)
-with_next g (Ok p) (Ok x) = refl
-with_next g (Ok p) (Err e) = refl
-with_next g (Err f) (Ok x) = refl
-with_next g (Err f) (Err e) = refl
+with_next g p a = grind arith
 
 -- what is said of the second of two
 pub said_second : {X Y Z : Type 0} → (of : Y → Z) (a : Result X Fault) (b : Result Y Fault)
     → said_found of (second_found a b) ≡ second_found a (said_found of b)
-said_second of (Ok x) (Ok y) = refl
-said_second of (Ok x) (Err g) = refl
-said_second of (Err f) (Ok y) = refl
-said_second of (Err f) (Err g) = refl
+said_second of a b = grind arith

@@ -1,5 +1,5 @@
 -- The keys of an action, as a loop over them finds them one after the other.
-use Rattle.mp_factor.proofs.Basics.{◌≡◌, ℕ, zero, suc, List, [], ◌∷◌, ◌++◌, map, take, drop, Result, refl, sym, ap, ◌∙◌, codes, append_assoc, append-nil, map-append, Place, Node, Fault, Word, Typed, Literal, Effect, wanted, found_in, said_found}
+use Rattle.mp_factor.proofs.Basics.{◌≡◌, ℕ, zero, suc, List, [], ◌∷◌, ◌++◌, map, take, drop, Result, refl, arith, sym, ap, codes, append_assoc, append-nil, map-append, Place, Node, Fault, Word, Typed, Literal, Effect, wanted, found_in, said_found}
 use Rattle.mp_factor.proofs.Basics.{name_rule, condition_rule, effect_rule, no_effect, Key, keyed, value_length, keys_behind, keys_of, in_key, agent_rule, parameters_rule, keys_rule, schema_of}
 use Rattle.mp_factor.specs.FoundForms.{schema_from}
 use Rattle.mp_factor.proofs.PartLemmas.{paired, with_five}
@@ -26,16 +26,11 @@ no_keys ns is = ap (λ (xs : List Node). keys_behind 0 xs) is
 -- one key more is found
 pub one_key_more : {K : Type 0} → (f : K → Key) (keys more : List K) (k : K) (ns behind : List Node) (whole : List Key)
     → more ≡ keys ++ k ∷ [] → keys_of ns ≡ f k ∷ keys_of behind → map f keys ++ keys_of ns ≡ whole → map f more ++ keys_of behind ≡ whole
-one_key_more {K} f keys more k ns behind whole pushed first so_far =
-    ap (λ (ks : List K). map f ks ++ keys_of behind) pushed
-    ∙ ap (λ (ks : List Key). ks ++ keys_of behind) (map-append f keys (k ∷ []))
-    ∙ append_assoc (map f keys) (f k ∷ []) (keys_of behind)
-    ∙ ap (λ (ks : List Key). map f keys ++ ks) (sym first) ∙ so_far
+one_key_more f keys more k ns behind whole pushed first so_far = rw (pushed, map-append, append_assoc, ← first) so_far
 
 pub no_key_more : {K : Type 0} → (f : K → Key) (keys : List K) (ns : List Node) (whole : List Key)
     → ns ≡ [] → map f keys ++ keys_of ns ≡ whole → map f keys ≡ whole
-no_key_more f keys ns whole none so_far =
-    sym (append-nil (map f keys)) ∙ ap (λ (ks : List Key). map f keys ++ ks) (sym (no_keys ns none)) ∙ so_far
+no_key_more f keys ns whole none so_far = grind (arith, append-nil, no_keys)
 
 -- an action of what its keys say
 pub keys_read : (whole : Place) (name : Node) (keys : List Key) (found : Result ((((Word × List Typed) × List Typed) × List Literal) × Effect) Fault)
@@ -48,10 +43,4 @@ pub keys_read : (whole : Place) (name : Node) (keys : List Key) (found : Result 
     → said_found schema_from found ≡ found_in (keys_rule whole name keys)
 unfolding keys_rule
 keys_read whole name keys found word is_name is_found =
-    let agent = in_key (codes ":agent") (agent_rule whole) [] keys in
-    let params = in_key (codes ":parameters") (wanted parameters_rule whole) [] keys in
-    let pre = in_key (codes ":precondition") (wanted condition_rule whole) [] keys in
-    let effect = in_key (codes ":effect") (wanted effect_rule whole) no_effect keys in
-    ap (λ (r : Result ((((Word × List Typed) × List Typed) × List Literal) × Effect) Fault). said_found schema_from r)
-    (is_found ∙ ap (λ (r : Result Word Fault). paired (paired (paired (paired r (found_in agent)) (found_in params)) (found_in pre)) (found_in effect)) is_name)
-    ∙ sym (with_five schema_of (name_rule name) agent params pre effect)
+    rw (is_found, is_name) (sym (with_five schema_of (name_rule name) _ _ _ _))

@@ -1,5 +1,5 @@
 -- Values of digits, as far as they are counted.
-use Rattle.mp_factor.proofs.Basics.{◌≡◌, ℕ, suc, ◌+◌, ◌-◌, ◌*◌, ◌<◌, List, [], ◌∷◌, length, get_or, drop, sym, ap, ◌∙◌, drop-cons, arith, min, value_behind}
+use Rattle.mp_factor.proofs.Basics.{◌≡◌, ℕ, ◌+◌, ◌-◌, ◌*◌, ◌<◌, List, [], ◌∷◌, length, get_or, drop, drop-cons, arith, min, value_behind}
 
 bounded : (a b d : ℕ) → min a 1000001 ≡ min b 1000001 → min (a * 10 + d) 1000001 ≡ min (b * 10 + d) 1000001
 bounded a b d e = omega (arith, e)
@@ -12,11 +12,4 @@ same_below a b (d ∷ ds) e = same_below (a * 10 + (d - 48)) (b * 10 + (d - 48))
 pub goes_on : (v v' whole : ℕ) (ds : List ℕ) (i : ℕ) → i < length ds
     → v' ≡ min (v * 10 + (get_or ds i 0 - 48)) 1000001
     → min (value_behind v (drop i ds)) 1000001 ≡ whole → min (value_behind v' (drop (i + 1) ds)) 1000001 ≡ whole
-goes_on v v' whole ds i lt more so_far =
-    let d : ℕ = get_or ds i 0 in
-    let next : suc i ≡ i + 1 = omega arith in
-    let capped : min v' 1000001 ≡ min (v * 10 + (d - 48)) 1000001 = omega (arith, more) in
-    let split : min (value_behind v (drop i ds)) 1000001 ≡ min (value_behind (v * 10 + (d - 48)) (drop (suc i) ds)) 1000001 =
-    ap (λ (xs : List ℕ). min (value_behind v xs) 1000001) (drop-cons ds i 0 lt) in
-    ap (λ (k : ℕ). min (value_behind v' (drop k ds)) 1000001) (sym next)
-    ∙ same_below v' (v * 10 + (d - 48)) (drop (suc i) ds) capped ∙ sym split ∙ so_far
+goes_on v v' whole ds i lt more so_far = grind (arith, drop-cons, same_below)

@@ -1,5 +1,5 @@
 -- A record of what is read part after part.
-use Rattle.mp_factor.proofs.Basics.{◌≡◌, Result, ap, ◌∙◌, Fault, Reading, Says, found_in, both_found, said_found}
+use Rattle.mp_factor.proofs.Basics.{◌≡◌, Result, ◌∙◌, Fault, Reading, Says, found_in, both_found, said_found}
 use Rattle.mp_forms.specs.Reading.{◌with◌}
 use Rattle.mp_factor.proofs.FoundLemmas.{found_both, with_first, with_next}
 
@@ -9,15 +9,11 @@ paired a b = both_found (λ x y. (x, y)) a b
 
 pub paired_as : {X Y : Type 0} → (o : Result (X × Y) Fault) (p p' : Result X Fault) (a a' : Result Y Fault)
     → o ≡ paired p a → p ≡ p' → a ≡ a' → o ≡ paired p' a'
-paired_as {X} {Y} o p p' a a' is first second =
-    is ∙ ap (λ (r : Result X Fault). paired r a) first ∙ ap (λ (r : Result Y Fault). paired p' r) second
+paired_as o p p' a a' is first second = cc
 
 with_more : {P X Y : Type 0} → (g : P → X → Y) (r : Reading (X → Y)) (p : Result P Fault) (a : Reading X) → found_in r ≡ said_found g p
     → found_in (r with a) ≡ said_found (λ (q : P × X). g q.0 q.1) (paired p (found_in a))
-with_more {P} {X} {Y} g r p a is =
-    found_both (λ f x. f x) r a
-    ∙ ap (λ (o : Result (X → Y) Fault). both_found (λ f x. f x) o (found_in a)) is
-    ∙ with_next g p (found_in a)
+with_more g r p a is = rw (found_both, is) (with_next g p (found_in a))
 
 with_one : {A Z : Type 0} → (f : A → Z) (a : Reading A) → found_in (Says f with a) ≡ said_found f (found_in a)
 with_one f a = found_both (λ f x. f x) (Says f) a ∙ with_first f (found_in a)

@@ -1,18 +1,17 @@
 -- A file that is read part after part.
-use Rattle.mp_factor.proofs.Basics.{◌≡◌, ◌<◌, false, List, [], ◌∷◌, length, Option, Some, None, Result, Ok, Err, refl, sym, ap, ◌∙◌, true≢false, arith, codes, Place, Tree, Node, word, list, nodes_in, Fault, Word, Typed, Literal, Start, place_of}
+use Rattle.mp_factor.proofs.Basics.{◌≡◌, ◌<◌, false, List, [], ◌∷◌, length, Option, Result, Err, refl, sym, ap, ◌∙◌, arith, codes, Place, Tree, Node, nodes_in, Fault, Word, Typed, Literal, Start, place_of}
 use Rattle.mp_factor.proofs.Basics.{parts, IsFirst, Reading, Says, faults_in, misshapen, besides, found_in, said_found, second_found, problem_from, objects, empty_start, in_section, listed_rule, named_rule, start_rule, goal_rule}
 use Rattle.mp_factor.proofs.Basics.{define_members, file_rule, problem_of, problem_parts}
 use Rattle.std.specs.Prelude.{ℕ, Bool, IsOk, MatchOption}
 use Rattle.mp_forms.specs.Rules.Sections.{metric_rule}
-use Rattle.mp_factor.proofs.FoundLemmas.{found_both, found_says, found_wrong, said_second}
+use Rattle.mp_factor.proofs.FoundLemmas.{found_both, found_says, found_wrong}
 use Rattle.mp_factor.proofs.PartLemmas.{paired, with_six}
 
 -- a file by the members of its list; a word has none
 pub file_members : {X : Type 0} → (kind : List ℕ) (inside : Place → Reading Word → List Node → Reading X) (node : Node)
     → file_rule kind inside node ≡ define_members kind inside (place_of node) (parts node)
 unfolding file_rule
-file_members kind inside (word name place) = refl
-file_members kind inside (list nodes place) = refl
+file_members kind inside node = grind arith
 
 pub by_members : {X : Type 0} → (kind : List ℕ) (inside : Place → Reading Word → List Node → Reading X) (node : Node) (place : Place) (ns : List Node)
     → place ≡ place_of node → ns ≡ parts node → file_rule kind inside node ≡ define_members kind inside place ns
@@ -26,23 +25,13 @@ too_few kind inside whole (t ∷ u ∷ ts) lt = absurd (omega (arith, lt))
 
 pub besides_found : {X Y : Type 0} → (a : Reading X) (b : Reading Y) (first : Result X Fault) (second out : Result Y Fault)
     → first ≡ found_in a → second ≡ found_in b → out ≡ second_found first second → out ≡ found_in (besides a b)
-besides_found {X} {Y} a b first second out is_first is_second is =
-    is
-    ∙ ap (λ (o : Result X Fault). second_found o second) is_first
-    ∙ ap (λ (o : Result Y Fault). second_found (found_in a) o) is_second
-    ∙ sym (found_both (λ x y. y) a b)
+besides_found a b first second out is_first is_second is = grind (arith, found_both)
 
 -- what is said behind two readings that say nothing
 pub behind_two : {P X : Type 0} → (of : P → X) (a b : Reading (Unit {0})) (r : Reading X) (first second : Result (Unit {0}) Fault) (p inner out : Result P Fault)
     → first ≡ found_in a → second ≡ found_in b → said_found of p ≡ found_in r → inner ≡ second_found second p → out ≡ second_found first inner
     → said_found of out ≡ found_in (besides a (besides b r))
-behind_two {P} {X} of a b r first second p inner out is_first is_second is_p is_inner is =
-    ap (λ (o : Result P Fault). said_found of o) (is ∙ ap (λ (o : Result P Fault). second_found first o) is_inner)
-    ∙ said_second of first (second_found second p)
-    ∙ ap (λ (o : Result X Fault). second_found first o) (said_second of second p ∙ ap (λ (o : Result X Fault). second_found second o) is_p)
-    ∙ ap (λ (o : Result (Unit {0}) Fault). second_found o (second_found second (found_in r))) is_first
-    ∙ ap (λ (o : Result (Unit {0}) Fault). second_found (found_in a) (second_found o (found_in r))) is_second
-    ∙ sym (found_both (λ x y. y) a (besides b r) ∙ ap (λ (o : Result X Fault). second_found (found_in a) o) (found_both (λ x y. y) b r))
+behind_two of a b r first second p inner out is_first is_second is_p is_inner is = grind (arith, found_both)
 
 -- a problem, part by part
 pub problem_read : (whole : Place) (title : Reading Word) (sections : List Node)
@@ -69,6 +58,4 @@ problem_read whole title sections name known found is_name is_known is =
 pub first_fault : {P X : Type 0} → (of : P → X) (found : Result P Fault) (reading : Reading X) (o : Option Fault)
     → said_found of found ≡ found_in reading → MatchOption o (IsOk found) (λ fault. found ≡ Err fault)
     → MatchOption o (faults_in reading ≡ []) (λ fault. IsFirst (faults_in reading) fault)
-first_fault {P} {X} of (Ok p) reading None is right = ap (λ (r : Reading X). faults_in r) (found_says reading (of p) (sym is))
-first_fault of (Err f) reading None is right = absurd (true≢false (sym right))
-first_fault {P} of found reading (Some f) is wrong = found_wrong reading f (sym is ∙ ap (λ (o : Result P Fault). said_found of o) wrong)
+first_fault of found reading o is right = grind (arith, found_says, found_wrong)

@@ -95,7 +95,7 @@ pub fn read_start(alloc: Global, trees: &[Tree]) -> Result<Found<Start>, OutOfMe
     let mut costs = HashMap::new(alloc);
     for tree in trees {
         let fact = read_fact(alloc, tree)?;
-        single = check_given(alloc, single, &mut costs, &fact)?;
+        single = check_given(alloc, single, &mut costs, tree, &fact)?;
         so_far = with_fact(so_far, fact)?;
     }
     Ok(second(single, so_far))

@@ -9,6 +9,7 @@ mod fault;
 mod files;
 mod first_costs;
 mod found;
+mod function_key;
 mod init_values;
 mod keys;
 mod laws;

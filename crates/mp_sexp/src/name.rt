@@ -96,7 +96,7 @@ impl Name {
     {
         if bytes.len() <= MOST {
             return Ok(Name {
-                data: Data::Few(Short::folded(alloc, bytes)),
+                data: Data::Few(Short::fold_from(alloc, bytes)),
             });
         }
         many(folded_bytes(alloc, bytes)?)

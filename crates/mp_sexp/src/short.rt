@@ -44,7 +44,7 @@ impl Short {
 
     /// These bytes, folded. They go to the places that they have in the text, so that no length is counted up
     /// beside them.
-    pub(crate) fn folded(alloc: Global, bytes: &[u8]) -> Short
+    pub(crate) fn fold_from(alloc: Global, bytes: &[u8]) -> Short
         requires { length bytes.now ≤ 22 }
         ensures value { result ≡ folded bytes.now }
         ensures small { HasNoCapitals result }

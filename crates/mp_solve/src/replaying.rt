@@ -91,15 +91,16 @@ fn replayed<H: Heuristic>(
     }
 }
 
-/// The schedule that a text has for a team of so many agents, 1 to 16.
-fn schedule_of(alloc: Global, text: &[u8], agents: u16) -> Result<EventLines, ReplayRefusal>
+/// The schedule that a text has for a team of so many agents, 1 to 16. The text is let go: it may have more bytes than all that
+/// the team finds.
+fn schedule_of(alloc: Global, text: Vec<u8>, agents: u16) -> Result<EventLines, ReplayRefusal>
     requires some { 1 ≤ agents }
     requires at_most { agents ≤ 16 }
-    ensures read { IfOk result (λ lines. schedule_in agents text.now ≡ Ok lines) }
+    ensures read { IfOk result (λ lines. schedule_in agents text.items ≡ Ok lines) }
     ensures of_team { IfOk result (All (λ line. IsOfTeam agents line.event)) }
-    ensures refused { IfErr result (IsUnread agents text.now) }
+    ensures refused { IfErr result (IsUnread agents text.items) }
 {
-    match read_schedule(alloc, text, agents) {
+    match read_schedule(alloc, text.as_slice(), agents) {
         Ok(lines) => Ok(lines),
         Err(LineRefusal::Line(number)) => Err(ReplayRefusal::Line(number)),
         Err(LineRefusal::OutOfMemory) => Err(ReplayRefusal::Sizes(GroundRefusal::OutOfMemory)),
@@ -108,7 +109,8 @@ fn schedule_of(alloc: Global, text: &[u8], agents: u16) -> Result<EventLines, Re
 
 /// What the agents of a team find by the schedule that a text has, where each may expand `limit` entries, from 1 to
 /// 10,000,000: their factors are grounded, each gets its task, and the events happen, one after another. There are 1 to 16
-/// agents. Where not all have ended behind the last event, there is no answer, and no text.
+/// agents. Where not all have ended behind the last event, there is no answer, and no text. The memory of the schedule's text
+/// is given back before the first event happens.
 ///
 /// It refuses where a factor is not grounded, as the first of the agents with such a factor does; otherwise with a line of
 /// the text, the first that is neither of an event nor of a message, or, where there is none, that of the first event
@@ -117,15 +119,15 @@ pub fn replay<H: Heuristic>(
     alloc: Global,
     factors: &[CheckedFactor],
     limit: u64,
-    text: &[u8],
+    text: Vec<u8>,
 ) -> Result<Solution, ReplayRefusal>
     requires from_1 { 1 ≤ limit }
     requires limit { limit ≤ most_expansions }
     requires some { 1 ≤ length factors.now }
     requires at_most { length factors.now ≤ 16 }
-    ensures replayed { IfOk result (IsReplayed H.value limit factors.now text.now) }
+    ensures replayed { IfOk result (IsReplayed H.value limit factors.now text.items) }
     ensures within { OnOk result (AreWithin factors.now) }
-    ensures refused { IfErr result (Refuses H.value limit factors.now text.now) }
+    ensures refused { IfErr result (Refuses H.value limit factors.now text.items) }
 {
     let given = match tasks(alloc, factors) {
         Ok(given) => given,

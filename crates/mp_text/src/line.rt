@@ -7,6 +7,7 @@ ghost use Rattle.mp_text.specs.Lines.{lines_of};
 ghost use Rattle.mp_text.specs.Reading.{digit_at, two_digits_at, number_at, agent_at, byte_at, pair_at, expand_at, take_at, message_at, text_behind, event_at, message_line_at, first_length as first_length_of};
 ghost use Rattle.mp_text.specs.Schedule.{event_in as event_in_team, is_message as is_message_of, is_hexadecimal as is_hexadecimal_text, is_hexadecimal_digit as is_digit, is_end as ends_schedule};
 
+use memchr::memchr;
 use mp_messages::Event;
 use mp_sets::Agent;
 
@@ -166,15 +167,15 @@ fn is_hexadecimal_digit(byte: u8) -> bool
 }
 
 /// Whether all bytes are digits of lower-case hexadecimal.
+// It goes on behind one that is none, so that many bytes are looked at at once.
 fn are_digits(text: &[u8]) -> bool
     ensures { result ≡ list_all is_digit text.now }
 {
+    let mut all = true;
     for byte in text {
-        if !is_hexadecimal_digit(*byte) {
-            return false;
-        }
+        all = all & is_hexadecimal_digit(*byte);
     }
-    true
+    all
 }
 
 /// Whether a text is bytes in lower-case hexadecimal, at least one of them.
@@ -229,12 +230,10 @@ fn first_length(text: &[u8]) -> usize
     ensures value { result ≡ first_length_of text.now }
     ensures within { result ≤ length text.now }
 {
-    for (before, byte) in text.iter().enumerate() {
-        if *byte == b'\n' {
-            return before;
-        }
+    match memchr(b'\n', text) {
+        Some(before) => before,
+        None => text.len(),
     }
-    text.len()
 }
 
 /// The first line of a text without its line feed, and what follows it: none where the text is

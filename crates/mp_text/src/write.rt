@@ -13,10 +13,7 @@ use std::alloc::Global;
 pub(crate) fn push_bytes(text: &mut Bytes, bytes: &[u8]) -> Result<(), OutOfMemory>
     ensures { OnOk result (text.new ≡ text.old ++ bytes.now) }
 {
-    for byte in bytes {
-        text.push(*byte)?;
-    }
-    Ok(())
+    text.extend_from_slice(bytes)
 }
 
 /// Appends a number in decimal.

@@ -98,7 +98,7 @@ pub(crate) fn decide_replay<S: Source>(
         heuristic: request.heuristic,
         limit: request.limit,
     };
-    replay_by(alloc, team.as_slice(), search, text.as_slice())
+    replay_by(alloc, team.as_slice(), search, text)
 }
 
 /// What is found of a plan, whose file is fetched first, for the agents with these files.

@@ -52,15 +52,15 @@ fn replayed(
     alloc: Global,
     team: &[CheckedFactor],
     search: Search,
-    text: &[u8],
+    text: Vec<u8>,
 ) -> Result<Solution, ReplayRefusal>
     requires from_1 { 1 ≤ search.limit }
     requires limit { search.limit ≤ most_expansions }
     requires some { 1 ≤ length team.now }
     requires at_most { length team.now ≤ 16 }
-    ensures replayed { IfOk result (IsReplayed (values_of search.heuristic) search.limit team.now text.now) }
+    ensures replayed { IfOk result (IsReplayed (values_of search.heuristic) search.limit team.now text.items) }
     ensures within { OnOk result (AreWithin team.now) }
-    ensures refused { IfErr result (Refuses (values_of search.heuristic) search.limit team.now text.now) }
+    ensures refused { IfErr result (Refuses (values_of search.heuristic) search.limit team.now text.items) }
 {
     match search.heuristic {
         Choice::Blind => replay::<Blind>(alloc, team, search.limit, text),
@@ -131,14 +131,14 @@ pub(crate) fn replay_by(
     alloc: Global,
     team: &[CheckedFactor],
     search: Search,
-    text: &[u8],
+    text: Vec<u8>,
 ) -> Result<Decision, Refusal>
     requires from_1 { 1 ≤ search.limit }
     requires limit { search.limit ≤ most_expansions }
     requires some { 1 ≤ length team.now }
     requires at_most { length team.now ≤ 16 }
-    ensures outcome { IfOk result (ReplaysBy (searching_by search) text.now team.now) }
-    ensures refused { IfErr result (IsRefusedTeam (replayed_work (searching_by search)) team.now (text.now ∷ [])) }
+    ensures outcome { IfOk result (ReplaysBy (searching_by search) text.items team.now) }
+    ensures refused { IfErr result (IsRefusedTeam (replayed_work (searching_by search)) team.now (text.items ∷ [])) }
 {
     match replayed(alloc, team, search, text) {
         Ok(solution) => Ok(traced(alloc, solution, true)?),

@@ -1,7 +1,8 @@
 -- Items that are listed with words, one word and one object after the other.
-use Rattle.mp_typing.proofs.Basics.{◌≡◌, ℕ, suc, zero, ◌+◌, ◌<◌, Bool, true, false, cond, List, [], ◌∷◌, ◌++◌, map, length, get_or, take, Some, Bor, refl, sym, ap, subst, ◌∙◌, arith, inl, inr, append_assoc, Contains, filter, slice_get, if◌then◌else◌, bytes_eq, bytes_eq-Decides}
-use Rattle.mp_typing.proofs.Basics.{append-nil, map-append, take_more, length-take-le, length-map, Contains-append_cases, Contains-append_left, Contains-append_right, from_map, to_map, from_flat_map, to_flat_map, no_member, Word, Typed, DeclaredUnder, names_of, listed_by, places_of, directly_under}
+use Rattle.mp_typing.proofs.Basics.{◌≡◌, ℕ, suc, zero, ◌+◌, ◌<◌, Bool, List, [], ◌∷◌, ◌++◌, map, length, get_or, take, Some, Bor, refl, subst, arith, inl, inr, append_assoc, Contains, filter, slice_get, if◌then◌else◌, bytes_eq, bytes_eq-Decides}
+use Rattle.mp_typing.proofs.Basics.{cases_Bool, append-nil, map-append, take_more, length-take-le, length-map, Contains-append_cases, Contains-append_left, Contains-append_right, from_map, to_map, from_flat_map, to_flat_map, no_member, Word, Typed, DeclaredUnder, names_of, listed_by, places_of, directly_under}
 use Rattle.std.proofs.lemmas.Grind.{flat_map-append}
+use Rattle.std.proofs.lemmas.List.Elements.{filter-append}
 use Rattle.mp_typing.proofs.Passing.{taken_passes, taken_from_passes}
 
 -- the words that are a name
@@ -56,70 +57,49 @@ unfolding places_of
 to_places n [] name i o at typed = absurd (cc)
 to_places n (u ∷ us) name zero o at typed =
     let is : u ≡ o = cc in
-    let here : n ≡ n + 0 = omega arith in
-    subst (Contains (places_of n (u ∷ us) name)) here
-    (Contains-append_left (listed_by n u.types name) (places_of (suc n) us name) n
-    (to_listed n u.types name (subst (λ (v : Typed). Contains (names_of v.types) name) (sym is) typed)))
+    let none : n + 0 ≡ n = omega arith in
+    rw none (Contains-append_left (listed_by n u.types name) (places_of (suc n) us name) n (to_listed n u.types name (rw is typed)))
 to_places n (u ∷ us) name (suc i) o at typed =
-    let next : suc n + i ≡ n + suc i = omega arith in
-    subst (Contains (places_of n (u ∷ us) name)) next
-    (Contains-append_right (listed_by n u.types name) (places_of (suc n) us name) (suc n + i) (to_places (suc n) us name i o at typed))
+    let next : n + suc i ≡ suc n + i = omega arith in
+    rw next (Contains-append_right (listed_by n u.types name) (places_of (suc n) us name) (suc n + i) (to_places (suc n) us name i o at typed))
 
 -- ---- one more
 
 listed_push : {T : Type 0} (item : T) (words : List Word) (w : Word) (name : List ℕ)
     → listed_by item (words ++ w ∷ []) name ≡ listed_by item words name ++ (if bytes_eq w.name name then item ∷ [] else [])
-listed_push {T} item [] w name = by (bytes_eq w.name name)
-  where
-    by : (b : Bool) → map (λ (v : Word). item) (cond b (w ∷ []) []) ≡ (if b then item ∷ [] else [])
-    by true = refl
-    by false = refl
-listed_push {T} item (v ∷ vs) w name = by (listed_push item vs w name) (bytes_eq v.name name)
-  where
-    last : List T
-    last = if bytes_eq w.name name then item ∷ [] else []
-
-    by : listed_by item (vs ++ w ∷ []) name ≡ listed_by item vs name ++ last → (b : Bool)
-        → map (λ (u : Word). item) (cond b (v ∷ filter (named name) (vs ++ w ∷ [])) (filter (named name) (vs ++ w ∷ [])))
-        ≡ map (λ (u : Word). item) (cond b (v ∷ filter (named name) vs) (filter (named name) vs)) ++ last
-    by rest true = ap (λ (xs : List T). item ∷ xs) rest
-    by rest false = rest
+listed_push item words w name =
+    rw (filter-append (named name) words (w ∷ []), map-append (λ (v : Word). item) (filter (named name) words) (filter (named name) (w ∷ [])))
+    (elim (cases_Bool (bytes_eq w.name name)) [
+      | inl equal ↦ rw equal refl
+      | inr other ↦ rw other refl
+    ])
 
 -- an item more where a word is the name, and then as listed with one word more
 pub word_more : {T : Type 0} (item copy : T) (words : List Word) (i : ℕ) (w : Word) (name : List ℕ) (old was now : List T) → copy ≡ item
     → i < length words → w ≡ get_or words i w → was ≡ old ++ listed_by item (take i words) name
     → now ≡ (if bytes_eq w.name name then was ++ copy ∷ [] else was) → now ≡ old ++ listed_by item (take (i + 1) words) name
-word_more {T} item copy words i w name old was now copied lt is so_far more =
+word_more item copy words i w name old was now copied lt is so_far more =
     let here = listed_by item (take i words) name in
-    let whole : listed_by item (take (i + 1) words) name ≡ here ++ (if bytes_eq w.name name then item ∷ [] else []) =
-    ap (λ (ws : List Word). listed_by item ws name) (take_more words i w lt ∙ ap (λ (v : Word). take i words ++ v ∷ []) (sym is))
-    ∙ listed_push item (take i words) w name in
-    more ∙ ap (λ (x : T). if bytes_eq w.name name then was ++ x ∷ [] else was) copied ∙ by (bytes_eq w.name name) here so_far ∙ sym (ap (λ (xs : List T). old ++ xs) whole)
-  where
-    by : (b : Bool) (here : List T) → was ≡ old ++ here → (if b then was ++ item ∷ [] else was) ≡ old ++ (here ++ (if b then item ∷ [] else []))
-    by true here e = ap (λ (xs : List T). xs ++ item ∷ []) e ∙ append_assoc old here (item ∷ [])
-    by false here e = e ∙ ap (λ (xs : List T). old ++ xs) (sym (append-nil here))
+    rw (more, copied, so_far, take_more words i w lt, ← is, listed_push item (take i words) w name)
+    (elim (cases_Bool (bytes_eq w.name name)) [
+      | inl equal ↦ rw equal (append_assoc old here (item ∷ []))
+      | inr other ↦ rw (other, append-nil here) refl
+    ])
 
 -- one declaration more
 pub declared_more : (ts : List Typed) (i : ℕ) (t : Typed) (name : List ℕ) → i < length ts → t ≡ get_or ts i t
     → directly_under (take i ts) name ++ listed_by t.word.name t.types name ≡ directly_under (take (i + 1) ts) name
 declared_more ts i t name lt is =
     let f = λ (u : Typed). listed_by u.word.name u.types name in
-    sym (ap (λ (us : List Typed). directly_under us name) (take_more ts i t lt ∙ ap (λ (u : Typed). take i ts ++ u ∷ []) (sym is))
-    ∙ flat_map-append f (take i ts) (t ∷ [])
-    ∙ ap (λ (ns : List (List ℕ)). directly_under (take i ts) name ++ ns) (append-nil (f t)))
+    rw (take_more ts i t lt, ← is, flat_map-append f (take i ts) (t ∷ []), append-nil (f t)) refl
 
 places_push : (n : ℕ) (os : List Typed) (o : Typed) (name : List ℕ)
     → places_of n (os ++ o ∷ []) name ≡ places_of n os name ++ listed_by (n + length os) o.types name
 unfolding places_of
-places_push n [] o name =
-    let here : n ≡ n + 0 = omega arith in
-    append-nil (listed_by n o.types name) ∙ ap (λ (k : ℕ). listed_by k o.types name) here
+places_push n [] o name = let none : n + 0 ≡ n = omega arith in rw (append-nil (listed_by n o.types name), none) refl
 places_push n (u ∷ us) o name =
-    let next : suc n + length us ≡ n + length (u ∷ us) = omega arith in
-    ap (λ (ps : List ℕ). listed_by n u.types name ++ ps)
-    (places_push (suc n) us o name ∙ ap (λ (k : ℕ). places_of (suc n) us name ++ listed_by k o.types name) next)
-    ∙ sym (append_assoc (listed_by n u.types name) (places_of (suc n) us name) (listed_by (n + length (u ∷ us)) o.types name))
+    let next : n + suc (length us) ≡ suc n + length us = omega arith in
+    rw (places_push (suc n) us o name, next, append_assoc (listed_by n u.types name) (places_of (suc n) us name) (listed_by (suc n + length us) o.types name)) refl
 
 -- the objects themselves
 abbrev pub shown : List (Bor Typed) → List Typed
@@ -134,7 +114,4 @@ object_more os i place o name lt is counted =
     let a = length-map (take i os) (λ (u : Bor Typed). u.now) in
     let b = length-take-le i os (omega (arith, lt)) in
     omega (arith, a, b, counted) in
-    sym (ap (λ (us : List (Bor Typed)). places_of 0 (shown us) name) (take_more os i o lt ∙ ap (λ (u : Bor Typed). take i os ++ u ∷ []) (sym is))
-    ∙ ap (λ (us : List Typed). places_of 0 us name) (map-append (λ (u : Bor Typed). u.now) (take i os) (o ∷ []))
-    ∙ places_push 0 first o.now name
-    ∙ ap (λ (k : ℕ). places_of 0 first name ++ listed_by k o.now.types name) long)
+    rw (take_more os i o lt, ← is, map-append (λ (u : Bor Typed). u.now) (take i os) (o ∷ []), places_push 0 first o.now name, long) refl

@@ -1,42 +1,18 @@
 -- The types that are found along the declarations are the tops and all types under them.
-use Rattle.mp_typing.proofs.Basics.{◌≡◌, ℕ, zero, suc, ◌+◌, ◌<◌, ◌≤◌, true, false, List, [], ◌∷◌, ◌++◌, length, get_or, take, Option, Some, None, ◌⊎◌, refl, sym, ap, subst, ◌∙◌, arith, inl, inr, append_assoc, Contains, slice_get, if◌then◌else◌, Decides, cases_Bool, or_cases, or_left, or_right}
+use Rattle.mp_typing.proofs.Basics.{◌≡◌, ℕ, zero, suc, zero-add, ◌+◌, ◌<◌, ◌≤◌, List, [], ◌∷◌, ◌++◌, length, get_or, take, Option, Some, None, ◌⊎◌, refl, sym, ap, subst, ◌∙◌, arith, inl, inr, append_assoc, Contains, slice_get, Decides, cases_Bool, or_cases, or_left, or_right}
 use Rattle.mp_typing.proofs.Basics.{append-nil, length-append, take_more, list_any-append, Contains-append_left, Contains-push, Contains-push_cases, bytes_eq, contains_cases, contains_head, contains_one, contains_tail, no_member, Typed, is_among, DeclaredUnder, IsA, IsUnderOne, same, step, through_object, object_name}
 use Rattle.std.proofs.Common.{◌-◌}
 use Rattle.mp_typing.proofs.Basics.{directly_under, found_after, lies_under, lower, with_lower, with_type, with_types}
 use Rattle.mp_typing.proofs.ByTypeLemmas.{has_under, is_under}
 use Rattle.mp_typing.proofs.Lists.{among_from_contains, contains_from_among}
-use Rattle.mp_typing.proofs.Lowering.{Keeps, outside, outside_at_most, outside_lt}
-use Rattle.std.proofs.lemmas.Option.{slice_get_within}
-
--- ---- places of a list
+use Rattle.mp_typing.proofs.Lowering.{is_outside, outside, outside_lt}
+use Rattle.std.proofs.lemmas.Bool.{cases_lt}
+use Rattle.std.proofs.lemmas.List.{get_or_append_left}
+use Rattle.std.proofs.lemmas.List.Sums.{count_by-le-length}
+use Rattle.std.proofs.lemmas.Option.{get_or_from_slice_get, same_Some, slice_get-get_or, slice_get_past, slice_get_within}
 
 pub member_at : {X : Type 0} (xs : List X) (i : ℕ) (x : X) → slice_get xs i ≡ Some x → Contains xs x
-member_at [] i x at = absurd (cc)
-member_at (y ∷ ys) zero x at = let is : y ≡ x = cc in subst (Contains (y ∷ ys)) is (contains_head y ys)
-member_at (y ∷ ys) (suc i) x at = contains_tail y ys x (member_at ys i x at)
-
-found_at : (xs : List (List ℕ)) (x : List ℕ) → Contains xs x → (i : ℕ) × (slice_get xs i ≡ Some x)
-found_at [] x found = absurd (no_member x found)
-found_at (y ∷ ys) x found =
-    elim (contains_cases y ys x found) [
-      | inl here ↦ (0, ap Some here)
-      | inr there ↦ let (i, at) = found_at ys x there in (suc i, at)
-    ]
-
-at_kept : (xs ys : List (List ℕ)) (i : ℕ) → i < length xs → slice_get (xs ++ ys) i ≡ slice_get xs i
-at_kept [] ys i lt = absurd (omega (arith, lt))
-at_kept (x ∷ xs) ys zero lt = refl
-at_kept (x ∷ xs) ys (suc i) lt = at_kept xs ys i (omega (arith, lt))
-
-below_or_last : (i n : ℕ) → i < suc n → (i < n) ⊎ (i ≡ n)
-below_or_last zero zero lt = inr refl
-below_or_last zero (suc n) lt = inl (omega arith)
-below_or_last (suc i) zero lt = absurd (omega (arith, lt))
-below_or_last (suc i) (suc n) lt =
-    elim (below_or_last i n (omega (arith, lt))) [
-      | inl below ↦ inl (omega (arith, below))
-      | inr last ↦ inr (ap suc last)
-    ]
+member_at xs i x at = (i, slice_get_within xs i x at, get_or_from_slice_get xs i x x at)
 
 -- ---- types more
 
@@ -45,44 +21,31 @@ abbrev Begins : List (List ℕ) → List (List ℕ) → Type 0
 Begins before after = (more : List (List ℕ)) × (after ≡ before ++ more)
 
 begins_on : (a b c : List (List ℕ)) → Begins a b → Begins b c → Begins a c
-begins_on a b c first next = (
-  first.0 ++ next.0,
-  next.1 ∙ ap (λ (xs : List (List ℕ)). xs ++ next.0) first.1 ∙ append_assoc a first.0 next.0,
-)
+begins_on a b c (some, first) (more, next) = (some ++ more, next ∙ ap (λ (xs : List (List ℕ)). xs ++ more) first ∙ append_assoc a some more)
 
 kept : (before after : List (List ℕ)) → Begins before after → (name : List ℕ) → Contains before name → Contains after name
-kept before after b name found =
-    subst (λ (ns : List (List ℕ)). Contains ns name) (sym b.1) (Contains-append_left before b.0 name found)
+kept before after (more, is) name found = rw is (Contains-append_left before more name found)
 
 -- a type that is there, or is new
-old_type : (found : List (List ℕ)) (name : List ℕ) → is_among found name ≡ true → with_type found name ≡ found
-old_type found name there = ap (λ b. if b then found else found ++ name ∷ []) there
-
-new_type : (found : List (List ℕ)) (name : List ℕ) → is_among found name ≡ false → with_type found name ≡ found ++ name ∷ []
-new_type found name absent = ap (λ b. if b then found else found ++ name ∷ []) absent
-
 one_begins : (found : List (List ℕ)) (name : List ℕ) → Begins found (with_type found name)
 one_begins found name =
     elim (cases_Bool (is_among found name)) [
-      | inl there ↦ ([], old_type found name there ∙ sym (append-nil found))
-      | inr absent ↦ (name ∷ [], new_type found name absent)
+      | inl there ↦ rw there ([], sym (append-nil found))
+      | inr absent ↦ rw absent (name ∷ [], refl)
     ]
 
 one_has : (found : List (List ℕ)) (name : List ℕ) → Contains (with_type found name) name
 one_has found name =
     elim (cases_Bool (is_among found name)) [
-      | inl there ↦ subst (λ (ns : List (List ℕ)). Contains ns name) (sym (old_type found name there)) (contains_from_among found name there)
-      | inr absent ↦ subst (λ (ns : List (List ℕ)). Contains ns name) (sym (new_type found name absent)) (Contains-push found name)
+      | inl there ↦ rw there (contains_from_among found name there)
+      | inr absent ↦ rw absent (Contains-push found name)
     ]
 
 one_from : (found : List (List ℕ)) (name other : List ℕ) → Contains (with_type found name) other → Contains found other ⊎ (name ≡ other)
 one_from found name other has =
     elim (cases_Bool (is_among found name)) [
-      | inl there ↦ inl (subst (λ (ns : List (List ℕ)). Contains ns other) (old_type found name there) has)
-      | inr absent ↦ elim (Contains-push_cases found name other (subst (λ (ns : List (List ℕ)). Contains ns other) (new_type found name absent) has)) [
-        | inl old ↦ inl old
-        | inr new ↦ inr new
-      ]
+      | inl there ↦ inl (rw there at has)
+      | inr absent ↦ Contains-push_cases found name other (rw absent at has)
     ]
 
 types_begin : (found names : List (List ℕ)) → Begins found (with_types found names)
@@ -97,8 +60,7 @@ types_have found [] name there = absurd (no_member name there)
 types_have found (n ∷ ns) name there =
     elim (contains_cases n ns name there) [
       | inl here ↦
-          kept (with_type found n) (with_types (with_type found n) ns) (types_begin (with_type found n) ns) name
-          (subst (Contains (with_type found n)) here (one_has found n))
+          kept (with_type found n) (with_types (with_type found n) ns) (types_begin (with_type found n) ns) name (subst (Contains (with_type found n)) here (one_has found n))
       | inr later ↦ types_have (with_type found n) ns name later
     ]
 
@@ -131,33 +93,27 @@ types_long : (found names : List (List ℕ)) → length (with_types found names)
 unfolding with_types
 types_long found [] = omega arith
 types_long found (n ∷ ns) =
+    let rest = types_long (with_type found n) ns in
     let one : length (with_type found n) ≤ length found + 1 =
     elim (cases_Bool (is_among found n)) [
-      | inl there ↦ let is = ap length (old_type found n there) in omega (arith, is)
-      | inr absent ↦ let is = ap length (new_type found n absent) ∙ length-append found (n ∷ []) in omega (arith, is)
+      | inl there ↦ rw there (omega arith)
+      | inr absent ↦ rw absent (omega (arith, length-append found (n ∷ [])))
     ] in
-    let rest : length (with_types (with_type found n) ns) ≤ length (with_type found n) + length ns = types_long (with_type found n) ns in
-    let all : length (with_types (with_type found n) ns) ≤ length found + suc (length ns) = omega (arith, one, rest) in
-    all
+    omega (arith, one, rest)
 
 -- a declared type that is found is one outside no more
 one_counted : (declared : List Typed) (found : List (List ℕ)) (name : List ℕ) (t : Typed) → Contains declared t → t.word.name ≡ name
     → length (with_type found name) + outside (with_type found name) declared ≤ length found + outside found declared
 one_counted declared found name t listed named =
     elim (cases_Bool (is_among found name)) [
-      | inl there ↦
-          subst (λ (ns : List (List ℕ)). length ns + outside ns declared ≤ length found + outside found declared) (sym (old_type found name there))
-          (omega arith)
+      | inl there ↦ rw there (omega arith)
       | inr absent ↦
           let after : List (List ℕ) = found ++ name ∷ [] in
-          let keeps : Keeps found after = λ q h. list_any-append (bytes_eq q) found (name ∷ []) ∙ or_left (is_among found q) (is_among (name ∷ []) q) h in
-          let present : is_among after name ≡ true = among_from_contains after name (Contains-push found name) in
-          let less = outside_lt found after keeps declared listed.0 t listed.1
-          (subst (λ (u : Typed). is_among found u.word.name ≡ false) (sym listed.2) (ap (is_among found) named ∙ absent))
-          (subst (λ (u : Typed). is_among after u.word.name ≡ true) (sym listed.2) (ap (is_among after) named ∙ present)) in
+          let less = outside_lt found after
+          (λ q h. list_any-append (bytes_eq q) found (name ∷ []) ∙ or_left (is_among found q) (is_among (name ∷ []) q) h) declared t listed
+          (ap (is_among found) named ∙ absent) (ap (is_among after) named ∙ among_from_contains after name (Contains-push found name)) in
           let longer = length-append found (name ∷ []) in
-          let one : length after + outside after declared ≤ length found + outside found declared = omega (arith, less, longer) in
-          subst (λ (ns : List (List ℕ)). length ns + outside ns declared ≤ length found + outside found declared) (sym (new_type found name absent)) one
+          rw absent (omega (arith, less, longer))
     ]
 
 types_counted : (declared : List Typed) (found names : List (List ℕ))
@@ -167,12 +123,9 @@ unfolding with_types
 types_counted declared found [] all = omega arith
 types_counted declared found (n ∷ ns) all =
     let (t, listed, named) = all n (contains_head n ns) in
-    let next = with_type found n in
-    let one : length next + outside next declared ≤ length found + outside found declared = one_counted declared found n t listed named in
-    let rest : length (with_types next ns) + outside (with_types next ns) declared ≤ length next + outside next declared =
-    types_counted declared next ns (λ name later. all name (contains_tail n ns name later)) in
-    let whole : length (with_types next ns) + outside (with_types next ns) declared ≤ length found + outside found declared = omega (arith, one, rest) in
-    whole
+    let one = one_counted declared found n t listed named in
+    let rest = types_counted declared (with_type found n) ns (λ name later. all name (contains_tail n ns name later)) in
+    omega (arith, one, rest)
 
 -- ---- the search
 
@@ -191,7 +144,7 @@ begun declared tops =
         | inl none ↦ absurd (no_member name none)
         | inr top ↦ record { top = name; among = top; under = same }
       ];
-      few = (let one = types_long [] tops in let two = outside_at_most (with_types [] tops) declared in omega (arith, one, two));
+      few = (let one = types_long [] tops in let two = count_by-le-length (is_outside (with_types [] tops)) declared in omega (arith, one, two));
       looked = λ i name sub lt at d. absurd (omega (arith, lt));
     }
 
@@ -202,9 +155,9 @@ looks declared tops n found None at s =
       has_tops = s.has_tops;
       under = s.under;
       few = s.few;
-      looked = λ i name sub lt there d. elim (below_or_last i n lt) [
+      looked = λ i name sub lt there d. elim (cases_lt i n) [
         | inl below ↦ s.looked i name sub below there d
-        | inr last ↦ absurd (let no : None ≡ Some name = sym at ∙ ap (slice_get found) (sym last) ∙ there in cc)
+        | inr last ↦ absurd (let here : i ≡ n = omega (arith, lt, last) in let no : None ≡ Some name = sym at ∙ ap (slice_get found) (sym here) ∙ there in cc)
       ];
     }
 looks declared tops n found (Some m) at s =
@@ -223,14 +176,14 @@ looks declared tops n found (Some m) at s =
           omega (arith, less, so_far));
       looked = λ i name sub lt there d.
           let inside : i < length found = let b = slice_get_within found n m at in omega (arith, b, lt) in
-          let was : slice_get found i ≡ Some name =
-          sym (ap (λ (ns : List (List ℕ)). slice_get ns i) begins.1 ∙ at_kept found begins.0 i inside) ∙ there in
-          elim (below_or_last i n lt) [
+          let same = sym (ap (λ (ns : List (List ℕ)). get_or ns i name) begins.1 ∙ get_or_append_left found begins.0 name i inside) ∙ get_or_from_slice_get after i name name there in
+          let was : slice_get found i ≡ Some name = slice_get-get_or found i name inside ∙ ap Some same in
+          elim (cases_lt i n) [
             | inl below ↦ kept found after begins sub (s.looked i name sub below was d)
             | inr last ↦
-                let both : Some name ≡ Some m = sym was ∙ ap (slice_get found) last ∙ at in
-                let is : name ≡ m = cc in
-                types_have found more sub (has_under declared m sub (subst (DeclaredUnder declared sub) is d))
+                let here : i ≡ n = omega (arith, lt, last) in
+                let is : name ≡ m = same_Some name m (sym was ∙ ap (slice_get found) here ∙ at) in
+                types_have found more sub (has_under declared m sub (rw is at d))
           ];
     }
 
@@ -250,22 +203,14 @@ pub none_looked_at : (declared : List Typed) (tops : List (List ℕ)) → with_t
 unfolding found_after
 none_looked_at declared tops = refl
 
-get_beyond : (xs : List (List ℕ)) (i : ℕ) → length xs ≤ i → slice_get xs i ≡ None
-get_beyond [] i le = refl
-get_beyond (x ∷ xs) zero le = absurd (omega (arith, le))
-get_beyond (x ∷ xs) (suc i) le = get_beyond xs i (omega (arith, le))
-
 -- once each that is found was looked at, no more are found
 no_more : (declared : List Typed) (tops : List (List ℕ)) (n more : ℕ) → length (found_after declared tops n) ≤ n → found_after declared tops (more + n) ≡ found_after declared tops n
 unfolding found_after
-no_more declared tops n zero all = let same : 0 + n ≡ n = omega arith in ap (found_after declared tops) same
+no_more declared tops n zero all = ap (found_after declared tops) (zero-add n)
 no_more declared tops n (suc more) all =
-    let rest = no_more declared tops n more all in
-    let none : slice_get (found_after declared tops n) (more + n) ≡ None = get_beyond (found_after declared tops n) (more + n) (omega (arith, all)) in
+    let none = slice_get_past (found_after declared tops n) (more + n) (omega (arith, all)) in
     let next : suc more + n ≡ suc (more + n) = omega arith in
-    ap (found_after declared tops) next
-    ∙ ap (λ (ns : List (List ℕ)). with_lower declared ns (slice_get ns (more + n))) rest
-    ∙ ap (with_lower declared (found_after declared tops n)) none
+    rw (next, no_more declared tops n more all, none) refl
 
 pub all_looked_at : (declared : List Typed) (tops : List (List ℕ)) (n : ℕ) → n ≤ length tops + length declared → length (found_after declared tops n) ≤ n → found_after declared tops n ≡ lower declared tops
 all_looked_at declared tops n within all =
@@ -288,10 +233,9 @@ closed : (declared : List Typed) (tops : List (List ℕ)) (sub middle : List ℕ
     → Contains (lower declared tops) middle → Contains (lower declared tops) sub
 closed declared tops sub middle d there =
     let s = all_found declared tops in
-    let (i, at) = found_at (lower declared tops) middle there in
-    let lt = slice_get_within (lower declared tops) i middle at in
+    let (i, lt, is) = there in
     let few = s.few in
-    s.looked i middle sub (omega (arith, lt, few)) at d
+    s.looked i middle sub (omega (arith, lt, few)) (slice_get-get_or (lower declared tops) i middle lt ∙ ap Some is) d
 
 -- a type under one that is found is found, or `object` is
 pub reaches : (declared : List Typed) (tops : List (List ℕ)) {sub sup : List ℕ} → IsA declared sub sup → Contains (lower declared tops) sup

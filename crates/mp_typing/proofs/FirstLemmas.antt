@@ -39,9 +39,7 @@ fault_by (stage ∷ file ∷ line ∷ column ∷ rank ∷ name) other =
 fault_by _ other = other
 
 of_order : (a b : Fault) → fault_by (order_of a) b ≡ a
-of_order a b =
-    ap (λ (k : FaultKind). record { kind = k; found = record { file = file_of (file_rank_of a.found.file); at = a.found.at; name = a.found.name } }) (kind_of-rank a.kind)
-    ∙ ap (λ (f : File). record { kind = a.kind; found = record { file = f; at = a.found.at; name = a.found.name } }) (file_of-rank a.found.file)
+of_order a b = rw (kind_of-rank a.kind, file_of-rank a.found.file) refl
 
 apart : (a b : Fault) → order_of a ≡ order_of b → a ≡ b
 apart a b e = sym (of_order a a) ∙ ap (λ (ns : List ℕ). fault_by ns a) e ∙ of_order b a

@@ -1,10 +1,12 @@
 -- The numbers that are answered are those of the objects that are of an asked type.
-use Rattle.mp_typing.proofs.Basics.{◌≡◌, ℕ, zero, suc, ◌<◌, true, false, ◌||◌, ◌==◌, List, [], ◌∷◌, length, Some, refl, sym, subst, ◌∙◌, inl, inr, arith, zero-add, ◌↔◌, Contains, slice_get, flat_map, range_with_len, IsStrictlyIncreasing}
-use Rattle.mp_typing.proofs.Basics.{or_cases, or_left, or_right, from_flat_map, to_flat_map, Typed, is_among, has_any, object_name, Members, items_of, places_of, lower, HasObjects}
+use Rattle.mp_typing.proofs.Basics.{◌≡◌, ℕ, zero, suc, ◌<◌, true, false, ◌||◌, ◌==◌, List, [], ◌∷◌, length, Some, refl, sym, subst, ◌∙◌, arith, zero-add, ◌↔◌, Contains, slice_get, flat_map, range_with_len, IsStrictlyIncreasing}
+use Rattle.mp_typing.proofs.Basics.{or_left, or_right, from_flat_map, to_flat_map, Typed, is_among, has_any, object_name, Members, items_of, places_of, lower, HasObjects}
 use Rattle.mp_typing.proofs.ByTypeLemmas.{in_places, to_places}
 use Rattle.mp_typing.proofs.Lists.{any_from_name, among_from_contains, contains_from_among, some_name}
 use Rattle.mp_typing.proofs.Placing.{members_pass}
 use Rattle.mp_typing.proofs.RangeLemmas.{in_range, range_rises}
+use Rattle.mp_list.proofs.Bools.{or_all}
+use Rattle.std.proofs.lemmas.Bool.{or_parts}
 use Rattle.std.proofs.lemmas.Option.{slice_get_within}
 
 -- an item is at each place of a list
@@ -28,10 +30,7 @@ are_all declared objects asked numbers count counted is all =
           let any = has_any (lower declared asked) t.types in (
             t,
             at,
-            elim (or_cases none object all) [
-              | inl h ↦ or_left none (object || any) h
-              | inr h ↦ or_right none (object || any) (or_left object any h)
-            ],
+            sym (or_all none object any) ∙ or_left (none || object) any all,
           )),
       (λ p.
           let (t, at, ok) = p in
@@ -60,13 +59,8 @@ are_listed declared objects asked entries found' numbers listed same' (rising, a
           (t, subst (λ (j : ℕ). slice_get objects j ≡ Some t) same at, or_right none (object || has_any found t.types) (or_right object (has_any found t.types) any))),
       (λ p.
           let (t, at, ok) = p in
-          let any : has_any found t.types ≡ true = elim (or_cases none (object || has_any found t.types) ok) [
-            | inl h ↦ absurd (let no : true ≡ false = sym (or_left none object h) ∙ some in cc)
-            | inr h ↦ elim (or_cases object (has_any found t.types) h) [
-              | inl h' ↦ absurd (let no : true ≡ false = sym (or_right none object h') ∙ some in cc)
-              | inr h' ↦ h'
-            ]
-          ] in
+          let (typed_none, no_object) = or_parts none object some in
+          let any : has_any found t.types ≡ true = rw (typed_none, no_object) at ok in
           let (name, typed, among) = some_name found t.types any in
           let there : Contains (items_of entries name) place =
           subst (λ (ps : List ℕ). Contains ps place) (sym (listed name))

@@ -1,7 +1,8 @@
 -- The first declaration of each name, one declaration after the other.
-use Rattle.mp_typing.proofs.Basics.{◌≡◌, ℕ, ◌+◌, ◌<◌, Bool, true, false, ◌||◌, not, List, [], ◌∷◌, ◌++◌, map, length, get_or, take, refl, sym, ap, ◌∙◌, inl, inr, append_assoc, arith, is_some, bytes_eq, cases_Bool, or_cases, not-true, take_more}
+use Rattle.mp_typing.proofs.Basics.{◌≡◌, ℕ, ◌+◌, ◌<◌, Bool, true, false, not, List, [], ◌∷◌, ◌++◌, map, length, get_or, take, refl, sym, ap, ◌∙◌, inl, inr, append_assoc, arith, is_some, bytes_eq, cases_Bool, not-true, take_more}
 use Rattle.mp_typing.proofs.Basics.{append-nil, length-append, length-take-le, Typed, is_among, Entry, number_of, SameNumbers, AreFound, is_object, first_declared}
-use Rattle.std.proofs.lemmas.Bool.{not-false}
+use Rattle.std.proofs.lemmas.Bool.{not-false, or_parts}
+use Rattle.mp_list.proofs.Bools.{or_false}
 use Rattle.std.proofs.lemmas.List.Elements.{filter-append}
 use Rattle.mp_typing.specs.ObjectList.{others}
 use Rattle.mp_typing.proofs.LookupLemmas.{is_placed, place_added, places_none}
@@ -16,15 +17,8 @@ pub with_new : (ds : List Typed) (t : Typed) → is_declared ds t.word.name ≡ 
 unfolding first_declared
 with_new [] t h = refl
 with_new (d ∷ ds) t h =
-    elim (cases_Bool (bytes_eq t.word.name d.word.name)) [
-      | inl same ↦ absurd (let yes : (bytes_eq t.word.name d.word.name || is_declared ds t.word.name) ≡ true = rw same refl in let no = sym yes ∙ h in cc)
-      | inr other ↦
-          let absent : is_declared ds t.word.name ≡ false = sym (ap (λ b. b || is_declared ds t.word.name) other) ∙ h in
-          let one : others d.word.name (t ∷ []) ≡ t ∷ [] = rw other refl in
-          ap (λ (ts : List Typed). d ∷ ts)
-          (ap (others d.word.name) (with_new ds t absent) ∙ filter-append (λ (u : Typed). not (bytes_eq u.word.name d.word.name)) (first_declared ds) (t ∷ [])
-          ∙ ap (λ (ts : List Typed). others d.word.name (first_declared ds) ++ ts) one)
-    ]
+    let (other, absent) = or_parts (bytes_eq t.word.name d.word.name) (is_declared ds t.word.name) h in
+    rw (with_new ds t absent, filter-append (λ (u : Typed). not (bytes_eq u.word.name d.word.name)) (first_declared ds) (t ∷ []), other) refl
 
 -- and of one that is
 pub with_old : (ds : List Typed) (t : Typed) → is_declared ds t.word.name ≡ true → first_declared (ds ++ t ∷ []) ≡ first_declared ds
@@ -32,25 +26,21 @@ unfolding first_declared
 with_old [] t h = absurd (cc)
 with_old (d ∷ ds) t h =
     elim (cases_Bool (is_declared ds t.word.name)) [
-      | inl before ↦ ap (λ (ts : List Typed). d ∷ others d.word.name ts) (with_old ds t before)
+      | inl before ↦ rw (with_old ds t before) refl
       | inr absent ↦
-          let same : bytes_eq t.word.name d.word.name ≡ true =
-          elim (or_cases (bytes_eq t.word.name d.word.name) (is_declared ds t.word.name) h) [
-            | inl is ↦ is
-            | inr before ↦ absurd (let no = sym before ∙ absent in cc)
-          ] in
-          let none : others d.word.name (t ∷ []) ≡ [] = rw same refl in
-          ap (λ (ts : List Typed). d ∷ ts)
-          (ap (others d.word.name) (with_new ds t absent) ∙ filter-append (λ (u : Typed). not (bytes_eq u.word.name d.word.name)) (first_declared ds) (t ∷ [])
-          ∙ ap (λ (ts : List Typed). others d.word.name (first_declared ds) ++ ts) none ∙ append-nil (others d.word.name (first_declared ds)))
+          let same : bytes_eq t.word.name d.word.name ≡ true = sym (or_false (bytes_eq t.word.name d.word.name)) ∙ rw absent at h in
+          rw (
+            with_new ds t absent,
+            filter-append (λ (u : Typed). not (bytes_eq u.word.name d.word.name)) (first_declared ds) (t ∷ []),
+            same,
+            append-nil (others d.word.name (first_declared ds)),
+          ) refl
     ]
 
 declared_object : (ds : List Typed) (name : List ℕ) → is_object ds name ≡ is_declared ds name
 unfolding is_object
 declared_object [] name = refl
-declared_object (d ∷ ds) name =
-    ap (λ b. b || is_object ds name) (swapped d.word.name name)
-    ∙ ap (λ b. bytes_eq name d.word.name || b) (declared_object ds name)
+declared_object (d ∷ ds) name = rw (swapped d.word.name name, declared_object ds name) refl
 
 -- nothing is declared
 pub found_none : (places : List Entry) (listed : List Typed) → places ≡ [] → listed ≡ [] → AreFound [] places listed
@@ -82,13 +72,9 @@ found_old declared listed t place is_new places after at found is old added =
 -- the declarations up to a place, with the one there
 pub one_more : (before declared : List Typed) (i : ℕ) (t : Typed) → i < length declared → t ≡ get_or declared i t
     → (before ++ take i declared) ++ t ∷ [] ≡ before ++ take (i + 1) declared
-one_more before declared i t lt is =
-    append_assoc before (take i declared) (t ∷ [])
-    ∙ ap (λ (ts : List Typed). before ++ ts) (sym (take_more declared i t lt ∙ ap (λ (u : Typed). take i declared ++ u ∷ []) (sym is)))
+one_more before declared i t lt is = rw (append_assoc before (take i declared) (t ∷ []), take_more declared i t lt, ← is) refl
 
 -- how many there are up to a place
 pub count_before : (before declared : List Typed) (first i : ℕ) → length before ≡ first → i < length declared → length (before ++ take i declared) ≡ first + i
 count_before before declared first i long lt =
-    let short : length (take i declared) ≡ i = length-take-le i declared (omega (arith, lt)) in
-    let all : length (before ++ take i declared) ≡ length before + length (take i declared) = length-append before (take i declared) in
-    omega (arith, short, all, long)
+    rw (length-append before (take i declared), long, length-take-le i declared (omega (arith, lt))) refl

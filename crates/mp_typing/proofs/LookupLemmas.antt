@@ -1,6 +1,6 @@
 -- What an index says of the signatures and objects that are put into it, one after the other.
-use Rattle.mp_typing.proofs.Basics.{◌≡◌, ℕ, suc, ◌+◌, ◌<◌, Bool, true, false, ◌||◌, cond, List, [], ◌∷◌, ◌++◌, length, get_or, take, Option, Some, None, refl, sym, ap, ◌∙◌, arith, take_more, find, slice_get, if◌then◌else◌, list_any, is_some}
-use Rattle.mp_typing.proofs.Basics.{option_or, bytes_eq, Typed, Signature, Entry, number_of, SameNumbers, HasArities, arity_of, is_object}
+use Rattle.mp_typing.proofs.Basics.{◌≡◌, ℕ, suc, ◌+◌, ◌<◌, Bool, true, false, cond, List, [], ◌∷◌, ◌++◌, length, get_or, take, Option, Some, None, refl, sym, ap, ◌∙◌, arith, take_more, find, slice_get, if◌then◌else◌, list_any, is_some}
+use Rattle.mp_typing.proofs.Basics.{option_or, zero-add, inl, inr, cases_Bool, bytes_eq, Typed, Signature, Entry, number_of, SameNumbers, HasArities, arity_of, is_object}
 use Rattle.std.proofs.lemmas.Bool.{ltb-false}
 use Rattle.std.proofs.lemmas.List.Folds.{find-append, find_at}
 use Rattle.std.proofs.lemmas.Iterator.Adapters.{position_from-zero}
@@ -9,7 +9,7 @@ use Rattle.std.specs.Prelude.{nat_lt}
 use Rattle.std.specs.List.{position_from, position_or_len}
 use Rattle.std.specs.Option.{option_map}
 use Rattle.mp_typing.specs.Indexed.{HasPlaces}
-use Rattle.mp_typing.proofs.IndexLemmas.{alone, number_push}
+use Rattle.mp_typing.proofs.IndexLemmas.{alone, moves_in, number_push}
 
 -- ---- numbers of parameters
 
@@ -40,43 +40,25 @@ pub arities_on : (index after : List Entry) (ss : List Signature) (i : ℕ) (s :
     → HasArities index (take i ss) → SameNumbers after (index ++ record { name = s.word.name; number = length s.params } ∷ [])
     → HasArities after (take (i + 1) ss)
 arities_on index after ss i s lt is has added name =
-    added name ∙ number_push name index (arity_entry s)
-    ∙ ap (λ (o : Option ℕ). option_or o (alone (arity_entry s) name)) (has name)
-    ∙ sym (arity_push (take i ss) s name)
-    ∙ ap (λ (ts : List Signature). arity_of ts name) (sym (take_more ss i s lt ∙ ap (λ (t : Signature). take i ss ++ t ∷ []) (sym is)))
+    rw (added name, number_push name index (arity_entry s), has name, take_more ss i s lt, ← is) (sym (arity_push (take i ss) s name))
 
 -- ---- places of objects
 
 abbrev named : List ℕ → Typed → Bool
 named name o = bytes_eq o.word.name name
 
-moves_in : (b : Bool) (n : ℕ) (x y : Option ℕ) → cond b (Some n) (option_or x y) ≡ option_or (cond b (Some n) x) y
-moves_in true n x y = refl
-moves_in false n x y = refl
-
 position_push : (test : Typed → Bool) (n : ℕ) (xs : List Typed) (x : Typed)
     → position_from test n (xs ++ x ∷ []) ≡ option_or (position_from test n xs) (cond (test x) (Some (n + length xs)) None)
-position_push test n [] x =
-    let none : n ≡ n + 0 = omega arith in
-    ap (λ (k : ℕ). cond (test x) (Some k) None) none
+position_push test n [] x = let none : n + 0 ≡ n = omega arith in rw none refl
 position_push test n (y ∷ ys) x =
-    let more : n + 1 + length ys ≡ n + suc (length ys) = omega arith in
-    ap (λ (o : Option ℕ). cond (test y) (Some n) o) (position_push test (n + 1) ys x)
-    ∙ moves_in (test y) n (position_from test (n + 1) ys) (cond (test x) (Some (n + 1 + length ys)) None)
-    ∙ ap (λ (k : ℕ). option_or (cond (test y) (Some n) (position_from test (n + 1) ys)) (cond (test x) (Some k) None)) more
-
-alone_placed : (b : Bool) (n m : ℕ) → n ≡ m → (if b then Some n else None) ≡ cond b (Some m) None
-alone_placed true n m e = ap Some e
-alone_placed false n m e = refl
+    let more : n + suc (length ys) ≡ n + 1 + length ys = omega arith in
+    rw (position_push test (n + 1) ys x, more) (moves_in (test y) n (position_from test (n + 1) ys) (cond (test x) (Some (n + 1 + length ys)) None))
 
 -- one more object
 pub place_added : (index after : List Entry) (xs : List Typed) (x : Typed) (n : ℕ) → n ≡ length xs
     → HasPlaces index xs → SameNumbers after (index ++ record { name = x.word.name; number = n } ∷ []) → HasPlaces after (xs ++ x ∷ [])
 place_added index after xs x n at has added name =
-    added name ∙ number_push name index record { name = x.word.name; number = n }
-    ∙ ap (λ (o : Option ℕ). option_or o (alone record { name = x.word.name; number = n } name)) (has name)
-    ∙ ap (λ (o : Option ℕ). option_or (position_from (named name) 0 xs) o) (alone_placed (named name x) n (0 + length xs) (omega (arith, at)))
-    ∙ sym (position_push (named name) 0 xs x)
+    rw (added name, number_push name index record { name = x.word.name; number = n }, has name, at, position_push (named name) 0 xs x, zero-add (length xs)) refl
 
 pub places_none : (index : List Entry) → index ≡ [] → HasPlaces index []
 unfolding number_of
@@ -101,14 +83,13 @@ first_at entries xs name r has is =
     ap (λ (o : Option ℕ). object_by o xs) (is ∙ has name ∙ sym (position_from-zero (named name) xs))
     ∙ by_place xs at (nat_lt at (length xs)) refl ∙ sym (find_at (named name) xs)
 
-some_or : (b : Bool) (n : ℕ) (o : Option ℕ) → is_some (cond b (Some n) o) ≡ (b || is_some o)
-some_or true n o = refl
-some_or false n o = refl
-
 some_placed : (test : Typed → Bool) (n : ℕ) (xs : List Typed) → is_some (position_from test n xs) ≡ list_any test xs
 some_placed test n [] = refl
 some_placed test n (x ∷ xs) =
-    some_or (test x) n (position_from test (n + 1) xs) ∙ ap (λ (b : Bool). test x || b) (some_placed test (n + 1) xs)
+    elim (cases_Bool (test x)) [
+      | inl here ↦ rw here refl
+      | inr other ↦ rw other (some_placed test (n + 1) xs)
+    ]
 
 -- there is a place exactly where one has the name
 pub is_placed : (entries : List Entry) (xs : List Typed) (name : List ℕ) → HasPlaces entries xs

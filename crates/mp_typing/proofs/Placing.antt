@@ -1,23 +1,11 @@
 -- The places of the items that pass a test.
 use Rattle.mp_typing.proofs.Basics.{◌≡◌, ℕ, zero, suc, ◌+◌, ◌<◌, ◌≤◌, Bool, true, false, List, [], ◌∷◌, ◌++◌, length, get_or, drop, Some, refl, sym, ap, subst, ◌∙◌, inl, inr, append_assoc, arith, zero-add, Contains, slice_get, ◌↔◌}
 use Rattle.mp_typing.proofs.Basics.{IsStrictlyIncreasing, drop_of_length-le, cases_Bool, drop_more, append-nil, Typed, Members, is_of_type, contains_cases, contains_head, contains_tail, no_member}
-use Rattle.std.specs.Prelude.{slice_index}
+use Rattle.std.proofs.lemmas.List.Elements.{Contains-get_or}
 use Rattle.mp_typing.specs.Places.{numbers_where}
 use Rattle.mp_typing.proofs.Typing.{is_of_type_decides}
 
 -- ---- one item after the other
-
-pub places_in : {X : Type 0} (test : X → Bool) (n : ℕ) (t : X) (ts : List X) → test t ≡ true → numbers_where n test (t ∷ ts) ≡ n ∷ numbers_where (suc n) test ts
-unfolding numbers_where
-places_in test n t ts h = rw h refl
-
-pub places_out : {X : Type 0} (test : X → Bool) (n : ℕ) (t : X) (ts : List X) → test t ≡ false → numbers_where n test (t ∷ ts) ≡ numbers_where (suc n) test ts
-unfolding numbers_where
-places_out test n t ts h = rw h refl
-
-pub places_none : {X : Type 0} (test : X → Bool) (n : ℕ) → numbers_where n test [] ≡ []
-unfolding numbers_where
-places_none test n = refl
 
 -- what is left at a place is the item there and what is left behind it
 left_there : {X : Type 0} (xs : List X) (i : ℕ) (x : X) → i < length xs → x ≡ get_or xs i x → drop i xs ≡ x ∷ drop (i + 1) xs
@@ -27,97 +15,55 @@ pub placed : {X : Type 0} (test : X → Bool) (numbers whole : List ℕ) (n i : 
     → i < length xs → x ≡ get_or xs i x → test x ≡ true
     → numbers ++ numbers_where n test (drop i xs) ≡ whole
     → (numbers ++ n ∷ []) ++ numbers_where (n + 1) test (drop (i + 1) xs) ≡ whole
+unfolding numbers_where
 placed test numbers whole n i xs x lt is passes so_far =
-    let rest = drop (i + 1) xs in
-    let next : suc n ≡ n + 1 = omega arith in
-    append_assoc numbers (n ∷ []) (numbers_where (n + 1) test rest)
-    ∙ ap (λ (m : ℕ). numbers ++ n ∷ numbers_where m test rest) (sym next)
-    ∙ ap (λ (ns : List ℕ). numbers ++ ns) (sym (ap (numbers_where n test) (left_there xs i x lt is) ∙ places_in test n x rest passes))
-    ∙ so_far
+    let next : n + 1 ≡ suc n = omega arith in
+    rw (next, append_assoc numbers (n ∷ []) (numbers_where (suc n) test (drop (i + 1) xs))) (rw (left_there xs i x lt is, passes) at so_far)
 
 pub skipped : {X : Type 0} (test : X → Bool) (numbers whole : List ℕ) (n i : ℕ) (xs : List X) (x : X)
     → i < length xs → x ≡ get_or xs i x → test x ≡ false
     → numbers ++ numbers_where n test (drop i xs) ≡ whole
     → numbers ++ numbers_where (n + 1) test (drop (i + 1) xs) ≡ whole
+unfolding numbers_where
 skipped test numbers whole n i xs x lt is fails so_far =
-    let rest = drop (i + 1) xs in
-    let next : suc n ≡ n + 1 = omega arith in
-    ap (λ (m : ℕ). numbers ++ numbers_where m test rest) (sym next)
-    ∙ ap (λ (ns : List ℕ). numbers ++ ns) (sym (ap (numbers_where n test) (left_there xs i x lt is) ∙ places_out test n x rest fails))
-    ∙ so_far
+    let next : n + 1 ≡ suc n = omega arith in rw next (rw (left_there xs i x lt is, fails) at so_far)
 
 pub all_placed : {X : Type 0} (test : X → Bool) (numbers whole : List ℕ) (n i : ℕ) (xs : List X) → length xs ≤ i
     → numbers ++ numbers_where n test (drop i xs) ≡ whole → numbers ≡ whole
-all_placed test numbers whole n i xs end so_far =
-    let none : drop i xs ≡ [] = drop_of_length-le xs end in
-    sym (append-nil numbers) ∙ sym (ap (λ (ns : List ℕ). numbers ++ ns) (ap (numbers_where n test) none ∙ places_none test n)) ∙ so_far
-
--- ---- the places rise
-
-in_rest : (n : ℕ) (ns : List ℕ) (k : ℕ) → k < length (n ∷ ns) → ((j : ℕ) → j < length ns → n ≤ slice_index ns j) → n ≤ slice_index (n ∷ ns) k
-in_rest n ns zero lt rest = omega arith
-in_rest n ns (suc k) lt rest = rest k (omega arith)
-
-at_least : {X : Type 0} (test : X → Bool) (n : ℕ) (ts : List X) (k : ℕ) → k < length (numbers_where n test ts) → n ≤ slice_index (numbers_where n test ts) k
-at_least test n [] k lt = absurd (let none = ap length (places_none test n) in omega arith)
-at_least test n (t ∷ ts) k lt =
-    elim (cases_Bool (test t)) [
-      | inl passes ↦
-          let is = places_in test n t ts passes in
-          subst (λ (ns : List ℕ). n ≤ slice_index ns k) (sym is) (in_rest n (numbers_where (suc n) test ts) k (subst (λ (ns : List ℕ). k < length ns) is lt) (λ j h. let far = at_least test (suc n) ts j h in omega arith))
-      | inr fails ↦
-          let is = places_out test n t ts fails in
-          subst (λ (ns : List ℕ). n ≤ slice_index ns k) (sym is) (let far = at_least test (suc n) ts k (subst (λ (ns : List ℕ). k < length ns) is lt) in omega arith)
-    ]
-
-rises : (n : ℕ) (ns : List ℕ) → ((j : ℕ) → j < length ns → suc n ≤ slice_index ns j) → IsStrictlyIncreasing ns → IsStrictlyIncreasing (n ∷ ns)
-rises n ns above rest zero lt = above 0 (omega arith)
-rises n ns above rest (suc k) lt =
-    let next : suc (k + 1) ≡ suc k + 1 = omega arith in
-    subst (λ (j : ℕ). slice_index ns k < slice_index (n ∷ ns) j) next (rest k (omega arith))
-
-pub places_rise : {X : Type 0} (test : X → Bool) (n : ℕ) (ts : List X) → IsStrictlyIncreasing (numbers_where n test ts)
-places_rise test n [] = λ k lt. absurd (let none = ap length (places_none test n) in omega arith)
-places_rise test n (t ∷ ts) =
-    elim (cases_Bool (test t)) [
-      | inl passes ↦ subst IsStrictlyIncreasing (sym (places_in test n t ts passes)) (rises n (numbers_where (suc n) test ts) (at_least test (suc n) ts) (places_rise test (suc n) ts))
-      | inr fails ↦ subst IsStrictlyIncreasing (sym (places_out test n t ts fails)) (places_rise test (suc n) ts)
-    ]
+unfolding numbers_where
+all_placed test numbers whole n i xs end so_far = sym (append-nil numbers) ∙ rw (drop_of_length-le xs end) at so_far
 
 -- ---- which places there are
 
 -- a place is the place of an item that passes
 from_places : {X : Type 0} (test : X → Bool) (n : ℕ) (ts : List X) (m : ℕ) → Contains (numbers_where n test ts) m
     → (i : ℕ) × (t : X) × (m ≡ n + i) × (slice_get ts i ≡ Some t) × (test t ≡ true)
-from_places test n [] m found = absurd (let none = subst (λ (ns : List ℕ). Contains ns m) (places_none test n) found in no_member m none)
+unfolding numbers_where
+from_places test n [] m found = absurd (no_member m found)
 from_places test n (t ∷ ts) m found =
     elim (cases_Bool (test t)) [
-      | inl passes ↦
-          elim (contains_cases n (numbers_where (suc n) test ts) m (subst (λ (ns : List ℕ). Contains ns m) (places_in test n t ts passes) found)) [
-            | inl here ↦ (0, t, omega arith, refl, passes)
-            | inr there ↦ let (i, u, is, at, ok) = from_places test (suc n) ts m there in (suc i, u, omega arith, at, ok)
-          ]
-      | inr fails ↦
-          let (i, u, is, at, ok) = from_places test (suc n) ts m (subst (λ (ns : List ℕ). Contains ns m) (places_out test n t ts fails) found) in
-          (suc i, u, omega arith, at, ok)
+      | inl passes ↦ elim (contains_cases n (numbers_where (suc n) test ts) m (rw passes at found)) [
+        | inl here ↦ (0, t, omega arith, refl, passes)
+        | inr there ↦ let (i, u, is, at, ok) = from_places test (suc n) ts m there in (suc i, u, omega arith, at, ok)
+      ]
+      | inr fails ↦ let (i, u, is, at, ok) = from_places test (suc n) ts m (rw fails at found) in (suc i, u, omega arith, at, ok)
     ]
 
 -- an item that passes has its place
 to_places : {X : Type 0} (test : X → Bool) (n : ℕ) (ts : List X) (i : ℕ) (t : X) → slice_get ts i ≡ Some t → test t ≡ true → Contains (numbers_where n test ts) (n + i)
+unfolding numbers_where
 to_places test n [] i t at ok = absurd (cc)
 to_places test n (u ∷ us) zero t at ok =
     let is : u ≡ t = cc in
-    let here : n ≡ n + 0 = omega arith in
-    subst (Contains (numbers_where n test (u ∷ us))) here
-    (subst (λ (ns : List ℕ). Contains ns n) (sym (places_in test n u us (ap test is ∙ ok))) (contains_head n (numbers_where (suc n) test us)))
+    let none : n + 0 ≡ n = omega arith in
+    rw (none, ap test is ∙ ok) (contains_head n (numbers_where (suc n) test us))
 to_places test n (u ∷ us) (suc i) t at ok =
     let there = to_places test (suc n) us i t at ok in
-    let next : suc n + i ≡ n + suc i = omega arith in
-    subst (Contains (numbers_where n test (u ∷ us))) next
-    (elim (cases_Bool (test u)) [
-      | inl passes ↦ subst (λ (ns : List ℕ). Contains ns (suc n + i)) (sym (places_in test n u us passes)) (contains_tail n (numbers_where (suc n) test us) (suc n + i) there)
-      | inr fails ↦ subst (λ (ns : List ℕ). Contains ns (suc n + i)) (sym (places_out test n u us fails)) there
-    ])
+    let next : n + suc i ≡ suc n + i = omega arith in
+    elim (cases_Bool (test u)) [
+      | inl passes ↦ rw (next, passes) (contains_tail n (numbers_where (suc n) test us) (suc n + i) there)
+      | inr fails ↦ rw (next, fails) there
+    ]
 
 -- counted from 0
 pub place_passes : {X : Type 0} (test : X → Bool) (xs : List X) (n : ℕ) → Contains (numbers_where 0 test xs) n
@@ -130,6 +76,22 @@ place_passes test xs n found =
 pub passing_place : {X : Type 0} (test : X → Bool) (xs : List X) (n : ℕ) (x : X) → slice_get xs n ≡ Some x → test x ≡ true
     → Contains (numbers_where 0 test xs) n
 passing_place test xs n x at ok = subst (Contains (numbers_where 0 test xs)) (zero-add n) (to_places test 0 xs n x at ok)
+
+-- ---- the places rise
+
+rises : (n : ℕ) (ns : List ℕ) → ((m : ℕ) → Contains ns m → suc n ≤ m) → IsStrictlyIncreasing ns → IsStrictlyIncreasing (n ∷ ns)
+rises n ns above rest zero lt = above (get_or ns 0 0) (Contains-get_or ns 0 0 (omega (arith, lt)))
+rises n ns above rest (suc k) lt = let next : suc k + 1 ≡ suc (k + 1) = omega arith in rw next (rest k (omega arith))
+
+pub places_rise : {X : Type 0} (test : X → Bool) (n : ℕ) (ts : List X) → IsStrictlyIncreasing (numbers_where n test ts)
+unfolding numbers_where
+places_rise test n [] = λ k lt. absurd (omega (arith, lt))
+places_rise test n (t ∷ ts) =
+    elim (cases_Bool (test t)) [
+      | inl passes ↦ rw passes (rises n (numbers_where (suc n) test ts)
+          (λ m found. let (i, u, is, at, ok) = from_places test (suc n) ts m found in omega (arith, is)) (places_rise test (suc n) ts))
+      | inr fails ↦ rw fails (places_rise test (suc n) ts)
+    ]
 
 -- ---- the objects that are of a type
 

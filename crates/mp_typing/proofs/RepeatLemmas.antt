@@ -1,7 +1,8 @@
 -- Names that earlier items have, as a loop over the items finds them.
-use Rattle.mp_typing.proofs.Basics.{◌≡◌, ℕ, ◌+◌, ◌<◌, ◌≤◌, Bool, true, false, List, [], ◌∷◌, ◌++◌, map, length, get_or, take, drop, Option, refl, sym, ap, subst, ◌∙◌, arith, bytes_eq, pointwise, take_more, map-append, list_any-append, File, Word}
+use Rattle.mp_typing.proofs.Basics.{◌≡◌, ℕ, ◌+◌, ◌<◌, ◌≤◌, Bool, true, false, List, [], ◌∷◌, ◌++◌, map, length, get_or, take, drop, Option, refl, sym, ap, ◌∙◌, arith, bytes_eq, pointwise, take_more, map-append, list_any-append, File, Word}
 use Rattle.mp_typing.proofs.Basics.{Fault, Twice, fault_at, is_earlier, leftmost, is_among, is_same, twice_if, repeated_faults}
-use Rattle.std.specs.Prelude.{◌||◌, ◌&&◌, not}
+use Rattle.std.specs.Prelude.{not}
+use Rattle.std.proofs.lemmas.Bool.{and_right}
 use Rattle.mp_list.specs.Repeats.{is_among_keys, if_repeated, repeats_behind}
 use Rattle.mp_list.proofs.RepeatLemmas as steps
 use Rattle.mp_typing.specs.Names.{SameNames}
@@ -18,10 +19,8 @@ seen_none names none name = ap (λ (ns : List (List ℕ)). is_among ns name) non
 -- and one name more
 seen_more : (names more keys : List (List ℕ)) (key : List ℕ) → Seen names keys → SameNames more (key ∷ names) → Seen more (keys ++ key ∷ [])
 seen_more names more keys key seen adds name =
-    adds name ∙ ap (λ (b : Bool). bytes_eq name key || b) (seen name)
-    ∙ ap (λ (b : Bool). b || is_among_keys bytes_eq keys name) (swapped name key)
-    ∙ swaps (bytes_eq key name) (is_among_keys bytes_eq keys name)
-    ∙ sym (list_any-append (λ (k : List ℕ). bytes_eq k name) keys (key ∷ []))
+    rw (adds name, list_any-append (λ (k : List ℕ). bytes_eq k name) keys (key ∷ []), seen name, swapped name key)
+    (swaps (bytes_eq key name) (is_among_keys bytes_eq keys name))
 
 -- the names of items, by the words that declare them
 abbrev pub names_by : {X : Type 0} → (X → Word) → List X → List (List ℕ)
@@ -29,14 +28,12 @@ names_by C xs = map (λ x. (C x).name) xs
 
 one_more : {X : Type 0} (C : X → Word) (xs : List X) (i : ℕ) (x : X) → i < length xs → x ≡ get_or xs i x
     → names_by C (take (i + 1) xs) ≡ names_by C (take i xs) ++ (C x).name ∷ []
-one_more C xs i x lt is =
-    ap (names_by C) (take_more xs i x lt ∙ ap (λ (y : _). take i xs ++ y ∷ []) (sym is)) ∙ map-append (λ x. (C x).name) (take i xs) (x ∷ [])
+one_more C xs i x lt is = rw (take_more xs i x lt, ← is, map-append (λ y. (C y).name) (take i xs) (x ∷ [])) refl
 
 pub seen_on : {X : Type 0} (C : X → Word) (xs : List X) (i : ℕ) (x : X) (w : Word) (names more : List (List ℕ))
     → i < length xs → x ≡ get_or xs i x → w ≡ C x → Seen names (names_by C (take i xs)) → SameNames more (w.name ∷ names) → Seen more (names_by C (take (i + 1) xs))
 seen_on C xs i x w names more lt is called seen adds =
-    subst (λ (ks : List (List ℕ)). Seen more ks) (ap (λ (v : Word). names_by C (take i xs) ++ v.name ∷ []) called ∙ sym (one_more C xs i x lt is))
-    (seen_more names more (names_by C (take i xs)) w.name seen adds)
+    rw (one_more C xs i x lt is, ← called) (seen_more names more (names_by C (take i xs)) w.name seen adds)
 
 -- the faults of the items from a place on
 abbrev pub faults_from : {X : Type 0} → File → (X → Word) → List X → ℕ → List Fault
@@ -67,9 +64,7 @@ repeats_on C file o o' whole xs i x w names is_new lt is called seen told found 
     let keys = names_by C (take i xs) in
     let second = twice is_new (is_among names w.name) told ∙ seen w.name in
     steps.repeats_on is_earlier (λ y. fault_at Twice file (C y)) bytes_eq (λ y. (C y).name) o o' whole xs i x lt is
-    (found ∙ ap (λ (b : Bool). leftmost o (twice_if b file w)) second
-    ∙ ap (λ (v : Word). leftmost o (twice_if (is_among_keys bytes_eq keys v.name) file v)) called
-    ∙ ap (leftmost o) (one_fault C file x (is_among_keys bytes_eq keys (C x).name)))
+    (rw (found, second, called) (ap (leftmost o) (one_fault C file x (is_among_keys bytes_eq keys (C x).name))))
 
 -- all items are looked at
 pub repeats_end : {X : Type 0} (C : X → Word) (file : File) (o whole : Option Fault) (xs : List X) (i : ℕ) → length xs ≤ i
@@ -77,13 +72,9 @@ pub repeats_end : {X : Type 0} (C : X → Word) (file : File) (o whole : Option 
 repeats_end C file o whole xs i =
     steps.repeats_end is_earlier (λ y. fault_at Twice file (C y)) bytes_eq (λ y. (C y).name) o whole (names_by C (take i xs)) xs i
 
-and_false : (a b : Bool) → false ≡ b → false ≡ (a && b)
-and_false true b e = e
-and_false false b e = refl
-
 pub of_other_length : (a b : List Word) → (length a ≡ length b → ⊥) → false ≡ pointwise is_same a b
 of_other_length [] [] ne = absurd (ne refl)
 of_other_length [] (y ∷ ys) ne = refl
 of_other_length (x ∷ xs) [] ne = refl
 of_other_length (x ∷ xs) (y ∷ ys) ne =
-    and_false (is_same x y) (pointwise is_same xs ys) (of_other_length xs ys (λ e. ne (omega (arith, e))))
+    sym (and_right (is_same x y) (pointwise is_same xs ys) (sym (of_other_length xs ys (λ e. ne (omega (arith, e))))))

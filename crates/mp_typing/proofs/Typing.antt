@@ -1,24 +1,20 @@
 -- The test whether an object is of an asked type decides it.
-use Rattle.mp_typing.proofs.Basics.{◌≡◌, ℕ, true, false, ◌||◌, List, [], ◌∷◌, length, refl, sym, ap, subst, ◌∙◌, inl, inr, arith, Decides-eqb, Contains, Decides, Word, Typed, names_of, is_among, has_any, IsA, same, through_object, object_name, meant, IsOfType}
-use Rattle.mp_typing.proofs.Basics.{false_from_ne_true, or_cases, or_left, or_right, contains_head, contains_one, is_of_type, lower}
-use Rattle.std.specs.Prelude.{◌==◌, Result, Ok, Err, IfOk}
+use Rattle.mp_typing.proofs.Basics.{◌≡◌, ℕ, true, false, ◌||◌, List, [], ◌∷◌, length, refl, subst, inl, inr, arith, Contains, Decides, Word, Typed, names_of, is_among, has_any, IsA, same, through_object, object_name, meant, IsOfType}
+use Rattle.mp_typing.proofs.Basics.{or_cases, or_left, or_right, contains_head, contains_one, no_member, is_of_type, lower}
+use Rattle.std.specs.Prelude.{◌==◌}
+use Rattle.std.proofs.lemmas.Bool.{ne_eqb}
 use Rattle.mp_typing.proofs.Finding.{found_under, reaches, tops_found}
 use Rattle.mp_typing.proofs.Lists.{any_from_name, among_from_contains, contains_from_among, some_name}
 
 -- what is written is meant
 written_is_meant : (names : List (List ℕ)) (name : List ℕ) → Contains names name → Contains (meant names) name
-written_is_meant [] name found = absurd (let (k, lt, is) = found in omega (arith, lt))
+written_is_meant [] name found = absurd (no_member name found)
 written_is_meant (n ∷ ns) name found = found
 
 -- something is meant
-first_meant : List (List ℕ) → List ℕ
-first_meant [] = object_name
-first_meant (n ∷ ns) = n
-
-first_is_meant : (names : List (List ℕ)) → Contains (meant names) (first_meant names)
-unfolding first_meant
-first_is_meant [] = contains_head object_name []
-first_is_meant (n ∷ ns) = contains_head n ns
+something : (names : List (List ℕ)) → (name : List ℕ) × Contains (meant names) name
+something [] = (object_name, contains_head object_name [])
+something (n ∷ ns) = (n, contains_head n ns)
 
 -- a type that is meant and found
 own_type : (found : List (List ℕ)) (words : List Word) (own : List ℕ) → Contains (meant (names_of words)) own → Contains found own
@@ -39,9 +35,9 @@ passes declared asked t h =
       | inl object ↦
           let of = found_under declared asked object_name (contains_from_among found object_name object) in
           record {
-            own = first_meant (names_of t.types);
+            own = (something (names_of t.types)).0;
             above = of.top;
-            declared_own = first_is_meant (names_of t.types);
+            declared_own = (something (names_of t.types)).1;
             asked_above = written_is_meant asked of.top of.among;
             under = through_object of.under;
           }
@@ -68,30 +64,17 @@ passed declared asked t own above mine wanted under =
       | inr object ↦ or_left (is_among found object_name) (has_any found t.types) (among_from_contains found object_name object)
     ]
 
--- a list of something is not empty
-not_empty : (a : List ℕ) (more : List (List ℕ)) → (length (a ∷ more) == 0) ≡ false
-not_empty a more = false_from_ne_true (length (a ∷ more) == 0) (λ h. omega (arith, (Decides-eqb (length (a ∷ more)) 0).0 h))
-
 pub is_of_type_decides : (declared : List Typed) (asked : List (List ℕ)) (t : Typed) → Decides (is_of_type declared asked t) (IsOfType declared asked t)
 is_of_type_decides declared [] t = (
   (λ _. record {
-    own = first_meant (names_of t.types);
+    own = (something (names_of t.types)).0;
     above = object_name;
-    declared_own = first_is_meant (names_of t.types);
+    declared_own = (something (names_of t.types)).1;
     asked_above = contains_head object_name [];
     under = through_object same;
   }),
   (λ _. refl),
 )
 is_of_type_decides declared (a ∷ more) t =
-    let found = lower declared (a ∷ more) in
-    let rest = is_among found object_name || has_any found t.types in
-    let is : is_of_type declared (a ∷ more) t ≡ rest = ap (λ b. b || rest) (not_empty a more) in (
-      (λ h. passes declared (a ∷ more) t (sym is ∙ h)),
-      (λ of. is ∙ passed declared (a ∷ more) t of.own of.above of.declared_own of.asked_above of.under),
-    )
-
--- what is known of a value that is there
-pub where_ok : {X E : Type 0} (P Q : X → Type 0) → ((x : X) → P x → Q x) → (result : Result X E) → IfOk result P → IfOk result Q
-where_ok P Q step (Ok x) h = step x h
-where_ok P Q step (Err e) h = h
+    let some : (length (a ∷ more) == 0) ≡ false = ne_eqb (length (a ∷ more)) 0 (λ e. omega (arith, e)) in
+    rw some (passes declared (a ∷ more) t, (λ of. passed declared (a ∷ more) t of.own of.above of.declared_own of.asked_above of.under))

@@ -40,11 +40,10 @@ returns-clause-cause g c =
     let held = g.S.Source.held c.args.source.now in
     let holds : IfSome held (λ files. HoldsTeam files (map names_of c.args.files.now) c.in-Ok.team) =
     subst (λ o. IfSome o (λ files. HoldsTeam files (map names_of c.args.files.now) c.in-Ok.team)) c.in_ok-text.ensures.held c.in-Ok.ensures.team in
-    weaker_err c.replay_by.result (IsRefusedTeam (replayed w.search) c.as_slice.result.now (c.as_slice-2.result.now ∷ [])) (Rests source request)
+    weaker_err c.replay_by.result (IsRefusedTeam (replayed w.search) c.as_slice.result.now (c.in_ok-text.text.items ∷ [])) (Rests source request)
     (λ r h. team_rests source request (c.in_ok-text.text.items ∷ []) c.in-Ok.team r (c.in_ok-text.ensures.text, tt)
     (subst (λ ns. IfSome held (λ files. HoldsTeam files ns c.in-Ok.team)) c.requires.names holds)
-    (subst (λ t. IsRefusedTeam (replayed w.search) c.in-Ok.team (t ∷ []) r) c.as_slice-2.ensures.value
-    (subst (λ t. IsRefusedTeam (replayed w.search) t (c.as_slice-2.result.now ∷ []) r) c.as_slice.ensures h)))
+    (subst (λ t. IsRefusedTeam (replayed w.search) t (c.in_ok-text.text.items ∷ []) r) c.as_slice.ensures h))
     c.replay_by.ensures.refused
 
 pub returns-clause-outcome : goal.returns-clause-outcome
@@ -53,11 +52,10 @@ returns-clause-outcome g c =
     let held = g.S.Source.held c.args.source.now in
     let read : IsReadTeam held (map names_of c.args.files.now) c.in-Ok.team =
     subst (λ o. IsReadTeam o (map names_of c.args.files.now) c.in-Ok.team) c.in_ok-text.ensures.held c.in-Ok.ensures.read in
-    weaker c.replay_by.result (ReplaysBy w.search c.as_slice-2.result.now c.as_slice.result.now) (Decides held (replays w))
+    weaker c.replay_by.result (ReplaysBy w.search c.in_ok-text.text.items c.as_slice.result.now) (Decides held (replays w))
     (λ d h. decided_replay held w (map names_of c.args.files.now) c.in_ok-text.text.items c.in-Ok.team d c.requires.names c.in_ok-text.ensures.text
     read
-    (subst (λ t. ReplaysBy w.search t c.in-Ok.team d) c.as_slice-2.ensures.value
-    (subst (λ t. ReplaysBy w.search c.as_slice-2.result.now t d) c.as_slice.ensures h)))
+    (subst (λ t. ReplaysBy w.search c.in_ok-text.text.items t d) c.as_slice.ensures h))
     c.replay_by.ensures.outcome
 
 pub returns-in_err-text-clause-acts : goal.returns-in_err-text-clause-acts

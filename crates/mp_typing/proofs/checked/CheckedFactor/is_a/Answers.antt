@@ -1,5 +1,4 @@
-use Rattle.mp_typing.proofs.Basics.{Bool, List, sym, ap, subst, ◌∙◌, Decides, Factor, Typed, HasLower, IsA}
-use Rattle.mp_typing.proofs.Typing.{where_ok}
+use Rattle.mp_typing.proofs.Basics.{IfOk-weaker, List, sym, ap, subst, ◌∙◌, Decides, Factor, Typed, HasLower, IsA}
 use Rattle.mp_typing.proofs.checked.CheckedFactor.is_a.Goals as goal
 
 pub is_a-requires : goal.is_a-requires
@@ -8,7 +7,5 @@ is_a-requires c = subst (λ (ts : List Typed). HasLower ts c.self.inside.hierarc
 pub returns : goal.returns
 returns c =
     let types = c.types_of.ensures ∙ ap (λ (f : Factor). f.domain.types) c.self.view_is in
-    where_ok (λ (answer : Bool). Decides answer (IsA c.types_of.result.now c.args.sub.now c.args.sup.now))
-    (λ (answer : Bool). Decides answer (IsA c.args.self.now.domain.types c.args.sub.now c.args.sup.now))
-    (λ answer decides. subst (λ (ts : List Typed). Decides answer (IsA ts c.args.sub.now c.args.sup.now)) types decides)
-    c.is_a.result c.is_a.ensures
+    IfOk-weaker c.is_a.result _ _
+    (λ answer decides. subst (λ (ts : List Typed). Decides answer (IsA ts c.args.sub.now c.args.sup.now)) types decides) c.is_a.ensures

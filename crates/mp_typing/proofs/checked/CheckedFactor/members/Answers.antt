@@ -1,6 +1,5 @@
-use Rattle.mp_typing.proofs.Basics.{List, ℕ, sym, subst, Factor, Typed, HasLower, IsHierarchy, Members}
+use Rattle.mp_typing.proofs.Basics.{IfOk-weaker, List, sym, subst, Factor, Typed, HasLower, IsHierarchy, Members}
 use Rattle.mp_typing.specs.ObjectList.{object_list}
-use Rattle.mp_typing.proofs.Typing.{where_ok}
 use Rattle.mp_typing.proofs.checked.CheckedFactor.members.Goals as goal
 
 pub members-requires : goal.members-requires
@@ -10,9 +9,8 @@ pub returns : goal.returns
 returns c =
     let h = c.self.inside.hierarchy in
     let f = c.self.inside.factor in
-    where_ok (λ (numbers : List ℕ). (objects : List Typed) → IsHierarchy c.types_of.result.now objects h → Members c.types_of.result.now objects c.args.asked.now numbers)
-    (λ (numbers : List ℕ). Members c.args.self.now.domain.types (object_list c.args.self.now.domain c.args.self.now.problem) c.args.asked.now numbers)
+    IfOk-weaker c.members.result _ _
     (λ numbers are. subst (λ (g : Factor). Members g.domain.types (object_list g.domain g.problem) c.args.asked.now numbers) c.self.view_is
     (subst (λ (ts : List Typed). IsHierarchy ts (object_list f.domain f.problem) h → Members ts (object_list f.domain f.problem) c.args.asked.now numbers) c.types_of.ensures
     (are (object_list f.domain f.problem)) c.self.invariant.1))
-    c.members.result c.members.ensures
+    c.members.ensures

@@ -1,6 +1,5 @@
-use Rattle.mp_typing.proofs.Basics.{◌≡◌, ◌||◌, ◌∷◌, ◌++◌, ◌∙◌, [], ℕ, Bool, List, sym, ap, subst, Decides, is_among, lower, object_name, IsA}
+use Rattle.mp_typing.proofs.Basics.{IfOk-weaker, ◌≡◌, ◌||◌, ◌∷◌, ◌++◌, ◌∙◌, [], ℕ, Bool, List, sym, ap, subst, Decides, is_among, lower, object_name, IsA}
 use Rattle.mp_typing.proofs.Finding.{under_one}
-use Rattle.mp_typing.proofs.Typing.{where_ok}
 use Rattle.mp_typing.proofs.hierarchy.Hierarchy.is_a.Goals as goal
 
 pub returns : goal.returns
@@ -11,8 +10,7 @@ returns c =
     let asked : c.push.new.self ≡ sup ∷ [] =
     c.in_ok-push.ensures.ok ∙ ap (λ (a : List (List ℕ)). a ++ c.in_ok-copy.field-0 ∷ []) c.new-asked.ensures ∙ ap (λ (n : List ℕ). n ∷ []) c.in_ok-copy.ensures in
     let found = c.in_ok-found.ensures ∙ ap (lower types) asked in
-    where_ok (λ (answer : Bool). answer ≡ (is_among c.in_ok-found.found.keys sub || is_among c.in_ok-found.found.keys object_name))
-    (λ (answer : Bool). Decides answer (IsA types sub sup))
+    IfOk-weaker c.has_type.result _ _
     (λ answer is. subst (λ (b : Bool). Decides b (IsA types sub sup))
     (sym (is ∙ ap (λ (ns : List (List ℕ)). is_among ns sub || is_among ns object_name) found)) (under_one types sub sup))
-    c.has_type.result c.has_type.ensures
+    c.has_type.ensures
